@@ -1,1 +1,5 @@
+pub mod SmallText
 pub mod Entries
+pub mod Script
+pub mod Outcome
+pub mod Laws

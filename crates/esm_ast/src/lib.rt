@@ -2,5 +2,12 @@
 #![tactic(auto)]
 
 mod entries;
+pub mod laws;
+mod outcome;
+mod script;
+mod tree;
 
 pub use entries::{Entries, ImportEntry, IndirectExport, LocalExport, Wanted};
+pub use outcome::{BrokenText, Outcome};
+pub use script::Script;
+pub use tree::Tree;

@@ -1,0 +1,23 @@
+-- What contracts see of a module text that was read, and of one that was refused.
+use Rattle.std.specs.Prelude.{◌≡◌, ℕ, List}
+use Rattle.esm_base.specs.declared.fault.TextFault.{TextFault}
+use Rattle.esm_ast.specs.Entries.{EntryLists, entries_of}
+use Rattle.esm_ast.specs.SmallText.{Spells}
+
+pub record ScriptParts : Type 0 where
+  pub bytes : List ℕ
+  pub tree : List (List ℕ)
+  pub entries : EntryLists
+
+abbrev pub script_parts : List ℕ → List (List ℕ) → EntryLists → ScriptParts
+script_parts bytes tree entries = record { bytes = bytes; tree = tree; entries = entries }
+
+pub record BrokenParts : Type 0 where
+  pub fault : TextFault
+  pub bytes : List ℕ
+
+-- the script that is read from these bytes
+pub record IsScriptOf (bytes : List ℕ) (script : ScriptParts) : Type 0 where
+  pub bytes_are : script.bytes ≡ bytes
+  pub spelled : Spells bytes script.tree
+  pub entries_are : script.entries ≡ entries_of script.tree

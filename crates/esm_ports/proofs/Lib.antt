@@ -1,0 +1,3 @@
+pub mod FileLemmas
+pub mod AskLemmas
+pub mod PutLemmas

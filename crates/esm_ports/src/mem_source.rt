@@ -1,0 +1,103 @@
+// A source in memory that fails by a plan.
+ghost use Rattle.std.specs.Prelude.{◌≡◌, ◌≢◌, ◌+◌, ◌↔◌, Some, [], IsTrue, Contains, length, refl};
+ghost use Rattle.esm_ports.specs.Asks.{failed_count};
+ghost use Rattle.esm_ports.specs.Files.{contents_of, HasDistinctUrls};
+
+use crate::held_files::read;
+use crate::{AskKind, Asked, Asks, FetchEnd, Source};
+use esm_base::Text;
+use std::alloc::Global;
+use std::marker::Model;
+
+/// A source that holds these files and fails at the calls that it is told. Contracts see the files, the plan, and
+/// what was asked; the number of a call is one more than the number of fetches that were answered before it.
+#[derive(Drop)]
+pub struct MemSource {
+    files: Vec<(Text, Vec<u8>)>,
+    fail_at: Vec<u64>,
+    asked: Asks,
+}
+
+impl Model for MemSource {
+    ghost use Rattle.esm_ports.specs.MemSources.{SourcePlan};
+
+    ghost Value = { SourcePlan };
+
+    ghost view = { λ s. record { files = s.files.items; fail_at = s.fail_at.items; asked = s.asked } };
+}
+
+impl MemSource {
+    /// A source of these files that wasn't asked for anything and fails at the calls whose number, counted from 1,
+    /// stands in `fail_at`. It takes no memory.
+    pub fn new(alloc: Global, files: Vec<(Text, Vec<u8>)>, fail_at: Vec<u64>) -> MemSource
+        requires { HasDistinctUrls files.items }
+        ensures { result ≡ record { files = files.items; fail_at = fail_at.items; asked = [] } }
+    {
+        MemSource {
+            files,
+            fail_at,
+            asked: Asks::new(alloc),
+        }
+    }
+
+    /// What was asked so far.
+    pub fn asked(&self) -> &[Asked]
+        ensures { result.now ≡ self.now.asked }
+    {
+        self.asked.as_slice()
+    }
+
+    // Whether the next call fails.
+    fn is_failing(&self) -> bool
+        ensures { IsTrue result ↔ Contains self.now.fail_at (length self.now.asked + 1) }
+    {
+        let number = self.asked.len() as u64 + 1;
+        self.fail_at.contains(&number)
+    }
+}
+
+impl Source for MemSource {
+    ghost use Rattle.std.specs.Prelude.{◌<◌, ◌≤◌, IfOk, IfSome, IsErrOf};
+    ghost use Rattle.esm_ports.specs.Source.{IsToldBy, asked_after};
+    ghost use Rattle.esm_ports.specs.MemSources.{FetchesByPlan};
+
+    ghost asked = { λ s. s.asked };
+
+    ghost holds = { λ s. Some (contents_of s.files) };
+
+    ghost faults = { λ s. failed_count s.asked };
+
+    ghost counted = { λ s. refl };
+
+    /// What every source ensures, and that it fails just at the calls that it was told.
+    fn fetch(&mut self, alloc: Global, url: &str) -> Result<Vec<u8>, FetchEnd>
+        ensures asked { self.new.asked ≡ asked_after self.old.asked url.now result }
+        ensures told { IsToldBy (contents_of self.old.files) url.now result }
+        ensures short { IfOk result (λ body. length body.items ≤ 1048577) }
+        ensures holds { self.new.files ≡ self.old.files }
+        ensures failed { IsErrOf result FetchEnd.Failed → failed_count self.old.asked < failed_count self.new.asked }
+        ensures plan { self.new.fail_at ≡ self.old.fail_at }
+        ensures planned { FetchesByPlan self.old result }
+    {
+        let copy = Text::copy(alloc, url)?;
+        if self.is_failing() {
+            self.asked.add(copy, AskKind::Failed)?;
+            return Err(FetchEnd::Failed);
+        }
+        match read(alloc, &self.files, url) {
+            Ok(body) => {
+                self.asked.add(copy, AskKind::Body)?;
+                Ok(body)
+            }
+            Err(FetchEnd::Absent) => {
+                self.asked.add(copy, AskKind::Absent)?;
+                Err(FetchEnd::Absent)
+            }
+            Err(_) => Err(FetchEnd::Memory),
+        }
+    }
+
+    fn faults(&self) -> u64 {
+        self.asked.failed()
+    }
+}
