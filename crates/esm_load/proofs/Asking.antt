@@ -98,7 +98,7 @@ orderly_finish b None l s h = h
 orderly_finish true (Some o) l s h = h
 orderly_finish false (Some o) l s h = record { asked_once = h.asked_once; few = h.few; visited_once = once_set l.loads s (Whole o.0) h.visited_once (λ root visited e. cc) }
 
-orderly_steps : Steps IsOrderly
+pub orderly_steps : Steps IsOrderly
 orderly_steps = record {
   on_visit = orderly_visit;
   on_ask = λ l t a h. orderly_ask (has l.asked t) (nat_lt (length l.asked) 4096) l t a refl refl h;
