@@ -1,4 +1,5 @@
 // Laws of the definitions, as functions without effect.
+ghost use Rattle.esm_load.specs.Examples.{ResolvesAsTheStandard};
 ghost use Rattle.esm_load.specs.Laws.{BytesFirst, EndedLoadStays, FirstAsker, OneAnswer, StaysOrderly, StoresOutcome};
 
 /// An answered asker goes on in one way.
@@ -25,4 +26,9 @@ pub fn first_asker()
 pub fn bytes_first()
     ensures first { BytesFirst }
     ensures stores { StoresOutcome }
+{}
+
+/// Specifiers of each kind resolve as the standard says.
+pub fn resolves_as_the_standard()
+    ensures { ResolvesAsTheStandard }
 {}
