@@ -100,9 +100,11 @@ orderly_finish false (Some o) l s h = record { asked_once = h.asked_once; few = 
 
 pub orderly_steps : Steps IsOrderly
 orderly_steps = record {
-  on_visit = orderly_visit;
-  on_ask = λ l t a h. orderly_ask (has l.asked t) (nat_lt (length l.asked) 4096) l t a refl refl h;
-  on_throw = orderly_throw;
+  entering = record {
+    on_visit = orderly_visit;
+    on_ask = λ l t a h. orderly_ask (has l.asked t) (nat_lt (length l.asked) 4096) l t a refl refl h;
+    on_throw = orderly_throw;
+  };
   on_begin = orderly_begin;
   on_finish = λ l s h. orderly_finish (list_any (is_of s) l.askers) (opened l s) l s h;
 }

@@ -8,15 +8,19 @@ use Rattle.esm_load.specs.Load.Enters.{ended, known, enters}
 use Rattle.esm_load.specs.Load.Asks.{no_more, over, waits, throws, loads}
 use Rattle.esm_load.specs.Load.Answers.{late, no_root, no_module, root, request}
 
--- a property of the loading part that each step keeps
-pub record Steps (P : Loading → Type 0) : Type 0 where
+-- a property of the loading part that each step of entering keeps
+pub record EnterSteps (P : Loading → Type 0) : Type 0 where
   pub on_visit : (l : Loading) (s : ℕ) (o : Opened) (x : Url) → opened l s ≡ Some o → is_fresh l o.1 x ≡ true → P l → P (visit l s o x)
   pub on_ask : (l : Loading) (t : Url) (a : Asker) → P l → P (ask l t a)
   pub on_throw : (l : Loading) (s : ℕ) (thrown : Text) → P l → P (throw l s thrown)
+
+-- a property that each step keeps
+pub record Steps (P : Loading → Type 0) : Type 0 where
+  pub entering : EnterSteps P
   pub on_begin : (l : Loading) (s : ℕ) (root : Url) → P l → P (begin l s root)
   pub on_finish : (l : Loading) (s : ℕ) → P l → P (finish l s)
 
-module _ (P : Loading → Type 0) (steps : Steps P) where
+module _ (P : Loading → Type 0) (steps : EnterSteps P) where
   mutual
     pub enters_keeps : {l m : Loading} {s : ℕ} {x : Url} → Enters l s x m → P l → P m
     enters_keeps (ended h) p = p
@@ -30,9 +34,10 @@ module _ (P : Loading → Type 0) (steps : Steps P) where
     asks_keeps {l} {s = s} (throws o e thrown h g k) p = steps.on_throw l s thrown p
     asks_keeps (loads o e h g k v q) p = asks_keeps q (enters_keeps v p)
 
+module _ (P : Loading → Type 0) (steps : Steps P) where
   pub answers_keeps : {l m : Loading} {a : Asker} {t : Url} {e : Entry} → Answers l a t e m → P l → P m
   answers_keeps (late h) p = p
-  answers_keeps {l} (no_root {s = s} thrown h) p = steps.on_throw l s thrown p
-  answers_keeps {l} (no_module {s = s} o thrown h k) p = steps.on_throw l s thrown p
-  answers_keeps {l} (root {mid = mid} {s = s} {t = t} h q) p = steps.on_finish mid s (enters_keeps q (steps.on_begin l s t p))
-  answers_keeps (request {mid = mid} {s = s} o h k q) p = steps.on_finish mid s (enters_keeps q p)
+  answers_keeps {l} (no_root {s = s} thrown h) p = steps.entering.on_throw l s thrown p
+  answers_keeps {l} (no_module {s = s} o thrown h k) p = steps.entering.on_throw l s thrown p
+  answers_keeps {l} (root {mid = mid} {s = s} {t = t} h q) p = steps.on_finish mid s (enters_keeps P steps.entering q (steps.on_begin l s t p))
+  answers_keeps (request {mid = mid} {s = s} o h k q) p = steps.on_finish mid s (enters_keeps P steps.entering q p)
