@@ -6,7 +6,7 @@ use Rattle.std.specs.List.{list_any}
 use Rattle.std.specs.FinMap.{FinMap, get, insert}
 use Rattle.std.specs.FinSet as sets
 use Rattle.esm_base.specs.declared.status.Limit.{Limit}
-use Rattle.esm_base.specs.declared.status.Limit.TheVariants.{L2}
+use Rattle.esm_base.specs.declared.status.Limit.TheVariants.{L1, L2}
 use Rattle.esm_realm.specs.Urls.{Text, Url, url_cmp, has, same_url}
 use Rattle.esm_realm.specs.Laws.{AreDistinct}
 use Rattle.esm_realm.proofs.Urls.{cases, same_text, or_true, or_cases, both_false, or_false, not_true, not_both, distinct_append, has_append}
@@ -15,7 +15,7 @@ use Rattle.esm_load.specs.Table.{Entry, entry_of}
 use Rattle.esm_load.specs.Loading.{Loading, Asker, LoadState, Asked, Open, Whole, Thrown, Opened, opened, opened_in, is_of, begin, is_fresh, visit, ask, ask_by, finish, finish_by, throw}
 use Rattle.esm_load.specs.Load.{Answers}
 use Rattle.esm_load.specs.Arrival.{settle, count_by, store, store_by, Next, next, next_by, behind}
-use Rattle.esm_load.specs.Laws.{IsOrderly, AreUnsettled, IsFirst}
+use Rattle.esm_load.specs.Laws.{IsOrderly, AreUnsettled, IsFirst, AskLimit}
 use Rattle.esm_load.proofs.Kept.{Steps, answers_keeps}
 
 -- ---- lists
@@ -144,3 +144,10 @@ bytes_first l u c h = ap (λ b. store (count_by b l (bytes_of c)) u c) (lt_true 
 
 pub stores_outcome : (l : Loading) (u : Url) (c : Completion) → l.stopped ≡ None → l.bytes + bytes_of c ≤ 16777216 → settle l u c ≡ record l { bytes = l.bytes + bytes_of c; entries = insert l.entries u (entry_of u c) }
 stores_outcome l u c n h = ap (λ b. store (count_by b l (bytes_of c)) u c) (lt_false _ _ h) ∙ ap (λ s. store_by s (record l { bytes = l.bytes + bytes_of c }) u c) n
+
+pub ask_limit : AskLimit
+ask_limit = record {
+  again = λ l u a h. ap (λ b. ask_by b (nat_lt (length l.asked) 4096) l u a) h;
+  asks = λ l u a h n. λ i. ask_by (h i) (lt_true (length l.asked) 4096 n i) l u a;
+  stops = λ l u a h n. λ i. ask_by (h i) (lt_false (length l.asked) 4096 n i) l u a;
+}

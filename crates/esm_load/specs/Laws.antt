@@ -1,13 +1,15 @@
 -- The laws of loading.
 use Rattle.std.specs.Prelude.{◌≡◌, ℕ, ◌+◌, ◌≤◌, ◌<◌, true, false, List, [], ◌∷◌, ◌++◌, length, slice_get, Option, Some, None}
+use Rattle.url.specs.Parts.{Parts, serialize}
 use Rattle.std.specs.FinMap.{FinMap, get, insert}
 use Rattle.esm_base.specs.declared.status.Limit.{Limit}
-use Rattle.esm_base.specs.declared.status.Limit.TheVariants.{L2}
-use Rattle.esm_realm.specs.Urls.{Url, url_cmp}
+use Rattle.esm_base.specs.declared.status.Limit.TheVariants.{L1, L2}
+use Rattle.esm_realm.specs.Urls.{Text, Url, url_cmp, has}
 use Rattle.esm_realm.specs.Laws.{AreDistinct}
 use Rattle.esm_load.specs.Completion.{Completion, bytes_of}
 use Rattle.esm_load.specs.Table.{Entry, entry_of}
-use Rattle.esm_load.specs.Loading.{Loading, Asker, LoadState, Open, Opened, opened}
+use Rattle.esm_load.specs.Loading.{Loading, Asker, LoadState, Open, Opened, opened, ask}
+use Rattle.esm_load.specs.Specifier.{Resolved, Unresolved, S4, S5, url_like, is_canonical, resolution_of_specifier}
 use Rattle.esm_load.specs.Load.{Enters, Answers}
 use Rattle.esm_load.specs.Arrival.{settle, Next, next}
 
@@ -54,3 +56,17 @@ BytesFirst = (l : Loading) (u : Url) (c : Completion) → 16777216 < l.bytes + b
 abbrev pub StoresOutcome : Type 0
 StoresOutcome = (l : Loading) (u : Url) (c : Completion) → l.stopped ≡ None → l.bytes + bytes_of c ≤ 16777216
     → settle l u c ≡ record l { bytes = l.bytes + bytes_of c; entries = insert l.entries u (entry_of u c) }
+
+-- a URL that was asked isn't asked again, the 4,096th is still asked, and one more stops the world
+pub record AskLimit : Type 0 where
+  pub again : (l : Loading) (u : Url) (a : Asker) → has l.asked u ≡ true → ask l u a ≡ record l { askers = l.askers ++ (u, a) ∷ [] }
+  pub asks : (l : Loading) (u : Url) (a : Asker) → has l.asked u ≡ false → length l.asked < 4096 → ask l u a ≡ record l { asked = l.asked ++ u ∷ []; askers = l.askers ++ (u, a) ∷ [] }
+  pub stops : (l : Loading) (u : Url) (a : Asker) → has l.asked u ≡ false → 4096 ≤ length l.asked → ask l u a ≡ record l { stopped = Some L1 }
+
+-- a specifier that begins with a slash or a dot and joins, or is an absolute URL, names that URL if it is canonical and at most 8,192 bytes long, and else nothing
+pub record ResolvesToUsable : Type 0 where
+  pub usable : (referrer : Url) (specifier : Text) (u : Url) → resolution_of_specifier referrer specifier ≡ Resolved u → (is_canonical u ≡ true) × (length u ≤ 8192)
+  pub is : (referrer : Url) (specifier : Text) (url : Parts) → url_like referrer specifier ≡ Some url → is_canonical (serialize url) ≡ true → length (serialize url) ≤ 8192 → resolution_of_specifier referrer specifier ≡ Resolved (serialize url)
+  pub changed : (referrer : Url) (specifier : Text) (url : Parts) → url_like referrer specifier ≡ Some url → is_canonical (serialize url) ≡ false → resolution_of_specifier referrer specifier ≡ Unresolved S5
+  pub long : (referrer : Url) (specifier : Text) (url : Parts) → url_like referrer specifier ≡ Some url → 8192 < length (serialize url) → resolution_of_specifier referrer specifier ≡ Unresolved S5
+  pub bare : (referrer : Url) (specifier : Text) → url_like referrer specifier ≡ None → resolution_of_specifier referrer specifier ≡ Unresolved S4
