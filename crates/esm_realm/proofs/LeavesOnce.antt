@@ -1,13 +1,13 @@
 -- A walk leaves no module twice, and none that was closed.
-use Rattle.std.proofs.Common.{◌≡◌, ℕ, Bool, true, false, List, [], ◌∷◌, ◌++◌, refl, ap, subst, sym, ◌∙◌, inl, inr}
-use Rattle.std.specs.Prelude.{◌⊎◌, ◌||◌}
+use Rattle.std.proofs.Common.{◌≡◌, ℕ, true, false, List, [], ◌∷◌, ◌++◌, refl, ap, subst, sym, ◌∙◌, inl, inr}
+use Rattle.std.specs.Prelude.{◌⊎◌}
 use Rattle.esm_realm.specs.Urls.{Url, has, same_url}
 use Rattle.esm_realm.specs.Walk.{Mark, Visits, Passes, leaves}
 use Rattle.esm_realm.specs.Walk.Mark.{Enter, Pass, Leave}
 use Rattle.esm_realm.specs.Walk.Visits.{known, fresh}
 use Rattle.esm_realm.specs.Walk.Passes.{all, next}
 use Rattle.esm_realm.specs.Laws.{AreDistinct}
-use Rattle.esm_realm.proofs.Urls.{same_text, own_text, or_true, or_left, or_cases, or_false, both_false, has_append, has_own, not_true, not_both, distinct_append}
+use Rattle.esm_realm.proofs.Urls.{same_text, or_true, or_cases, or_false, both_false, has_append, has_own, not_true, not_both, distinct_append}
 
 pub leaves_append : (a b : List Mark) → leaves (a ++ b) ≡ leaves a ++ leaves b
 leaves_append [] b = refl

@@ -1,5 +1,5 @@
 -- A walk computed, for worked examples: what is found within some depth is the walk.
-use Rattle.std.proofs.Common.{◌≡◌, ℕ, suc, zero, Bool, true, false, List, [], ◌∷◌, ◌++◌, Option, Some, None, refl, ap, subst, sym, ◌∙◌}
+use Rattle.std.proofs.Common.{◌≡◌, ℕ, suc, zero, Bool, true, false, List, [], ◌∷◌, ◌++◌, Option, Some, None, refl, subst}
 use Rattle.esm_realm.specs.Urls.{Url, has}
 use Rattle.esm_realm.specs.Walk.{Mark, Visits, Passes}
 use Rattle.esm_realm.specs.Walk.Mark.{Enter, Pass, Leave}

@@ -1,5 +1,5 @@
 -- A walk has one list of marks, and each finite graph has walks.
-use Rattle.std.proofs.Common.{◌≡◌, ℕ, suc, zero, ◌+◌, ◌≤◌, ◌<◌, Bool, true, false, List, [], ◌∷◌, ◌++◌, refl, ap, subst, sym, ◌∙◌, arith}
+use Rattle.std.proofs.Common.{◌≡◌, ℕ, suc, zero, ◌+◌, ◌≤◌, ◌<◌, Bool, true, false, List, [], ◌∷◌, ◌++◌, refl, ap, subst, sym, arith}
 use Rattle.std.specs.Prelude.{◌||◌, cond, nat_eq}
 use lib.Pointwise.{pointwise, bytes_decides}
 use Rattle.esm_realm.specs.Urls.{Url, has}

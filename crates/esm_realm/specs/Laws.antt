@@ -1,7 +1,7 @@
 -- The laws of walks.
 use Rattle.std.specs.Prelude.{◌≡◌, true, false, List, [], ◌∷◌}
 use Rattle.esm_realm.specs.Urls.{Url, has}
-use Rattle.esm_realm.specs.Walk.{Mark, Visits, IsWalk, leaves}
+use Rattle.esm_realm.specs.Walk.{Mark, IsWalk, leaves}
 
 -- a walk has one list of marks
 abbrev pub OneWalk : Type 0

@@ -1,5 +1,5 @@
 -- URLs as texts. A module is named by its URL.
-use Rattle.std.specs.Prelude.{ℕ, Bool, true, false, List, [], ◌∷◌, nat_eq}
+use Rattle.std.specs.Prelude.{ℕ, Bool, List, nat_eq}
 use Rattle.std.specs.List.{list_any}
 use Rattle.std.specs.Ordering.{nat_cmp}
 use Rattle.std.specs.Cmp.Lexicographic.{slice_cmp}

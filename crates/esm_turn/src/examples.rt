@@ -1,5 +1,5 @@
 // Worked examples, as functions without effect.
-ghost use Rattle.esm_turn.specs.Examples.{BareSpecifier, Cycle, OnePrint, TwoMissing, TwoSpellings};
+ghost use Rattle.esm_turn.specs.Examples.{BareSpecifier, Cycle, FilesSpell, OnePrint, TwoMissing, TwoSpellings};
 
 /// One module that prints.
 pub fn one_print()
@@ -24,4 +24,9 @@ pub fn two_spellings()
 /// A specifier that names no URL breaks its module, and nothing of it is asked for.
 pub fn bare_specifier()
     ensures { BareSpecifier }
+{}
+
+/// The files of these examples, byte by byte.
+pub fn files_spell()
+    ensures { FilesSpell }
 {}
