@@ -36,6 +36,6 @@ order_free_shown entry files ds what b clean f s h n d = subst (λ what. Shows b
         (ap (λ b. b.log) r.0, ap (λ b. b.events) r.0, ap (λ e. option_map status_of e) end, ap last_line_by end)
 
     by : (stop : Option Limit) → stopped w ≡ stop → (us : List Url) → asks w ≡ us → is_some (ending_by (stopped w) (asks w) (slice_get w.loading.loads 0)) ≡ true → (option_map status_of (ending_by (stopped w) (asks w) (slice_get w.loading.loads 0)) ≡ Some statuses.Limit → ⊥) → Shows b (shown w)
-    by (Some limit) g us z e no = absurd (no (λ i. option_map status_of (ending_by (g i) (asks w) (slice_get w.loading.loads 0))))
-    by None g [] z e no = done g z
-    by None g (u ∷ us) z e no = absurd (true≢false (sym e ∙ (λ i. is_some (ending_by (g i) (z i) (slice_get w.loading.loads 0)))))
+    by (Some limit) g us z e unlike = absurd (unlike (λ i. option_map status_of (ending_by (g i) (asks w) (slice_get w.loading.loads 0))))
+    by None g [] z e unlike = done g z
+    by None g (u ∷ us) z e unlike = absurd (true≢false (sym e ∙ (λ i. is_some (ending_by (g i) (z i) (slice_get w.loading.loads 0)))))
