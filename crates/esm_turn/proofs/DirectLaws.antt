@@ -4,9 +4,10 @@ use Rattle.std.proofs.Common.{◌≡◌, Bool, true, false, List, [], ◌∷◌,
 use Rattle.std.specs.Prelude.{slice_get, is_some, option_map}
 use Rattle.esm_base.specs.declared.status.Limit.{Limit}
 use Rattle.esm_base.specs.declared.status.Status.TheVariants as statuses
-use Rattle.esm_realm.specs.Urls.{Url}
 use Rattle.esm_realm.specs.Walk.{Mark, leaves}
-use Rattle.esm_realm.proofs.WalkLaws.{visits_alike}
+use Rattle.esm_realm.specs.Urls.{Url, has}
+use Rattle.esm_realm.specs.Laws.{IsWhole}
+use Rattle.esm_realm.proofs.WalkLaws.{visits_alike, walks}
 use Rattle.esm_load.specs.Loading.{LoadState, Whole}
 use Rattle.esm_turn.specs.Bodies.{Bodies, run_bodies, opening_bodies}
 use Rattle.esm_turn.specs.World.{World, stopped}
@@ -39,3 +40,8 @@ order_free_shown entry files ds what b clean f s h n d = subst (λ what. Shows b
     by (Some limit) g us z e unlike = absurd (unlike (λ i. option_map status_of (ending_by (g i) (asks w) (slice_get w.loading.loads 0))))
     by None g [] z e unlike = done g z
     by None g (u ∷ us) z e unlike = absurd (true≢false (sym e ∙ (λ i. is_some (ending_by (g i) (z i) (slice_get w.loading.loads 0)))))
+
+pub has_direct : (files : Files) (entry : Url) (modules : List Url) → IsWhole (file_targets files) modules → has modules entry ≡ true → (b : Bodies) × DirectRun files entry b
+has_direct files entry modules whole h =
+    let w = walks (file_targets files) modules [] entry whole h in
+    (run_bodies (file_body files) (leaves w.0) opening_bodies, record { marks = w.0; walk = (w.1, w.2); bodies = refl })

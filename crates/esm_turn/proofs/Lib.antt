@@ -9,3 +9,4 @@ pub mod Ends
 pub mod NeedsFirst
 pub mod OrderFree
 pub mod DirectLaws
+pub mod ManyImports

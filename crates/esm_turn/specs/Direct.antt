@@ -4,6 +4,7 @@ use Rattle.esm_base.specs.declared.status.Status.TheVariants as statuses
 use Rattle.esm_ast.specs.ModuleText.{Item, requests_of}
 use Rattle.esm_realm.specs.Urls.{Url, has}
 use Rattle.esm_realm.specs.Walk.{Mark, IsWalk, leaves}
+use Rattle.esm_realm.specs.Laws.{IsWhole}
 use Rattle.esm_load.specs.Completion.{Completion, Spelled}
 use Rattle.esm_load.specs.Table.{entry_of, targets_of, targets_in, body_in}
 use Rattle.esm_turn.specs.Bodies.{Bodies, run_bodies, opening_bodies}
@@ -53,6 +54,10 @@ AreOf files (d ∷ ds) = (files d.0 ≡ Some d.1) × AreOf files ds
 -- a graph has one direct run
 abbrev pub OneDirectRun : Type 0
 OneDirectRun = (files : Files) (entry : Url) (one other : Bodies) → DirectRun files entry one → DirectRun files entry other → one ≡ other
+
+-- files with a finite closure have a direct run
+abbrev pub HasDirectRun : Type 0
+HasDirectRun = (files : Files) (entry : Url) (modules : List Url) → IsWhole (file_targets files) modules → has modules entry ≡ true → (b : Bodies) × DirectRun files entry b
 
 -- the order of deliveries doesn't matter: a run of clean files that has no open ask and that no limit has stopped is the direct run
 abbrev pub OrderFree : Type 0

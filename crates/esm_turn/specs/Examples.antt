@@ -1,9 +1,12 @@
 -- Worked examples: the standard run of some sites, over each allowed order of their deliveries.
-use Rattle.std.specs.Prelude.{true, false, List, [], ◌∷◌, ◌++◌, codes, length, Some, None}
+use Rattle.std.specs.Prelude.{◌≡◌, ◌≤◌, true, false, List, [], ◌∷◌, ◌++◌, codes, length, Some, None}
 use Rattle.esm_ast.specs.ModuleText.{Item, Print, Import, SpellsModule}
+use Rattle.esm_base.specs.declared.status.Status.TheVariants as statuses
 use Rattle.esm_base.specs.declared.status.Status.TheVariants.{Fulfilled, EntryFailed}
 use Rattle.esm_realm.specs.Urls.{Text, Url}
-use Rattle.esm_load.specs.Completion.{Spelled, Missing}
+use Rattle.esm_load.specs.Completion.{Completion, Spelled, Missing, bytes_of}
+use Rattle.esm_load.specs.Table.{Module, entry_of}
+use Rattle.esm_realm.specs.Laws.{AreDistinct}
 use Rattle.esm_turn.specs.Bodies.{Event, Begins, Ends}
 use Rattle.esm_turn.specs.Run.{Delivery, Shown, StandardRun}
 
@@ -153,6 +156,20 @@ bare_main = file main_url bare_text bare_items
 -- the module is broken, and nothing of it is asked
 abbrev pub BareSpecifier : Type 0
 BareSpecifier = StandardRun main_url (bare_main ∷ []) (entry_failed (main_url ∷ []) (codes "TypeError: https://a.test/main.js: specifier react: S4 bare and not mapped"))
+
+-- ---- too many imports
+
+-- a module that imports these URLs, all different, and that is its whole run's one delivery
+pub record ImportsMany (entry : Url) (c : Completion) (targets : List Url) : Type 0 where
+  pub items : List Item
+  pub is : entry_of entry c ≡ Module (record { body = items; targets = targets })
+  pub small : bytes_of c ≤ 16777216
+  pub apart : AreDistinct (entry ∷ targets)
+
+-- the URL that would be the 4,097th stops the run: after one delivery the status is that of a limit, and nothing was written
+abbrev pub TooManyImports : Type 0
+TooManyImports = (entry : Url) (c : Completion) (targets : List Url) → ImportsMany entry c targets → 4096 ≤ length targets
+    → (what : Shown) × StandardRun entry ((entry, c) ∷ []) what × (what.status ≡ Some statuses.Limit) × (what.last_line ≡ codes "Limit L1") × (what.log ≡ []) × (what.asks ≡ []) × (length what.asked ≡ 4096)
 
 -- ---- the files
 

@@ -1,5 +1,5 @@
 // Laws of the definitions, as functions without effect.
-ghost use Rattle.esm_turn.specs.Direct.{OneDirectRun, OrderFree, OrderFreeShown};
+ghost use Rattle.esm_turn.specs.Direct.{HasDirectRun, OneDirectRun, OrderFree, OrderFreeShown};
 ghost use Rattle.esm_turn.specs.Laws.{AsksOnce, BytesStopFirst, OneStandardRun, OneTurn, OpenAsks, StepsOfItems, StoppedAsksNothing, StopsAtOnce};
 ghost use Rattle.esm_turn.specs.Needs.{NeedsFirst};
 
@@ -35,9 +35,10 @@ pub fn steps_of_items()
     ensures { StepsOfItems }
 {}
 
-/// The direct run of a graph is one.
+/// Files have one direct run, and where their closure is finite they have it.
 pub fn one_direct_run()
-    ensures { OneDirectRun }
+    ensures one { OneDirectRun }
+    ensures there { HasDirectRun }
 {}
 
 /// Whatever the order of the deliveries, a run of clean files is the direct run.
