@@ -1,17 +1,16 @@
 -- What loading keeps where every module is there.
-use mathlib.Core.Bool.{true≢false}
-use Rattle.std.proofs.Common.{◌≡◌, ℕ, suc, zero, Bool, true, false, List, [], ◌∷◌, ◌++◌, Some, None, Option, refl, ap, subst, sym, ◌∙◌, inl, inr}
+use Rattle.std.proofs.Common.{◌≡◌, ℕ, Bool, true, false, List, [], ◌∷◌, ◌++◌, Some, None, Option, refl, ap, subst, sym, ◌∙◌, inl, inr}
 use Rattle.std.specs.Prelude.{◌⊎◌, ◌||◌, slice_get, nat_lt, length}
 use Rattle.std.specs.FinMap.{get}
 use Rattle.esm_base.specs.declared.status.Limit.{Limit}
 use Rattle.esm_realm.specs.Urls.{Url, has, same_url}
 use Rattle.esm_realm.proofs.Urls.{cases, or_true, same_text, own_text}
 use Rattle.esm_load.specs.Table.{Entry, targets_in, thrown_by}
-use Rattle.esm_load.specs.Loading.{Loading, Asker, Root, Request, Opened, opened, opened_in, visit, ask, ask_by, throw, targets}
+use Rattle.esm_load.specs.Loading.{Loading, Asker, Request, Opened, opened, opened_in, ask_by, targets}
 use Rattle.esm_load.specs.Load.{Enters, Asks}
 use Rattle.esm_load.specs.Load.Enters.{ended, known, enters}
 use Rattle.esm_load.specs.Load.Asks.{no_more, over, waits, throws, loads}
-use Rattle.esm_load.proofs.OneLoad.{asks_late, enters_late}
+use Rattle.esm_load.proofs.OneLoad.{asks_late}
 use Rattle.esm_load.proofs.Grows.{Has, has_left, has_last, opened_visit, one_of}
 use Rattle.esm_load.proofs.Grows.Has.{here, there}
 

@@ -1,5 +1,5 @@
 -- A walk sees the targets of what it enters alone.
-use Rattle.std.proofs.Common.{◌≡◌, ℕ, suc, Bool, true, false, List, [], ◌∷◌, ◌++◌, refl, ap, subst, sym, ◌∙◌, inl, inr}
+use Rattle.std.proofs.Common.{◌≡◌, ℕ, true, false, List, [], ◌∷◌, ◌++◌, ap, subst, sym, ◌∙◌, inl, inr}
 use Rattle.std.specs.Prelude.{◌⊎◌, ◌||◌}
 use mathlib.Core.Bool.{true≢false}
 use Rattle.esm_realm.specs.Urls.{Url, has, same_url}

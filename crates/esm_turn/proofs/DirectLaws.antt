@@ -1,14 +1,14 @@
 -- A graph has one direct run, and what a run of clean files shows is that of the direct run.
 use mathlib.Core.Bool.{true≢false}
-use Rattle.std.proofs.Common.{◌≡◌, Bool, true, false, List, [], ◌∷◌, Some, None, Option, refl, ap, subst, sym, ◌∙◌}
+use Rattle.std.proofs.Common.{◌≡◌, true, List, [], ◌∷◌, Some, None, Option, refl, ap, subst, sym, ◌∙◌}
 use Rattle.std.specs.Prelude.{slice_get, is_some, option_map}
 use Rattle.esm_base.specs.declared.status.Limit.{Limit}
 use Rattle.esm_base.specs.declared.status.Status.TheVariants as statuses
-use Rattle.esm_realm.specs.Walk.{Mark, leaves}
+use Rattle.esm_realm.specs.Walk.{leaves}
 use Rattle.esm_realm.specs.Urls.{Url, has}
 use Rattle.esm_realm.specs.Laws.{IsWhole}
 use Rattle.esm_realm.proofs.WalkLaws.{visits_alike, walks}
-use Rattle.esm_load.specs.Loading.{LoadState, Whole}
+use Rattle.esm_load.specs.Loading.{Whole}
 use Rattle.esm_turn.specs.Bodies.{Bodies, run_bodies, opening_bodies}
 use Rattle.esm_turn.specs.World.{World, stopped}
 use Rattle.esm_turn.specs.Run.{Delivery, asks, ending, ending_by, status_of, last_line_by, Shown, StandardRun, shown}

@@ -1,17 +1,15 @@
 -- What follows from a world that no limit has stopped, and lemmas on open asks and on who is next.
-use mathlib.Core.Bool.{true≢false}
-use Rattle.std.proofs.Common.{◌≡◌, ◌≢◌, ℕ, suc, zero, Bool, true, false, List, [], ◌∷◌, ◌++◌, Some, None, Option, refl, ap, subst, sym, ◌∙◌, inl, inr}
-use Rattle.std.specs.Prelude.{◌⊎◌, ◌||◌, cond, filter, slice_get}
+use Rattle.std.proofs.Common.{◌≡◌, ◌≢◌, Bool, true, false, List, [], ◌∷◌, Some, None, Option, refl, ap, subst, sym, ◌∙◌, inl, inr}
+use Rattle.std.specs.Prelude.{◌⊎◌, cond, filter}
 use Rattle.std.specs.FinMap.{FinMap, get, insert, get-insert, nat_cmp-IsAntisymmetric, slice_cmp-IsAntisymmetric}
 use Rattle.std.specs.Cmp.Lexicographic.{nat_list_cmp_total}
 use Rattle.std.specs.Ordering.{is_eq}
 use Rattle.std.specs.Cmp.{tied_itself, Equal-is}
-use Rattle.esm_base.specs.declared.status.Limit.{Limit}
 use Rattle.esm_realm.specs.Urls.{Url, has, same_url, url_cmp}
-use Rattle.esm_realm.proofs.Urls.{cases, own_text, same_text, or_true}
+use Rattle.esm_realm.proofs.Urls.{cases, same_text}
 use Rattle.esm_load.specs.Table.{Entry}
 use Rattle.esm_load.specs.Loading.{Loading, LoadState, Whole, Asker}
-use Rattle.esm_load.specs.Arrival.{Next, next, next_by, behind, open_asks, is_unsettled}
+use Rattle.esm_load.specs.Arrival.{Next, next, next_by, open_asks, is_unsettled}
 use Rattle.esm_load.proofs.Grows.{Has}
 use Rattle.esm_load.proofs.Grows.Has.{here, there}
 use Rattle.esm_turn.specs.World.{World, stopped, Follows, Evaluates, Jobs, Tasks}

@@ -1,15 +1,15 @@
 -- What a module needs has ended before it begins.
-use Rattle.std.proofs.Common.{◌≡◌, ℕ, suc, Bool, true, false, List, [], ◌∷◌, ◌++◌, Some, None, Option, refl, ap, subst, sym, ◌∙◌, inl, inr, append_assoc}
-use Rattle.std.specs.Prelude.{◌⊎◌, ◌||◌, ◌==◌}
+use Rattle.std.proofs.Common.{◌≡◌, Bool, true, false, List, [], ◌∷◌, ◌++◌, Some, None, Option, refl, ap, subst, sym, ◌∙◌, inl, inr, append_assoc}
+use Rattle.std.specs.Prelude.{◌⊎◌, ◌==◌}
 use Rattle.esm_ast.specs.ModuleText.{Item, Print, Import}
 use Rattle.esm_base.specs.declared.status.Limit.{Limit}
-use Rattle.esm_realm.specs.Urls.{Url, Text, has, same_url}
+use Rattle.esm_realm.specs.Urls.{Url, Text, has}
 use Rattle.esm_realm.specs.Walk.{Mark, Visits, leaves}
 use Rattle.esm_realm.specs.Reach.{Reaches}
 use Rattle.esm_realm.specs.Reach.Reaches.{itself, step}
 use Rattle.esm_realm.proofs.Depth.{sorted, Sorted, split, has_cons}
 use Rattle.esm_load.specs.Loading.{targets, body}
-use Rattle.esm_turn.specs.Bodies.{Bodies, Event, Begins, Ends, run_bodies, run_body, run_items, run_item, print, begins, ends, unless, step as step_of, step_by, step_on, write_line}
+use Rattle.esm_turn.specs.Bodies.{Bodies, Event, Begins, Ends, run_bodies, run_body, run_items, run_item, print, begins, unless, step as step_of, step_by, step_on, write_line}
 use Rattle.esm_turn.specs.World.{World, Evaluates}
 use Rattle.esm_turn.specs.World.Evaluates.{evaluates}
 use Rattle.esm_turn.specs.Needs.{Happens, NeedsFirst}

@@ -1,6 +1,6 @@
 -- Whatever the order of the deliveries, a run of clean files is the direct run.
 use mathlib.Core.Bool.{true≢false}
-use Rattle.std.proofs.Common.{◌≡◌, ◌≢◌, ℕ, suc, zero, ◌+◌, Bool, true, false, List, [], ◌∷◌, ◌++◌, Some, None, Option, refl, ap, subst, sym, ◌∙◌, inl, inr}
+use Rattle.std.proofs.Common.{◌≡◌, ◌≢◌, ℕ, suc, ◌+◌, Bool, true, false, List, [], ◌∷◌, ◌++◌, Some, None, Option, refl, ap, subst, sym, ◌∙◌, inl, inr}
 use Rattle.std.specs.Prelude.{◌⊎◌, ◌||◌, not, slice_get, slice_set, is_some, nat_lt}
 use Rattle.std.specs.List.{list_any}
 use Rattle.std.specs.FinMap.{get, insert, get-empty, empty}
@@ -9,17 +9,17 @@ use Rattle.esm_base.specs.declared.status.Limit.{Limit}
 use Rattle.esm_realm.specs.Urls.{Url, has, same_url, url_cmp}
 use Rattle.esm_realm.specs.Walk.{Mark, Visits, leaves}
 use Rattle.esm_realm.specs.Records.{ModuleRecord}
-use Rattle.esm_realm.proofs.Urls.{cases, or_true, same_text, own_text}
+use Rattle.esm_realm.proofs.Urls.{cases, same_text, own_text}
 use Rattle.esm_realm.proofs.WalkLaws.{visits_alike}
 use Rattle.esm_realm.proofs.Agree.{visits_agree, leaves_inside}
 use Rattle.esm_load.specs.Completion.{Completion, Spelled, bytes_of}
 use Rattle.esm_load.specs.Table.{Entry, Module, entry_of, module_entry, thrown_by, targets_in, body_in}
-use Rattle.esm_load.specs.Loading.{Loading, LoadState, Asked, Open, Whole, Asker, Root, Request, Opened, opened, targets, body, begin, finish, finish_by, is_of, is_fresh, opening_loading}
+use Rattle.esm_load.specs.Loading.{Loading, Asked, Open, Whole, Asker, Root, Request, Opened, opened, targets, body, begin, finish, finish_by, is_of, opening_loading}
 use Rattle.esm_load.specs.Load.{Enters, Answers}
 use Rattle.esm_load.specs.Load.Answers.{late, no_root, no_module, root, request}
 use Rattle.esm_load.specs.Arrival.{Next, next, next_by, settle, store, store_by, count_by, open_asks}
-use Rattle.esm_load.proofs.Grows.{Has, Known, Answered, Stands, More, Grown, Entered, enters_grow, known_on, answered_on, get_set, live}
-use Rattle.esm_load.proofs.Grows.Has.{here, there as after_it}
+use Rattle.esm_load.proofs.Grows.{Has, Known, Answered, Stands, More, Grown, Entered, enters_grow, known_on, get_set, live}
+use Rattle.esm_load.proofs.Grows.Has.{here}
 use Rattle.esm_load.proofs.Clean.{Kept, NoThrow, Closed, Within', Newly, Live, enters_kept, enters_live, enters_within, enters_newly, option_cases}
 use Rattle.esm_turn.specs.Bodies.{Bodies, run_bodies, opening_bodies}
 use Rattle.esm_turn.specs.World.{World, Jobs, Tasks, Turn, Evaluates, stopped, opening, with_jobs}
