@@ -4,3 +4,4 @@ pub mod LeavesOnce
 pub mod WalkBy
 pub mod Agree
 pub mod Depth
+pub mod ByNumber

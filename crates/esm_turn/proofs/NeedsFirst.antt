@@ -3,7 +3,7 @@ use Rattle.std.proofs.Common.{◌≡◌, Bool, true, false, List, [], ◌∷◌,
 use Rattle.std.specs.Prelude.{◌⊎◌, ◌==◌}
 use Rattle.esm_ast.specs.ModuleText.{Item, Print, Import}
 use Rattle.esm_base.specs.declared.status.Limit.{Limit}
-use Rattle.esm_realm.specs.Urls.{Url, Text, has}
+use Rattle.esm_realm.specs.Urls.{Url, Text, has, same_url}
 use Rattle.esm_realm.specs.Walk.{Mark, Visits, leaves}
 use Rattle.esm_realm.specs.Reach.{Reaches}
 use Rattle.esm_realm.specs.Reach.Reaches.{itself, step}
@@ -150,7 +150,7 @@ on_path to a x s (step {x = u} {t = v} g p) h n = on_path to a x s p (one (s.oth
 pub needs_first : NeedsFirst
 needs_first w after root x t y before rest none v h asked apart reach = by (evaluates_is v)
   where
-    evaluates_is : {w a : World} {x : Url} → Evaluates w x a → (marks : List Mark) × (after : List Url) × Visits (targets w.loading) [] x marks after × (a ≡ record w { bodies = run_bodies (body w.loading) (leaves marks) w.bodies })
+    evaluates_is : {w a : World} {x : Url} → Evaluates w x a → (marks : List (Mark Url)) × (after : List Url) × Visits same_url (targets w.loading) [] x marks after × (a ≡ record w { bodies = run_bodies (body w.loading) (leaves marks) w.bodies })
     evaluates_is (evaluates {marks = marks} p) = (marks, p.0, p.1, refl)
 
     no_start : (c : List Event) → w.bodies.events ≡ before ++ Begins x ∷ c → ⊥
@@ -160,7 +160,7 @@ needs_first w after root x t y before rest none v h asked apart reach = by (eval
         empty [] g = cc
         empty (z ∷ b) g = cc
 
-    found : (marks : List Mark) (seen : List Url) → Visits (targets w.loading) [] root marks seen → ((c : List Event) × (w.bodies.events ≡ before ++ Begins x ∷ c)) ⊎ Began before x (leaves marks) w.bodies → Happens (Ends y) before
+    found : (marks : List (Mark Url)) (seen : List Url) → Visits same_url (targets w.loading) [] root marks seen → ((c : List Event) × (w.bodies.events ≡ before ++ Begins x ∷ c)) ⊎ Began before x (leaves marks) w.bodies → Happens (Ends y) before
     found marks seen p (inl r) = absurd (no_start r.0 r.1)
     found marks seen p (inr b) =
         let s = sorted (targets w.loading) p b.first b.others x b.place in
@@ -171,5 +171,5 @@ needs_first w after root x t y before rest none v h asked apart reach = by (eval
         one b s (inr (inl h)) = cc
         one b s (inr (inr r)) = absurd (apart r)
 
-    by : (marks : List Mark) × (seen : List Url) × Visits (targets w.loading) [] root marks seen × (after ≡ record w { bodies = run_bodies (body w.loading) (leaves marks) w.bodies }) → Happens (Ends y) before
+    by : (marks : List (Mark Url)) × (seen : List Url) × Visits same_url (targets w.loading) [] root marks seen × (after ≡ record w { bodies = run_bodies (body w.loading) (leaves marks) w.bodies }) → Happens (Ends y) before
     by r = found r.0 r.1 r.2 (began_by (body w.loading) before rest x (leaves r.0) w.bodies (sym (ap (λ (a : World). a.bodies.events) r.3) ∙ h))

@@ -75,9 +75,9 @@ module _ (files : Files) (entry : Url) (clean : IsClean files entry) where
     first : has visited entry ≡ true
     stands : (v : Url) → has visited v ≡ true → Stands l v
     closed_under : (v t : Url) → has visited v ≡ true → has (targets l v) t ≡ true → has visited t ≡ true
-    marks : List Mark
+    marks : List (Mark Url)
     after : List Url
-    walk : Visits (targets l) [] entry marks after
+    walk : Visits same_url (targets l) [] entry marks after
     bodies : e ≡ run_bodies (body l) (leaves marks) opening_bodies
 
   data Stage (w : World) : Type 0 where
@@ -180,13 +180,13 @@ module _ (files : Files) (entry : Url) (clean : IsClean files entry) where
   jobs_none e (Jobs.stops l s) = refl
   jobs_none e (Jobs.job live j f q) = cc
 
-  evaluates_is : {w a : World} {x : Url} → Evaluates w x a → (marks : List Mark) × (after : List Url) × Visits (targets w.loading) [] x marks after × (a ≡ record w { bodies = run_bodies (body w.loading) (leaves marks) w.bodies })
+  evaluates_is : {w a : World} {x : Url} → Evaluates w x a → (marks : List (Mark Url)) × (after : List Url) × Visits same_url (targets w.loading) [] x marks after × (a ≡ record w { bodies = run_bodies (body w.loading) (leaves marks) w.bodies })
   evaluates_is (evaluates {marks = marks} p) = (marks, p.0, p.1, refl)
 
   record Evaluated (w a : World) : Type 0 where
-    marks : List Mark
+    marks : List (Mark Url)
     after : List Url
-    walk : Visits (targets w.loading) [] entry marks after
+    walk : Visits same_url (targets w.loading) [] entry marks after
     is : a ≡ record { loading = record w.loading { jobs = [] }; bodies = run_bodies (body w.loading) (leaves marks) w.bodies }
 
   evaluated_by : (w : World) {mid a : World} (rest : List ℕ) → rest ≡ [] → Evaluates (with_jobs w rest) entry mid → Jobs mid a → Evaluated w a

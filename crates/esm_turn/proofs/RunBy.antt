@@ -7,7 +7,7 @@ use Rattle.std.specs.Ordering.{is_eq}
 use Rattle.std.specs.Cmp.Lexicographic.{nat_list_cmp_total}
 use Rattle.esm_base.specs.declared.status.Limit.{Limit}
 use Rattle.esm_ast.specs.ModuleText.{Item}
-use Rattle.esm_realm.specs.Urls.{Url, url_cmp, has}
+use Rattle.esm_realm.specs.Urls.{Url, url_cmp, has, same_url}
 use Rattle.esm_realm.specs.Walk.{Mark, Visits, leaves}
 use Rattle.esm_realm.proofs.WalkBy.{visit_by, walk_found}
 use Rattle.esm_load.specs.Completion.{Completion, bytes_of}
@@ -40,7 +40,7 @@ look_body look u = body_in (look u)
 abbrev with_rest : State → List ℕ → State
 with_rest st jobs = record st { seen = with_loading st.seen (record st.seen.loading { jobs = jobs }) }
 
-abbrev walked : State → Option (List Mark × List Url) → Option State
+abbrev walked : State → Option (List (Mark Url) × List Url) → Option State
 walked st None = None
 walked st (Some p) = Some (record st { bodies = run_bodies (look_body st.seen.look) (leaves p.0) st.bodies })
 
@@ -170,12 +170,12 @@ follow_right depth st (Some (Open root visited)) st' f e = cc
 follow_right depth st (Some (Thrown thrown)) st' f e = reached_on (λ w. Follows (world_of st) (Some (Thrown thrown)) w) st st' e (record { is = failed; fits = f })
 follow_right depth st (Some (Whole root)) st' f e = by (visit_by (look_targets st.seen.look) depth [] root) refl e
   where
-    by : (p : Option (List Mark × List Url)) → visit_by (look_targets st.seen.look) depth [] root ≡ p → walked st p ≡ Some st' → Reached (λ w. Follows (world_of st) (Some (Whole root)) w) st'
+    by : (p : Option (List (Mark Url) × List Url)) → visit_by (look_targets st.seen.look) depth [] root ≡ p → walked st p ≡ Some st' → Reached (λ w. Follows (world_of st) (Some (Whole root)) w) st'
     by None g e = cc
     by (Some p) g e =
         let w : World = world_of st in
-        let walk : Visits (look_targets st.seen.look) [] root p.0 p.1 = walk_found (look_targets st.seen.look) depth root p g in
-        let real : Visits (targets w.loading) [] root p.0 p.1 = subst (λ look. Visits (λ u. targets_in (look u)) [] root p.0 p.1) (sym (reads_all st.seen f)) walk in
+        let walk : Visits same_url (look_targets st.seen.look) [] root p.0 p.1 = walk_found (look_targets st.seen.look) depth root p g in
+        let real : Visits same_url (targets w.loading) [] root p.0 p.1 = subst (λ look. Visits same_url (λ u. targets_in (look u)) [] root p.0 p.1) (sym (reads_all st.seen f)) walk in
         let ran : Evaluates w root (record w { bodies = run_bodies (body w.loading) (leaves p.0) w.bodies }) = evaluates (p.1, real) in
         let seen : Evaluates w root (record w { bodies = run_bodies (look_body st.seen.look) (leaves p.0) w.bodies }) = subst (λ look. Evaluates w root (record w { bodies = run_bodies (λ u. body_in (look u)) (leaves p.0) w.bodies })) (reads_all st.seen f) ran in
         reached_on (λ v. Follows w (Some (Whole root)) v) _ st' e (record { is = loaded seen; fits = record { reads = f.reads; knows = f.knows } })

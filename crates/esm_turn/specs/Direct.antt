@@ -42,7 +42,7 @@ pub record IsClean (files : Files) (entry : Url) : Type 0 where
 
 -- what the direct run of the entry leaves: the bodies of what it reaches, in the order in which the walk leaves them
 pub record DirectRun (files : Files) (entry : Url) (b : Bodies) : Type 0 where
-  pub marks : List Mark
+  pub marks : List (Mark Url)
   pub walk : IsWalk (file_targets files) [] entry marks
   pub bodies : b ≡ run_bodies (file_body files) (leaves marks) opening_bodies
 
