@@ -5,3 +5,4 @@ pub mod WalkBy
 pub mod Agree
 pub mod Depth
 pub mod ByNumber
+pub mod Weigh

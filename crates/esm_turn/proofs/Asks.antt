@@ -85,6 +85,31 @@ entries_steps es = record {
     finished true (Some o) l s h = h
     finished false (Some o) l s h = h
 
+pub bytes_steps : (n : ℕ) → TurnSteps (λ l. l.bytes ≡ n)
+bytes_steps n = record {
+  steps = record {
+    entering = record {
+      on_visit = λ l s o x e f h. h;
+      on_ask = λ l t a h. asked (has l.asked t) (nat_lt (length l.asked) 4096) l t a h;
+      on_throw = λ l s thrown h. h;
+    };
+    on_begin = λ l s root h. h;
+    on_finish = λ l s h. finished _ (opened l s) l s h;
+  };
+  on_jobs = λ l jobs h. h;
+  on_askers = λ l askers h. h;
+}
+  where
+    asked : (b c : Bool) (l : Loading) (t : Url) (a : Asker) → l.bytes ≡ n → (ask_by b c l t a).bytes ≡ n
+    asked true c l t a h = h
+    asked false true l t a h = h
+    asked false false l t a h = h
+
+    finished : (b : Bool) (o : Option Opened) (l : Loading) (s : ℕ) → l.bytes ≡ n → (finish_by b o l s).bytes ≡ n
+    finished b None l s h = h
+    finished true (Some o) l s h = h
+    finished false (Some o) l s h = h
+
 store_entries : (b : Bool) (l : Loading) (n : ℕ) (u : Url) (c : Completion) → (store (count_by b l n) u c).stopped ≡ None → (store (count_by b l n) u c).entries ≡ insert l.entries u (entry_of u c)
 store_entries true l n u c e = cc
 store_entries false l n u c e = by l.stopped refl e
@@ -94,7 +119,7 @@ store_entries false l n u c e = by l.stopped refl e
     by (Some limit) f e = cc
 
 -- after a turn that no limit stopped, the outcome stands under its URL, and all else as before
-turn_entries : {w : World} {u : Url} {c : Completion} {m : World} → Turn w u c m → stopped m ≡ None → m.loading.entries ≡ insert w.loading.entries u (entry_of u c)
+pub turn_entries : {w : World} {u : Url} {c : Completion} {m : World} → Turn w u c m → stopped m ≡ None → m.loading.entries ≡ insert w.loading.entries u (entry_of u c)
 turn_entries {w} {u} {c} {m} (Turn.limit limit s) e = let n = both_none (settle w.loading u c).stopped w.bodies.stopped e in cc
 turn_entries {w} {u} {c} {m} (Turn.turn live q) e =
     tasks_keep (λ l. l.entries ≡ insert w.loading.entries u (entry_of u c)) (entries_steps (insert w.loading.entries u (entry_of u c))) q
@@ -142,7 +167,7 @@ open_asks_law entry ds what v s h =
 
 -- ---- no URL is asked twice
 
-orderly_turns : TurnSteps IsOrderly
+pub orderly_turns : TurnSteps IsOrderly
 orderly_turns = record {
   steps = orderly_steps;
   on_jobs = λ l jobs h. record { asked_once = h.asked_once; few = h.few; visited_once = h.visited_once };
@@ -157,7 +182,7 @@ orderly_count : (b : Bool) (l : Loading) (n : ℕ) → IsOrderly l → IsOrderly
 orderly_count true l n h = record { asked_once = h.asked_once; few = h.few; visited_once = h.visited_once }
 orderly_count false l n h = record { asked_once = h.asked_once; few = h.few; visited_once = h.visited_once }
 
-orderly_turn : {w : World} {u : Url} {c : Completion} {m : World} → Turn w u c m → IsOrderly w.loading → IsOrderly m.loading
+pub orderly_turn : {w : World} {u : Url} {c : Completion} {m : World} → Turn w u c m → IsOrderly w.loading → IsOrderly m.loading
 orderly_turn {w} {u} {c} q h =
     let counted = orderly_count (nat_lt 16777216 (w.loading.bytes + bytes_of c)) w.loading (bytes_of c) h in
     turn_keeps IsOrderly orderly_turns q (orderly_store (count w.loading (bytes_of c)).stopped (count w.loading (bytes_of c)) u c counted)
@@ -166,7 +191,7 @@ runs_orderly : (ds : List Delivery) (w after : World) → Runs w ds after → Is
 runs_orderly [] w after r h = subst (λ w. IsOrderly w.loading) (sym r) h
 runs_orderly (d ∷ ds) w after r h = runs_orderly ds r.1 after r.3 (orderly_turn r.2 h)
 
-opening_orderly : (entry : Url) → IsOrderly (opening_loading entry)
+pub opening_orderly : (entry : Url) → IsOrderly (opening_loading entry)
 opening_orderly entry = record { asked_once = (refl, tt); few = omega arith; visited_once = λ s root visited e. none s root visited e }
   where
     none : (s : ℕ) (root : Url) (visited : List Url) → slice_get (Asked ∷ []) s ≡ Some (Open root visited) → AreDistinct visited

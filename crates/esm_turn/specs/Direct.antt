@@ -1,11 +1,11 @@
 -- The direct run, which knows no loading: the bodies of linked modules, from the files alone.
-use Rattle.std.specs.Prelude.{◌≡◌, ℕ, true, List, [], ◌∷◌, Option, Some, None, Ok, slice_get}
+use Rattle.std.specs.Prelude.{◌≡◌, ◌≤◌, length, ℕ, true, List, [], ◌∷◌, Option, Some, None, Ok, slice_get}
 use Rattle.esm_base.specs.declared.status.Status.TheVariants as statuses
 use Rattle.esm_ast.specs.ModuleText.{Item, requests_of}
-use Rattle.esm_realm.specs.Urls.{Url, has}
+use Rattle.esm_realm.specs.Urls.{Url, has, total}
 use Rattle.esm_realm.specs.Walk.{Mark, IsWalk, leaves}
 use Rattle.esm_realm.specs.Laws.{IsWhole}
-use Rattle.esm_load.specs.Completion.{Completion, Spelled}
+use Rattle.esm_load.specs.Completion.{Completion, Spelled, bytes_of}
 use Rattle.esm_load.specs.Table.{entry_of, targets_of, targets_in, body_in}
 use Rattle.esm_turn.specs.Bodies.{Bodies, run_bodies, opening_bodies}
 use Rattle.esm_load.specs.Loading.{Whole}
@@ -59,6 +59,26 @@ OneDirectRun = (files : Files) (entry : Url) (one other : Bodies) → DirectRun 
 abbrev pub HasDirectRun : Type 0
 HasDirectRun = (files : Files) (entry : Url) (modules : List Url) → IsWhole (file_targets files) modules → has modules entry ≡ true → (b : Bodies) × DirectRun files entry b
 
+abbrev pub file_bytes_by : Option Completion → ℕ
+file_bytes_by (Some c) = bytes_of c
+file_bytes_by None = 0
+
+-- the bytes of a file
+abbrev pub file_bytes : Files → Url → ℕ
+file_bytes files u = file_bytes_by (files u)
+
+-- the closure has at most 4,096 URLs and 16,777,216 bytes, and the bodies of the direct run pass no limit
+pub record MeetsNoLimit (files : Files) (entry : Url) (b : Bodies) : Type 0 where
+  pub modules : List Url
+  pub all : (u : Url) → Closure files entry u → has modules u ≡ true
+  pub few : length modules ≤ 4096
+  pub small : total (file_bytes files) modules ≤ 16777216
+  pub live : b.stopped ≡ None
+
+-- then no limit stops any run of these files
+abbrev pub NeverStops : Type 0
+NeverStops = (entry : Url) (files : Files) (deliveries : List Delivery) (w : World) (b : Bodies) → IsClean files entry → AreOf files deliveries → Runs (opening entry) deliveries w → DirectRun files entry b → MeetsNoLimit files entry b → stopped w ≡ None
+
 -- the order of deliveries doesn't matter: a run of clean files that has no open ask and that no limit has stopped is the direct run
 abbrev pub OrderFree : Type 0
 OrderFree = (entry : Url) (files : Files) (deliveries : List Delivery) (w : World) (b : Bodies) → IsClean files entry → AreOf files deliveries → Runs (opening entry) deliveries w → stopped w ≡ None → asks w ≡ [] → DirectRun files entry b
@@ -67,4 +87,9 @@ OrderFree = (entry : Url) (files : Files) (deliveries : List Delivery) (w : Worl
 -- in terms of what is shown: such a run that has ended, and not by a limit, shows the direct run's log and bodies, and is fulfilled
 abbrev pub OrderFreeShown : Type 0
 OrderFreeShown = (entry : Url) (files : Files) (deliveries : List Delivery) (what : Shown) (b : Bodies) → IsClean files entry → AreOf files deliveries → StandardRun entry deliveries what → what.ended ≡ true → (what.status ≡ Some statuses.Limit → ⊥) → DirectRun files entry b
+    → (what.log ≡ b.log) × (what.events ≡ b.events) × (what.status ≡ Some statuses.Fulfilled) × (what.last_line ≡ [])
+
+-- and so a run of clean files that has no open ask shows the direct run, where that meets no limit
+abbrev pub OrderFreeWithin : Type 0
+OrderFreeWithin = (entry : Url) (files : Files) (deliveries : List Delivery) (what : Shown) (b : Bodies) → IsClean files entry → AreOf files deliveries → StandardRun entry deliveries what → what.asks ≡ [] → DirectRun files entry b → MeetsNoLimit files entry b
     → (what.log ≡ b.log) × (what.events ≡ b.events) × (what.status ≡ Some statuses.Fulfilled) × (what.last_line ≡ [])

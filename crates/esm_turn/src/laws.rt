@@ -1,5 +1,12 @@
 // Laws of the definitions, as functions without effect.
-ghost use Rattle.esm_turn.specs.Direct.{HasDirectRun, OneDirectRun, OrderFree, OrderFreeShown};
+ghost use Rattle.esm_turn.specs.Direct.{
+  HasDirectRun,
+  NeverStops,
+  OneDirectRun,
+  OrderFree,
+  OrderFreeShown,
+  OrderFreeWithin,
+};
 ghost use Rattle.esm_turn.specs.Laws.{AsksOnce, BytesStopFirst, OneStandardRun, OneTurn, OpenAsks, StepsOfItems, StoppedAsksNothing, StopsAtOnce};
 ghost use Rattle.esm_turn.specs.Needs.{NeedsFirst};
 
@@ -45,6 +52,8 @@ pub fn one_direct_run()
 pub fn order_free()
     ensures world { OrderFree }
     ensures shown { OrderFreeShown }
+    ensures never_stops { NeverStops }
+    ensures within { OrderFreeWithin }
 {}
 
 /// What a module needs ends before it begins.
