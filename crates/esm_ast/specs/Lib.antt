@@ -3,3 +3,4 @@ pub mod Entries
 pub mod Script
 pub mod Outcome
 pub mod Laws
+pub mod ModuleText

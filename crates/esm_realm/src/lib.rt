@@ -1,0 +1,4 @@
+//! Module records, and the walk over the modules that a module reaches.
+#![tactic(auto)]
+
+pub mod laws;
