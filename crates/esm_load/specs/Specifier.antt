@@ -1,6 +1,6 @@
 -- HTML, "resolve a module specifier", under the empty import map.
-use Rattle.std.specs.Prelude.{ℕ, Bool, true, false, not, ◌&&◌, ◌||◌, nat_lt, List, ◌++◌, codes, length, bytes_eq, Option, Some, None, Result, Ok, Err}
-use Rattle.std.specs.Io.{starts_with}
+use Rattle.std.specs.Prelude.{ℕ, Bool, true, false, not, ◌&&◌, ◌||◌, nat_eq, nat_lt, List, ◌++◌, codes, length, bytes_eq, Option, Some, None, Result, Ok, Err}
+use Rattle.std.specs.List.{starts_with}
 use Rattle.url.specs.Parser.{Parsed, parse_url}
 use Rattle.url.specs.Parts.{Parts, serialize}
 use Rattle.esm_realm.specs.Urls.{Text, Url}
@@ -21,9 +21,12 @@ abbrev pub parsed : Parsed Parts → Option Parts
 parsed (Ok url) = Some url
 parsed (Err e) = None
 
+abbrev pub begins_with : Text → Text → Bool
+begins_with text start = starts_with nat_eq text start
+
 -- the specifier begins with `/`, `./` or `../`
 abbrev pub is_relative : Text → Bool
-is_relative specifier = starts_with specifier (codes "/") || (starts_with specifier (codes "./") || starts_with specifier (codes "../"))
+is_relative specifier = begins_with specifier (codes "/") || (begins_with specifier (codes "./") || begins_with specifier (codes "../"))
 
 -- the specifier joined to this base
 abbrev pub joined : Option Parts → Text → Option Parts

@@ -1,0 +1,3 @@
+pub mod OneLoad
+pub mod Kept
+pub mod Asking

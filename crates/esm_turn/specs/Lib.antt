@@ -1,0 +1,6 @@
+pub mod Bodies
+pub mod World
+pub mod Run
+pub mod Direct
+pub mod Needs
+pub mod Laws

@@ -1,0 +1,29 @@
+// Laws of the definitions, as functions without effect.
+ghost use Rattle.esm_turn.specs.Laws.{AsksOnce, BytesStopFirst, OneStandardRun, OneTurn, OpenAsks, StoppedAsksNothing, StopsAtOnce};
+
+/// A turn has one outcome.
+pub fn one_turn()
+    ensures { OneTurn }
+{}
+
+/// A list of deliveries has one standard run.
+pub fn one_standard_run()
+    ensures { OneStandardRun }
+{}
+
+/// An open ask was asked and isn't delivered.
+pub fn open_asks()
+    ensures { OpenAsks }
+{}
+
+/// No URL is asked twice.
+pub fn asks_once()
+    ensures { AsksOnce }
+{}
+
+/// A run that a limit has stopped has no open ask, and does nothing more.
+pub fn limit_stops()
+    ensures asks { StoppedAsksNothing }
+    ensures at_once { StopsAtOnce }
+    ensures bytes { BytesStopFirst }
+{}
