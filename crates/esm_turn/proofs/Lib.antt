@@ -1,0 +1,3 @@
+pub mod OneRun
+pub mod Keeps
+pub mod Asks
