@@ -1,3 +1,4 @@
 pub mod OneLoad
 pub mod Kept
 pub mod Asking
+pub mod Resolving

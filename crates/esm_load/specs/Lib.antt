@@ -5,3 +5,4 @@ pub mod Loading
 pub mod Load
 pub mod Arrival
 pub mod Laws
+pub mod Examples
