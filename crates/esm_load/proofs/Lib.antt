@@ -2,3 +2,4 @@ pub mod OneLoad
 pub mod Kept
 pub mod Asking
 pub mod Resolving
+pub mod LoadBy

@@ -1,3 +1,4 @@
 pub mod Urls
 pub mod WalkLaws
 pub mod LeavesOnce
+pub mod WalkBy

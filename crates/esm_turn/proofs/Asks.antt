@@ -64,9 +64,11 @@ some_inserted m u v x h = ap is_some (get-insert nat_list_cmp_total m u x v) ∙
 entries_steps : (es : FinMap url_cmp Entry) → TurnSteps (λ l. l.entries ≡ es)
 entries_steps es = record {
   steps = record {
-    on_visit = λ l s o x e f h. h;
-    on_ask = λ l t a h. asked (has l.asked t) (nat_lt (length l.asked) 4096) l t a h;
-    on_throw = λ l s thrown h. h;
+    entering = record {
+      on_visit = λ l s o x e f h. h;
+      on_ask = λ l t a h. asked (has l.asked t) (nat_lt (length l.asked) 4096) l t a h;
+      on_throw = λ l s thrown h. h;
+    };
     on_begin = λ l s root h. h;
     on_finish = λ l s h. finished _ (opened l s) l s h;
   };

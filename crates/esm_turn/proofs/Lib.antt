@@ -1,3 +1,4 @@
 pub mod OneRun
 pub mod Keeps
 pub mod Asks
+pub mod RunBy
