@@ -2,3 +2,4 @@ pub mod OneRun
 pub mod Keeps
 pub mod Asks
 pub mod RunBy
+pub mod Sites

@@ -4,3 +4,4 @@ pub mod Run
 pub mod Direct
 pub mod Needs
 pub mod Laws
+pub mod Examples
