@@ -1,1 +1,2 @@
 pub mod SmallTextLemmas
+mod ModuleTextLemmas

@@ -7,11 +7,11 @@ use Rattle.esm_ast.specs.SmallText.{IsPlain, statement, End, Semicolon, LineFeed
 All-head : {X : Type 0} (P : X → Type 0) (x : X) (xs : List X) → All P (x ∷ xs) → P x
 All-head P x xs all = all 0 x (omega arith)
 
-All-tail : {X : Type 0} (P : X → Type 0) (x : X) (xs : List X) → All P (x ∷ xs) → All P xs
+pub All-tail : {X : Type 0} (P : X → Type 0) (x : X) (xs : List X) → All P (x ∷ xs) → All P xs
 All-tail P x xs all = λ k d within. all (suc k) d (omega arith)
 
 -- a text without quotes is found again before the first quote
-text_split : (t u x y : List ℕ) → All IsPlain t → All IsPlain u → t ++ (34 ∷ x) ≡ u ++ (34 ∷ y) → (t ≡ u) × (x ≡ y)
+pub text_split : (t u x y : List ℕ) → All IsPlain t → All IsPlain u → t ++ (34 ∷ x) ≡ u ++ (34 ∷ y) → (t ≡ u) × (x ≡ y)
 text_split [] [] x y pt pu e = (refl, cc)
 text_split [] (c ∷ u) x y pt pu e = absurd ((All-head IsPlain c u pu).no_quote (sym (ap (λ l. get_or l 0 0) e)))
 text_split (c ∷ t) [] x y pt pu e = absurd ((All-head IsPlain c t pt).no_quote (ap (λ l. get_or l 0 0) e))
@@ -29,10 +29,10 @@ statement_split t u x y pt pu e =
     let split = text_split t u (41 ∷ x) (41 ∷ y) pt pu inner in
     (split.0, cc (split.1))
 
-no_byte : (a b : ℕ) (x y : List ℕ) → a ≢ b → a ∷ x ≡ b ∷ y → ⊥
+pub no_byte : (a b : ℕ) (x y : List ℕ) → a ≢ b → a ∷ x ≡ b ∷ y → ⊥
 no_byte a b x y differ e = differ (ap (λ l. get_or l 0 0) e)
 
-not_empty : (a : ℕ) (x : List ℕ) → a ∷ x ≡ [] → ⊥
+pub not_empty : (a : ℕ) (x : List ℕ) → a ∷ x ≡ [] → ⊥
 not_empty a x e = cc
 
 -- no item begins with a line feed
@@ -47,7 +47,7 @@ closed_by_items Both bytes texts is = tt
 closed_by_items Missing bytes texts is = tt
 
 -- the same bytes behind a statement have the same end and rest
-end_split : (e f : End) (x y : List ℕ) → MayStandBefore e x → MayStandBefore f y → IsClosed e x → IsClosed f y
+pub end_split : (e f : End) (x y : List ℕ) → MayStandBefore e x → MayStandBefore f y → IsClosed e x → IsClosed f y
     → end_bytes e ++ x ≡ end_bytes f ++ y → x ≡ y
 end_split Semicolon Semicolon x y p q sx sy e = cc
 end_split Semicolon LineFeed x y p q sx sy e = absurd (no_byte 59 10 _ _ (omega arith) e)

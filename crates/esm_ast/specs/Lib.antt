@@ -4,3 +4,4 @@ pub mod Script
 pub mod Outcome
 pub mod Laws
 pub mod ModuleText
+pub mod ModuleTextLaws

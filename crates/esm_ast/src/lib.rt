@@ -3,6 +3,7 @@
 
 mod entries;
 pub mod laws;
+pub mod module_text_laws;
 mod outcome;
 mod script;
 mod tree;
