@@ -1,2 +1,2 @@
 pub mod SmallTextLemmas
-mod ModuleTextLemmas
+pub mod ModuleTextLemmas

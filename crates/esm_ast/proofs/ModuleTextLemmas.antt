@@ -1,5 +1,5 @@
 -- A module text spells at most one list of items.
-use Rattle.std.proofs.Common.{◌≡◌, ◌≢◌, ◌≤◌, ◌<◌, ◌∙◌, ap, sym, subst, refl, ℕ, suc, zero, Bool, true, false, List, [], ◌∷◌, ◌++◌, length, arith, append_assoc}
+use Rattle.std.proofs.Common.{◌≡◌, ◌≤◌, ◌∙◌, ap, sym, subst, refl, ℕ, suc, zero, Bool, true, false, List, [], ◌∷◌, ◌++◌, length, arith, append_assoc}
 use Rattle.std.specs.Prelude.{All, codes, map, ◌&&◌, not, nat_lt, nat_eq}
 use Rattle.std.specs.List.{list_all}
 use Rattle.std.proofs.lemmas.List.{append_cancel_left}
@@ -7,7 +7,7 @@ use Rattle.esm_ast.specs.SmallText as small
 use Rattle.esm_ast.specs.SmallText.{IsPlain, statement, End, Semicolon, LineFeed, Both, Missing, end_bytes, MayStandBefore, HasNoLine, IsClosed}
 use Rattle.esm_ast.specs.ModuleText.{Item, Print, Import, quoted, import_bytes, item_bytes, BeginsWithItem, AreModuleItems, SpellsModule}
 use Rattle.esm_ast.specs.ModuleTextLaws.{ModuleTextExample}
-use Rattle.esm_ast.proofs.SmallTextLemmas.{All-tail, text_split, statement_split, no_byte, not_empty, end_split}
+use Rattle.esm_ast.proofs.SmallTextLemmas.{text_split, statement_split, no_byte, not_empty, end_split}
 
 import_split : (t u x y : List ℕ) → All IsPlain t → All IsPlain u → import_bytes t ++ x ≡ import_bytes u ++ y → (t ≡ u) × (x ≡ y)
 import_split t u x y pt pu e =
@@ -69,7 +69,7 @@ prints_are bytes (t ∷ texts) is = (is.0, (record { plain = is.1.0.plain; end =
 pub small_are_modules : (bytes : List ℕ) (texts : List (List ℕ)) → small.Spells bytes texts → SpellsModule bytes (map Print texts)
 small_are_modules bytes texts s = record { short = s.short; are = prints_are bytes texts s.items }
 
--- ---- the worked example
+-- ---- worked examples
 
 abbrev is_plain : ℕ → Bool
 is_plain c = not (nat_lt c 32) && (not (nat_lt 126 c) && (not (nat_eq c 34) && not (nat_eq c 92)))
@@ -89,14 +89,51 @@ plain : (xs : List ℕ) → list_all is_plain xs ≡ true → All IsPlain xs
 plain [] e = λ k d within. absurd (omega arith)
 plain (c ∷ xs) e = all_cons c xs (plain_byte c (and_true (is_plain c) (list_all is_plain xs) e).0) (plain xs (and_true (is_plain c) (list_all is_plain xs) e).1)
 
+-- items that each end by a semicolon and a line feed
+abbrev pub written : List Item → List ℕ
+written [] = []
+written (a ∷ items) = item_bytes a ++ (end_bytes Both ++ written items)
+
+abbrev pub are_plain : List Item → Bool
+are_plain [] = true
+are_plain (a ∷ items) = list_all is_plain (quoted a) && are_plain items
+
+written_are : (items : List Item) → are_plain items ≡ true → AreModuleItems (written items) items
+written_are [] e = refl
+written_are (a ∷ items) e =
+    let parts = and_true (list_all is_plain (quoted a)) (are_plain items) e in
+    (written items, (record { plain = plain (quoted a) parts.0; end = Both; stands = tt; whole = refl }, written_are items parts.1))
+
+at_most : (m n : ℕ) → nat_lt n m ≡ false → m ≤ n
+at_most m n e = grind arith
+
+-- they are spelled, which is computed
+pub written_spell : (items : List Item) → are_plain items ≡ true → nat_lt 1048576 (length (written items)) ≡ false → SpellsModule (written items) items
+written_spell items e h = record { short = at_most (length (written items)) 1048576 h; are = written_are items e }
+
 pub example : ModuleTextExample
 example = record {
   spells = record {
     short = omega arith;
-    are = (_, (record { plain = plain (codes "./a.js") refl; end = Both; stands = tt; whole = refl },
-            (_, (record { plain = plain (codes "./b.js") refl; end = LineFeed; stands = tt; whole = refl },
-            (_, (record { plain = plain (codes "./a.js") refl; end = Semicolon; stands = tt; whole = refl },
-            ([], (record { plain = plain (codes "m") refl; end = Missing; stands = refl; whole = refl }, refl))))))));
+    are = (
+      _,
+      (
+        record { plain = plain (codes "./a.js") refl; end = Both; stands = tt; whole = refl },
+        (
+          _,
+          (
+            record { plain = plain (codes "./b.js") refl; end = LineFeed; stands = tt; whole = refl },
+            (
+              _,
+              (
+                record { plain = plain (codes "./a.js") refl; end = Semicolon; stands = tt; whole = refl },
+                ([], (record { plain = plain (codes "m") refl; end = Missing; stands = refl; whole = refl }, refl)),
+              ),
+            ),
+          ),
+        ),
+      ),
+    );
   };
   requests = refl;
 }

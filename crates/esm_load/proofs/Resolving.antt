@@ -1,9 +1,9 @@
 -- What a specifier resolves to, and the worked examples, computed.
-use Rattle.std.proofs.Common.{◌≡◌, ℕ, ◌≤◌, ◌<◌, Bool, true, false, length, Option, Some, None, refl, ap, subst, sym, ◌∙◌, arith}
+use Rattle.std.proofs.Common.{◌≡◌, ℕ, ◌≤◌, ◌<◌, Bool, true, false, length, Option, Some, None, refl, ap, subst, ◌∙◌, arith}
 use Rattle.std.specs.Prelude.{◌&&◌, not, nat_lt}
 use Rattle.url.specs.Parts.{Parts, serialize}
 use Rattle.esm_realm.specs.Urls.{Text, Url}
-use Rattle.esm_load.specs.Specifier.{Resolution, Resolved, Unresolved, S4, S5, url_like, is_canonical, is_usable, usable_by, resolution_by}
+use Rattle.esm_load.specs.Specifier.{Resolved, url_like, is_canonical, is_usable, usable_by, resolution_by}
 use Rattle.esm_load.specs.Laws.{ResolvesToUsable}
 use Rattle.url.proofs.OnLiterals.{url_on_literals}
 use Rattle.esm_load.specs.Specifier.{resolution_of_specifier}

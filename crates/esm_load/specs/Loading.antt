@@ -1,5 +1,5 @@
 -- The part of the world that loading reads and writes, and its single steps.
-use Rattle.std.specs.Prelude.{◌≡◌, ℕ, Bool, true, false, not, ◌||◌, ◌==◌, nat_lt, List, [], ◌∷◌, ◌++◌, length, slice_get, slice_set, Option, Some, None}
+use Rattle.std.specs.Prelude.{ℕ, Bool, true, false, not, ◌||◌, ◌==◌, nat_lt, List, [], ◌∷◌, ◌++◌, length, slice_get, slice_set, Option, Some, None}
 use Rattle.std.specs.List.{list_any}
 use Rattle.std.specs.FinMap.{FinMap, get, empty}
 use Rattle.std.specs.FinSet as sets

@@ -1,24 +1,23 @@
 -- An open ask was asked and isn't delivered, and no URL is asked twice.
 use mathlib.Core.Bool.{true≢false}
-use Rattle.std.proofs.Common.{◌≡◌, ℕ, zero, suc, ◌+◌, ◌≤◌, Bool, true, false, List, [], ◌∷◌, ◌++◌, length, Some, None, Option, refl, ap, subst, sym, ◌∙◌, arith, inl, inr}
-use Rattle.std.specs.Prelude.{◌⊎◌, ◌||◌, cond, filter, is_some, nat_lt, slice_get}
-use Rattle.std.specs.FinMap.{FinMap, get, insert, get-insert, nat_cmp-IsAntisymmetric, slice_cmp-IsAntisymmetric}
+use Rattle.std.proofs.Common.{◌≡◌, ℕ, zero, suc, ◌+◌, Bool, true, false, List, [], ◌∷◌, length, Some, None, Option, refl, ap, subst, sym, ◌∙◌, arith, inl, inr}
+use Rattle.std.specs.Prelude.{◌⊎◌, cond, filter, is_some, nat_lt, slice_get}
+use Rattle.std.specs.FinMap.{FinMap, get, insert, get-insert}
 use Rattle.std.specs.Cmp.Lexicographic.{nat_list_cmp_total}
 use Rattle.std.specs.Ordering.{is_eq}
-use Rattle.std.specs.Cmp.{tied_itself, Equal-is}
+use Rattle.std.specs.Cmp.{tied_itself}
 use Rattle.esm_base.specs.declared.status.Limit.{Limit}
-use Rattle.esm_realm.specs.Urls.{Text, Url, url_cmp, has, same_url}
+use Rattle.esm_realm.specs.Urls.{Url, url_cmp, has, same_url}
 use Rattle.esm_realm.specs.Laws.{AreDistinct}
-use Rattle.esm_realm.proofs.Urls.{cases, same_text, own_text, or_true, or_left, or_cases}
+use Rattle.esm_realm.proofs.Urls.{cases, same_text, or_true, or_left, or_cases}
 use Rattle.esm_load.specs.Completion.{Completion, bytes_of}
 use Rattle.esm_load.specs.Table.{Entry, entry_of}
-use Rattle.esm_load.specs.Loading.{Loading, Asker, LoadState, Asked, Open, Opened, opened, opened_in, opening_loading, is_of, begin, is_fresh, visit, ask, ask_by, finish, finish_by, throw}
+use Rattle.esm_load.specs.Loading.{Loading, Asker, Asked, Open, Opened, opened, opening_loading, ask_by, finish_by}
 use Rattle.esm_load.specs.Arrival.{settle, count, count_by, store, store_by, open_asks, is_unsettled}
 use Rattle.esm_load.specs.Laws.{IsOrderly}
-use Rattle.esm_load.proofs.Kept.{Steps}
 use Rattle.esm_load.proofs.Asking.{orderly_steps}
-use Rattle.esm_turn.specs.World.{World, opening, Turn, stopped, first_stop}
-use Rattle.esm_turn.specs.Run.{Delivery, Runs, asks, asks_by, Shown, StandardRun, shown}
+use Rattle.esm_turn.specs.World.{World, opening, Turn, stopped}
+use Rattle.esm_turn.specs.Run.{Delivery, Runs, asks, asks_by, Shown, StandardRun}
 use Rattle.esm_turn.specs.Laws.{urls_of}
 use Rattle.esm_turn.proofs.Keeps.{TurnSteps, turn_keeps, tasks_keep, both_none}
 

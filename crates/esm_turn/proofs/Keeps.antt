@@ -1,16 +1,16 @@
 -- What each step of loading keeps, turns keep; and what a limit stops.
-use Rattle.std.proofs.Common.{◌≡◌, ℕ, ◌+◌, ◌<◌, Bool, true, false, List, [], ◌∷◌, Some, None, Option, refl, ap, subst, sym, ◌∙◌}
+use Rattle.std.proofs.Common.{◌≡◌, ℕ, ◌+◌, ◌<◌, List, [], ◌∷◌, Some, None, Option, refl, ap}
 use Rattle.esm_base.specs.declared.status.Limit.{Limit}
 use Rattle.esm_base.specs.declared.status.Limit.TheVariants.{L2}
 use Rattle.esm_realm.specs.Urls.{Url}
 use Rattle.esm_ast.specs.ModuleText.{Item}
 use Rattle.esm_load.specs.Completion.{Completion, bytes_of}
 use Rattle.esm_load.specs.Loading.{Loading, Asker, LoadState}
-use Rattle.esm_load.specs.Arrival.{settle, Next}
+use Rattle.esm_load.specs.Arrival.{settle}
 use Rattle.esm_load.proofs.Kept.{Steps, answers_keeps}
 use Rattle.esm_load.proofs.Asking.{bytes_first}
 use Rattle.esm_turn.specs.Bodies.{Bodies, run_bodies, run_body, unless}
-use Rattle.esm_turn.specs.World.{World, Evaluates, Follows, Jobs, Tasks, Turn, with_jobs, stopped, first_stop}
+use Rattle.esm_turn.specs.World.{World, Evaluates, Follows, Jobs, Tasks, Turn, stopped, first_stop}
 use Rattle.esm_turn.specs.World.Evaluates.{evaluates}
 use Rattle.esm_turn.specs.World.Follows.{loaded, failed}
 use Rattle.esm_turn.specs.Run.{asks, asks_by}

@@ -3,3 +3,4 @@ pub mod Keeps
 pub mod Asks
 pub mod RunBy
 pub mod Sites
+pub mod StepLaws

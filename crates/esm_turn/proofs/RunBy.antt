@@ -1,5 +1,5 @@
 -- Runs computed, for worked examples: what is found within some depth is the standard run.
-use Rattle.std.proofs.Common.{◌≡◌, ℕ, suc, zero, ◌+◌, Bool, true, false, List, [], ◌∷◌, ◌++◌, Option, Some, None, refl, ap, subst, sym, ◌∙◌}
+use Rattle.std.proofs.Common.{◌≡◌, ℕ, suc, zero, ◌+◌, Bool, true, false, List, [], ◌∷◌, Option, Some, None, refl, ap, subst, sym, ◌∙◌}
 use Rattle.std.specs.Prelude.{cond, filter, nat_lt, slice_get, option_map, is_some}
 use Rattle.std.specs.FinMap.{FinMap, get, insert, get-insert, get-empty}
 use Rattle.std.specs.FinSet as sets
@@ -7,20 +7,19 @@ use Rattle.std.specs.Ordering.{is_eq}
 use Rattle.std.specs.Cmp.Lexicographic.{nat_list_cmp_total}
 use Rattle.esm_base.specs.declared.status.Limit.{Limit}
 use Rattle.esm_ast.specs.ModuleText.{Item}
-use Rattle.esm_realm.specs.Urls.{Text, Url, url_cmp, has}
+use Rattle.esm_realm.specs.Urls.{Url, url_cmp, has}
 use Rattle.esm_realm.specs.Walk.{Mark, Visits, leaves}
 use Rattle.esm_realm.proofs.WalkBy.{visit_by, walk_found}
 use Rattle.esm_load.specs.Completion.{Completion, bytes_of}
 use Rattle.esm_load.specs.Table.{Entry, entry_of, targets_in, body_in}
 use Rattle.esm_load.specs.Loading.{Loading, LoadState, Asked, Open, Whole, Thrown, Asker, targets, body, opening_loading}
-use Rattle.esm_load.specs.Load.{Answers}
-use Rattle.esm_load.specs.Arrival.{settle, store, store_by, count_by, Next, next, next_by, behind, open_asks, is_unsettled}
+use Rattle.esm_load.specs.Arrival.{settle, store, store_by, count_by, Next, next, next_by, is_unsettled}
 use Rattle.esm_load.proofs.LoadBy.{Look, Seen, with_loading, answer_by, Fits, IsAnswered, answer_right}
 use Rattle.esm_turn.specs.Bodies.{Bodies, run_bodies, opening_bodies}
-use Rattle.esm_turn.specs.World.{World, opening, stopped, first_stop, Evaluates, Follows, Jobs, Tasks, Turn, with_jobs}
+use Rattle.esm_turn.specs.World.{World, stopped, Evaluates, Follows, Jobs, Tasks, Turn}
 use Rattle.esm_turn.specs.World.Evaluates.{evaluates}
 use Rattle.esm_turn.specs.World.Follows.{loaded, failed}
-use Rattle.esm_turn.specs.Run.{Delivery, Runs, asks, asks_by, Shown, StandardRun, shown, ending_by, status_of, last_line_by}
+use Rattle.esm_turn.specs.Run.{Delivery, Runs, asks, asks_by, Shown, StandardRun, ending_by, status_of, last_line_by}
 
 -- ---- the functions
 

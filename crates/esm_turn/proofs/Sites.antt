@@ -1,14 +1,15 @@
 -- The worked examples, computed.
-use Rattle.std.proofs.Common.{◌≡◌, List, [], ◌∷◌, ◌++◌, refl}
+use Rattle.std.proofs.Common.{◌≡◌, List, [], ◌∷◌, refl}
 use Rattle.std.specs.Prelude.{codes}
 use Rattle.url.proofs.OnLiterals.{url_on_literals}
 use Rattle.esm_ast.specs.ModuleText.{Item, Print, Import}
-use Rattle.esm_realm.specs.Urls.{Text, Url}
-use Rattle.esm_load.specs.Completion.{Completion, Spelled, Missing}
+use Rattle.esm_realm.specs.Urls.{Url}
+use Rattle.esm_load.specs.Completion.{Missing}
 use Rattle.esm_load.specs.Specifier.{resolution_of_specifier}
 use Rattle.esm_load.specs.Table.{Entry, Failed, Broken, Module, entry_of}
 use Rattle.esm_turn.specs.Run.{Delivery}
-use Rattle.esm_turn.specs.Examples.{main_url, a_url, b_url, t_url, cycle_main, cycle_a, cycle_b, cycle_shown, goes_on, fulfilled, entry_failed, missing_main, missing_shown, twice_main, twice_t, OnePrint, Cycle, TwoMissing, TwoSpellings, BareSpecifier}
+use Rattle.esm_turn.specs.Examples.{main_url, a_url, b_url, t_url, cycle_main, cycle_a, cycle_b, missing_main, twice_main, twice_t, bare_main, print_text, print_items, file, OnePrint, Cycle, TwoMissing, TwoSpellings, BareSpecifier, FilesSpell, cycle_main_items, cycle_a_items, cycle_b_items, missing_main_items, twice_main_items, twice_t_items, bare_items}
+use Rattle.esm_ast.proofs.ModuleTextLemmas.{written_spell}
 use Rattle.esm_turn.proofs.RunBy.{Known, run_right}
 
 abbrev module_of : List Item → List Url → Entry
@@ -36,7 +37,7 @@ twice_main_is : entry_of main_url twice_main.1 ≡ module_of (Import (codes "./t
 unfolding resolution_of_specifier url_on_literals
 twice_main_is = refl
 
-bare_is : entry_of main_url (Spelled (Import (codes "./a.js") ∷ Import (codes "react") ∷ []) 33) ≡ Broken (codes "TypeError: https://a.test/main.js: specifier react: S4 bare and not mapped")
+bare_is : entry_of main_url bare_main.1 ≡ Broken (codes "TypeError: https://a.test/main.js: specifier react: S4 bare and not mapped")
 unfolding resolution_of_specifier url_on_literals
 bare_is = refl
 
@@ -68,7 +69,7 @@ the_twice_t = reads_as twice_t _ refl
 -- ---- the runs
 
 pub one_print : OnePrint
-one_print = run_right 9 main_url (reads_as (main_url, Spelled (Print (codes "hi") ∷ []) 13) _ refl ∷ []) _ refl
+one_print = run_right 9 main_url (reads_as (file main_url print_text print_items) _ refl ∷ []) _ refl
 
 pub cycle : Cycle
 cycle = record {
@@ -90,4 +91,16 @@ two_spellings = record {
 }
 
 pub bare_specifier : BareSpecifier
-bare_specifier = run_right 9 main_url (reads_as (main_url, Spelled (Import (codes "./a.js") ∷ Import (codes "react") ∷ []) 33) _ bare_is ∷ []) _ refl
+bare_specifier = run_right 9 main_url (reads_as bare_main _ bare_is ∷ []) _ refl
+
+pub files_spell : FilesSpell
+files_spell = record {
+  one_print = written_spell print_items refl refl;
+  of_cycle_main = written_spell cycle_main_items refl refl;
+  of_cycle_a = written_spell cycle_a_items refl refl;
+  of_cycle_b = written_spell cycle_b_items refl refl;
+  of_missing_main = written_spell missing_main_items refl refl;
+  of_twice_main = written_spell twice_main_items refl refl;
+  of_twice_t = written_spell twice_t_items refl refl;
+  of_bare_main = written_spell bare_items refl refl;
+}

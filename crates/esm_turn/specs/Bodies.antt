@@ -1,5 +1,5 @@
 -- Bodies that print: what is printed, in which order bodies begin and end, and the steps that they take.
-use Rattle.std.specs.Prelude.{◌≡◌, ℕ, ◌+◌, ◌==◌, Bool, true, false, List, [], ◌∷◌, ◌++◌, Option, Some, None}
+use Rattle.std.specs.Prelude.{ℕ, ◌+◌, ◌==◌, Bool, true, false, List, [], ◌∷◌, ◌++◌, Option, Some, None}
 use Rattle.esm_ast.specs.ModuleText.{Item, Print, Import}
 use Rattle.esm_base.specs.declared.status.Limit.{Limit}
 use Rattle.esm_base.specs.declared.status.Limit.TheVariants.{L3}

@@ -5,10 +5,8 @@ use Rattle.esm_realm.specs.Urls.{Url, has}
 use Rattle.esm_realm.specs.Walk.{Mark, IsWalk, leaves}
 use Rattle.esm_load.specs.Completion.{Completion, Spelled}
 use Rattle.esm_load.specs.Table.{entry_of, targets_of, targets_in, body_in}
-use Rattle.esm_load.specs.Loading.{Whole}
 use Rattle.esm_turn.specs.Bodies.{Bodies, run_bodies, opening_bodies}
-use Rattle.esm_turn.specs.World.{World, opening, stopped}
-use Rattle.esm_turn.specs.Run.{Delivery, Runs, asks}
+use Rattle.esm_turn.specs.Run.{Delivery}
 
 -- what each URL is answered with
 abbrev pub Files : Type 0

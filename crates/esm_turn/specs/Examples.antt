@@ -1,10 +1,9 @@
 -- Worked examples: the standard run of some sites, over each allowed order of their deliveries.
-use Rattle.std.specs.Prelude.{◌≡◌, ℕ, true, false, List, [], ◌∷◌, ◌++◌, codes, Option, Some, None}
-use Rattle.esm_ast.specs.ModuleText.{Item, Print, Import}
-use Rattle.esm_base.specs.declared.status.Status.{Status}
+use Rattle.std.specs.Prelude.{true, false, List, [], ◌∷◌, ◌++◌, codes, length, Some, None}
+use Rattle.esm_ast.specs.ModuleText.{Item, Print, Import, SpellsModule}
 use Rattle.esm_base.specs.declared.status.Status.TheVariants.{Fulfilled, EntryFailed}
 use Rattle.esm_realm.specs.Urls.{Text, Url}
-use Rattle.esm_load.specs.Completion.{Completion, Spelled, Missing}
+use Rattle.esm_load.specs.Completion.{Spelled, Missing}
 use Rattle.esm_turn.specs.Bodies.{Event, Begins, Ends}
 use Rattle.esm_turn.specs.Run.{Delivery, Shown, StandardRun}
 
@@ -42,25 +41,50 @@ fulfilled asked log modules = record { asked = asked; asks = []; ended = true; s
 abbrev pub entry_failed : List Url → Text → Shown
 entry_failed asked thrown = record { asked = asked; asks = []; ended = true; status = Some EntryFailed; log = []; last_line = codes "Uncaught " ++ thrown; events = [] }
 
+-- a file of these lines, which spell these items
+abbrev pub file : Url → List Text → List Item → Delivery
+file u texts items = (u, Spelled items (length (lines texts)))
+
 -- ---- one print
 
--- print("hi");
+abbrev pub print_text : List Text
+print_text = codes "print(\"hi\");" ∷ []
+
+abbrev pub print_items : List Item
+print_items = Print (codes "hi") ∷ []
+
+-- its line is written
 abbrev pub OnePrint : Type 0
-OnePrint = StandardRun main_url ((main_url, Spelled (Print (codes "hi") ∷ []) 13) ∷ []) (fulfilled (main_url ∷ []) (codes "hi" ∷ []) (main_url ∷ []))
+OnePrint = StandardRun main_url (file main_url print_text print_items ∷ []) (fulfilled (main_url ∷ []) (codes "hi" ∷ []) (main_url ∷ []))
 
 -- ---- a cycle
 
--- import "./a.js"; import "./b.js"; print("m");
+abbrev pub cycle_main_text : List Text
+cycle_main_text = codes "import \"./a.js\";" ∷ codes "import \"./b.js\";" ∷ codes "print(\"m\");" ∷ []
+
+abbrev pub cycle_main_items : List Item
+cycle_main_items = Import (codes "./a.js") ∷ Import (codes "./b.js") ∷ Print (codes "m") ∷ []
+
 abbrev pub cycle_main : Delivery
-cycle_main = (main_url, Spelled (Import (codes "./a.js") ∷ Import (codes "./b.js") ∷ Print (codes "m") ∷ []) 46)
+cycle_main = file main_url cycle_main_text cycle_main_items
 
--- import "./b.js"; print("a");
+abbrev pub cycle_a_text : List Text
+cycle_a_text = codes "import \"./b.js\";" ∷ codes "print(\"a\");" ∷ []
+
+abbrev pub cycle_a_items : List Item
+cycle_a_items = Import (codes "./b.js") ∷ Print (codes "a") ∷ []
+
 abbrev pub cycle_a : Delivery
-cycle_a = (a_url, Spelled (Import (codes "./b.js") ∷ Print (codes "a") ∷ []) 29)
+cycle_a = file a_url cycle_a_text cycle_a_items
 
--- import "./main.js"; print("b");
+abbrev pub cycle_b_text : List Text
+cycle_b_text = codes "import \"./main.js\";" ∷ codes "print(\"b\");" ∷ []
+
+abbrev pub cycle_b_items : List Item
+cycle_b_items = Import (codes "./main.js") ∷ Print (codes "b") ∷ []
+
 abbrev pub cycle_b : Delivery
-cycle_b = (b_url, Spelled (Import (codes "./main.js") ∷ Print (codes "b") ∷ []) 32)
+cycle_b = file b_url cycle_b_text cycle_b_items
 
 abbrev pub cycle_shown : Shown
 cycle_shown = fulfilled (main_url ∷ a_url ∷ b_url ∷ []) (codes "b" ∷ codes "a" ∷ codes "m" ∷ []) (b_url ∷ a_url ∷ main_url ∷ [])
@@ -73,9 +97,14 @@ pub record Cycle : Type 0 where
 
 -- ---- two missing files
 
--- import "./a.js"; import "./b.js";
+abbrev pub missing_main_text : List Text
+missing_main_text = codes "import \"./a.js\";" ∷ codes "import \"./b.js\";" ∷ []
+
+abbrev pub missing_main_items : List Item
+missing_main_items = Import (codes "./a.js") ∷ Import (codes "./b.js") ∷ []
+
 abbrev pub missing_main : Delivery
-missing_main = (main_url, Spelled (Import (codes "./a.js") ∷ Import (codes "./b.js") ∷ []) 34)
+missing_main = file main_url missing_main_text missing_main_items
 
 abbrev pub missing_shown : Url → Shown
 missing_shown u = entry_failed (main_url ∷ a_url ∷ b_url ∷ []) (codes "TypeError: cannot fetch " ++ u)
@@ -87,13 +116,23 @@ pub record TwoMissing : Type 0 where
 
 -- ---- one target under two spellings
 
--- import "./t.js"; import "././t.js"; print("m");
-abbrev pub twice_main : Delivery
-twice_main = (main_url, Spelled (Import (codes "./t.js") ∷ Import (codes "././t.js") ∷ Print (codes "m") ∷ []) 48)
+abbrev pub twice_main_text : List Text
+twice_main_text = codes "import \"./t.js\";" ∷ codes "import \"././t.js\";" ∷ codes "print(\"m\");" ∷ []
 
--- print("t");
+abbrev pub twice_main_items : List Item
+twice_main_items = Import (codes "./t.js") ∷ Import (codes "././t.js") ∷ Print (codes "m") ∷ []
+
+abbrev pub twice_main : Delivery
+twice_main = file main_url twice_main_text twice_main_items
+
+abbrev pub twice_t_text : List Text
+twice_t_text = codes "print(\"t\");" ∷ []
+
+abbrev pub twice_t_items : List Item
+twice_t_items = Print (codes "t") ∷ []
+
 abbrev pub twice_t : Delivery
-twice_t = (t_url, Spelled (Print (codes "t") ∷ []) 12)
+twice_t = file t_url twice_t_text twice_t_items
 
 -- it is asked once, and its body runs once
 pub record TwoSpellings : Type 0 where
@@ -102,7 +141,28 @@ pub record TwoSpellings : Type 0 where
 
 -- ---- a bare specifier
 
--- import "./a.js"; import "react";
+abbrev pub bare_text : List Text
+bare_text = codes "import \"./a.js\";" ∷ codes "import \"react\";" ∷ []
+
+abbrev pub bare_items : List Item
+bare_items = Import (codes "./a.js") ∷ Import (codes "react") ∷ []
+
+abbrev pub bare_main : Delivery
+bare_main = file main_url bare_text bare_items
+
+-- the module is broken, and nothing of it is asked
 abbrev pub BareSpecifier : Type 0
-BareSpecifier = StandardRun main_url ((main_url, Spelled (Import (codes "./a.js") ∷ Import (codes "react") ∷ []) 33) ∷ [])
-    (entry_failed (main_url ∷ []) (codes "TypeError: https://a.test/main.js: specifier react: S4 bare and not mapped"))
+BareSpecifier = StandardRun main_url (bare_main ∷ []) (entry_failed (main_url ∷ []) (codes "TypeError: https://a.test/main.js: specifier react: S4 bare and not mapped"))
+
+-- ---- the files
+
+-- the lines of the files spell their items
+pub record FilesSpell : Type 0 where
+  pub one_print : SpellsModule (lines print_text) print_items
+  pub of_cycle_main : SpellsModule (lines cycle_main_text) cycle_main_items
+  pub of_cycle_a : SpellsModule (lines cycle_a_text) cycle_a_items
+  pub of_cycle_b : SpellsModule (lines cycle_b_text) cycle_b_items
+  pub of_missing_main : SpellsModule (lines missing_main_text) missing_main_items
+  pub of_twice_main : SpellsModule (lines twice_main_text) twice_main_items
+  pub of_twice_t : SpellsModule (lines twice_t_text) twice_t_items
+  pub of_bare_main : SpellsModule (lines bare_text) bare_items

@@ -1,14 +1,14 @@
 -- The laws of turns and runs.
-use Rattle.std.specs.Prelude.{◌≡◌, ℕ, ◌+◌, ◌<◌, true, false, List, [], ◌∷◌, map, Some, None}
+use Rattle.std.specs.Prelude.{◌≡◌, ◌+◌, ◌≤◌, ◌<◌, true, false, List, [], ◌∷◌, ◌++◌, Some, None}
 use Rattle.esm_base.specs.declared.status.Limit.{Limit}
-use Rattle.esm_base.specs.declared.status.Limit.TheVariants.{L2}
-use Rattle.esm_realm.specs.Urls.{Url, has}
+use Rattle.esm_base.specs.declared.status.Limit.TheVariants.{L2, L3}
+use Rattle.esm_realm.specs.Urls.{Text, Url, has}
 use Rattle.esm_realm.specs.Laws.{AreDistinct}
 use Rattle.esm_load.specs.Completion.{Completion, bytes_of}
-use Rattle.esm_turn.specs.Bodies.{run_bodies, Bodies}
-use Rattle.esm_turn.specs.World.{World, opening, stopped, Jobs, Tasks, Turn}
-use Rattle.esm_turn.specs.Run.{Delivery, Runs, asks, Shown, StandardRun}
-use Rattle.esm_ast.specs.ModuleText.{Item}
+use Rattle.esm_turn.specs.Bodies.{Bodies, run_item, run_bodies}
+use Rattle.esm_turn.specs.World.{World, stopped, Jobs, Tasks, Turn}
+use Rattle.esm_turn.specs.Run.{Delivery, asks, Shown, StandardRun}
+use Rattle.esm_ast.specs.ModuleText.{Item, Print, Import}
 
 -- a turn has one outcome
 abbrev pub OneTurn : Type 0
@@ -45,3 +45,10 @@ pub record StopsAtOnce : Type 0 where
 abbrev pub BytesStopFirst : Type 0
 BytesStopFirst = (w after : World) (u : Url) (c : Completion) → 16777216 < w.loading.bytes + bytes_of c → Turn w u c after
     → after ≡ record w { loading = record w.loading { bytes = w.loading.bytes + bytes_of c; stopped = Some L2 } }
+
+-- a print takes two steps, an import none. Up to 1,000,000 steps are taken, and one more stops the world, before the line is written
+pub record StepsOfItems : Type 0 where
+  pub print : (b : Bodies) (text : Text) → b.stopped ≡ None → b.steps + 2 ≤ 1000000 → run_item b (Print text) ≡ record b { steps = b.steps + 2; log = b.log ++ text ++ 10 ∷ [] }
+  pub call_stops : (b : Bodies) (text : Text) → b.stopped ≡ None → b.steps ≡ 999999 → run_item b (Print text) ≡ record b { steps = 1000000; stopped = Some L3 }
+  pub statement_stops : (b : Bodies) (text : Text) → b.stopped ≡ None → b.steps ≡ 1000000 → run_item b (Print text) ≡ record b { stopped = Some L3 }
+  pub import_takes_none : (b : Bodies) (specifier : Text) → run_item b (Import specifier) ≡ b

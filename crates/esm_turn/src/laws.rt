@@ -1,5 +1,5 @@
 // Laws of the definitions, as functions without effect.
-ghost use Rattle.esm_turn.specs.Laws.{AsksOnce, BytesStopFirst, OneStandardRun, OneTurn, OpenAsks, StoppedAsksNothing, StopsAtOnce};
+ghost use Rattle.esm_turn.specs.Laws.{AsksOnce, BytesStopFirst, OneStandardRun, OneTurn, OpenAsks, StepsOfItems, StoppedAsksNothing, StopsAtOnce};
 
 /// A turn has one outcome.
 pub fn one_turn()
@@ -26,4 +26,9 @@ pub fn limit_stops()
     ensures asks { StoppedAsksNothing }
     ensures at_once { StopsAtOnce }
     ensures bytes { BytesStopFirst }
+{}
+
+/// A print takes two steps and an import none, and step 1,000,001 stops the run.
+pub fn steps_of_items()
+    ensures { StepsOfItems }
 {}
