@@ -6,7 +6,7 @@ use Rattle.std.specs.FinSet as sets
 use Rattle.std.specs.Ordering.{is_eq}
 use Rattle.std.specs.Cmp.Lexicographic.{nat_list_cmp_total}
 use Rattle.esm_base.specs.declared.status.Limit.{Limit}
-use Rattle.esm_ast.specs.ModuleText.{Item}
+use Rattle.esm_ast.specs.declared.item.Item.{Item}
 use Rattle.esm_realm.specs.Urls.{Url, url_cmp, has}
 use Rattle.esm_realm.specs.Walk.{Mark, Visits, leaves}
 use Rattle.esm_realm.proofs.WalkBy.{visit_by, walk_found}

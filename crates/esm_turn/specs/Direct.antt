@@ -1,6 +1,7 @@
 -- The direct run, which knows no loading: the bodies of linked modules, from the files alone.
 use Rattle.std.specs.Prelude.{◌≡◌, ℕ, true, List, [], ◌∷◌, Option, Some, None, Ok}
-use Rattle.esm_ast.specs.ModuleText.{Item, requests_of}
+use Rattle.esm_ast.specs.declared.item.Item.{Item}
+use Rattle.esm_ast.specs.ModuleText.{requests_of}
 use Rattle.esm_realm.specs.Urls.{Url, has}
 use Rattle.esm_realm.specs.Walk.{Mark, IsWalk, leaves}
 use Rattle.esm_load.specs.Completion.{Completion, Spelled}

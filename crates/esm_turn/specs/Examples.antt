@@ -1,6 +1,8 @@
 -- Worked examples: the standard run of some sites, over each allowed order of their deliveries.
 use Rattle.std.specs.Prelude.{true, false, List, [], ◌∷◌, ◌++◌, codes, length, Some, None}
-use Rattle.esm_ast.specs.ModuleText.{Item, Print, Import, SpellsModule}
+use Rattle.esm_ast.specs.declared.item.Item.{Item}
+use Rattle.esm_ast.specs.declared.item.Item.TheVariants.{Print, Import}
+use Rattle.esm_ast.specs.ModuleText.{Spells}
 use Rattle.esm_base.specs.declared.status.Status.TheVariants.{Fulfilled, EntryFailed}
 use Rattle.esm_realm.specs.Urls.{Text, Url}
 use Rattle.esm_load.specs.Completion.{Spelled, Missing}
@@ -158,11 +160,11 @@ BareSpecifier = StandardRun main_url (bare_main ∷ []) (entry_failed (main_url 
 
 -- the lines of the files spell their items
 pub record FilesSpell : Type 0 where
-  pub one_print : SpellsModule (lines print_text) print_items
-  pub of_cycle_main : SpellsModule (lines cycle_main_text) cycle_main_items
-  pub of_cycle_a : SpellsModule (lines cycle_a_text) cycle_a_items
-  pub of_cycle_b : SpellsModule (lines cycle_b_text) cycle_b_items
-  pub of_missing_main : SpellsModule (lines missing_main_text) missing_main_items
-  pub of_twice_main : SpellsModule (lines twice_main_text) twice_main_items
-  pub of_twice_t : SpellsModule (lines twice_t_text) twice_t_items
-  pub of_bare_main : SpellsModule (lines bare_text) bare_items
+  pub one_print : Spells (lines print_text) print_items
+  pub of_cycle_main : Spells (lines cycle_main_text) cycle_main_items
+  pub of_cycle_a : Spells (lines cycle_a_text) cycle_a_items
+  pub of_cycle_b : Spells (lines cycle_b_text) cycle_b_items
+  pub of_missing_main : Spells (lines missing_main_text) missing_main_items
+  pub of_twice_main : Spells (lines twice_main_text) twice_main_items
+  pub of_twice_t : Spells (lines twice_t_text) twice_t_items
+  pub of_bare_main : Spells (lines bare_text) bare_items

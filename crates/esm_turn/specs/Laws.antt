@@ -8,7 +8,8 @@ use Rattle.esm_load.specs.Completion.{Completion, bytes_of}
 use Rattle.esm_turn.specs.Bodies.{Bodies, run_item, run_bodies}
 use Rattle.esm_turn.specs.World.{World, stopped, Jobs, Tasks, Turn}
 use Rattle.esm_turn.specs.Run.{Delivery, asks, Shown, StandardRun}
-use Rattle.esm_ast.specs.ModuleText.{Item, Print, Import}
+use Rattle.esm_ast.specs.declared.item.Item.{Item}
+use Rattle.esm_ast.specs.declared.item.Item.TheVariants.{Print, Import}
 
 -- a turn has one outcome
 abbrev pub OneTurn : Type 0
