@@ -1,0 +1,70 @@
+//! The command `esm`.
+#![tactic(auto)]
+
+ghost use Rattle.std.specs.Prelude.{◌≡◌, ◌<◌, [], All, IfOk, vec_len};
+
+use esm_base::{Memory, Status, Text};
+use esm_ports::{FileSource, StdSink};
+use esm_run::run;
+use std::alloc::Global;
+use std::env;
+use std::process::ExitCode;
+use std::rt::{Env, Files};
+
+/// How many sources a run is given.
+const SOURCES: usize = 16;
+
+// The words after the program's name. Where they can't be read as text there are none, which is no command.
+fn words<R: Env + AllocGlobal>(rt: &R, alloc: Global) -> Result<Vec<String>, Memory> {
+    let mut words = Vec::new(alloc);
+    if let Ok(args) = env::args(rt) {
+        for word in args.skip(1) {
+            words.push(word)?;
+        }
+    }
+    Ok(words)
+}
+
+// The files below the folder in which the program runs.
+fn files<R: Files + Clone + Drop>(rt: &R, alloc: Global) -> Result<FileSource<R>, Memory>
+    ensures { IfOk result (λ s. s ≡ []) }
+{
+    let root = Text::copy(alloc, ".")?;
+    Ok(FileSource::new(rt.clone()?, alloc, root))
+}
+
+// All sources, each over the same files.
+fn sources<R: Files + Clone + Drop>(rt: &R, alloc: Global) -> Result<Vec<FileSource<R>>, Memory>
+    ensures some { IfOk result (λ v. 0 < vec_len v) }
+    ensures fresh { IfOk result (λ v. All (λ s. s ≡ []) v.items) }
+{
+    let mut sources = Vec::new(alloc);
+    for _ in 0..SOURCES {
+        sources.push(files(rt, alloc)?)?;
+    }
+    Ok(sources)
+}
+
+fn printer<R: Print + Clone + Drop>(rt: &R) -> Result<StdSink<R>, Memory>
+    ensures { IfOk result (λ s. s ≡ 0) }
+{
+    Ok(StdSink::new(rt.clone()?))
+}
+
+fn main(rt: HostRuntime) -> ExitCode {
+    let alloc = rt.alloc();
+    let status = match (
+        words(&rt, alloc),
+        files(&rt, alloc),
+        sources(&rt, alloc),
+        printer(&rt),
+    ) {
+        (Ok(words), Ok(desk), Ok(sources), Ok(out)) => {
+            let mut desk = desk;
+            let mut out = out;
+            run(&rt, alloc, &words, &mut desk, sources, &mut out).status
+        }
+        _ => Status::Memory,
+    };
+    ExitCode::from(status.code())
+}

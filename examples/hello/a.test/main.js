@@ -1,0 +1,2 @@
+print("hello");
+print("a module text of prints, run as the standard says")
