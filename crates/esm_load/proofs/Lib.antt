@@ -3,3 +3,5 @@ pub mod Kept
 pub mod Asking
 pub mod Resolving
 pub mod LoadBy
+pub mod Grows
+pub mod Clean

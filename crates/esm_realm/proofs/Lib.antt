@@ -2,3 +2,5 @@ pub mod Urls
 pub mod WalkLaws
 pub mod LeavesOnce
 pub mod WalkBy
+pub mod Agree
+pub mod Depth

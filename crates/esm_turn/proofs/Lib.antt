@@ -4,3 +4,9 @@ pub mod Asks
 pub mod RunBy
 pub mod Sites
 pub mod StepLaws
+pub mod Agree
+pub mod Ends
+pub mod NeedsFirst
+pub mod OrderFree
+pub mod DirectLaws
+pub mod ManyImports

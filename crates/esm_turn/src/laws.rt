@@ -1,5 +1,7 @@
 // Laws of the definitions, as functions without effect.
+ghost use Rattle.esm_turn.specs.Direct.{HasDirectRun, OneDirectRun, OrderFree, OrderFreeShown};
 ghost use Rattle.esm_turn.specs.Laws.{AsksOnce, BytesStopFirst, OneStandardRun, OneTurn, OpenAsks, StepsOfItems, StoppedAsksNothing, StopsAtOnce};
+ghost use Rattle.esm_turn.specs.Needs.{NeedsFirst};
 
 /// A turn has one outcome.
 pub fn one_turn()
@@ -31,4 +33,21 @@ pub fn limit_stops()
 /// A print takes two steps and an import none, and step 1,000,001 stops the run.
 pub fn steps_of_items()
     ensures { StepsOfItems }
+{}
+
+/// Files have one direct run, and where their closure is finite they have it.
+pub fn one_direct_run()
+    ensures one { OneDirectRun }
+    ensures there { HasDirectRun }
+{}
+
+/// Whatever the order of the deliveries, a run of clean files is the direct run.
+pub fn order_free()
+    ensures world { OrderFree }
+    ensures shown { OrderFreeShown }
+{}
+
+/// What a module needs ends before it begins.
+pub fn needs_first()
+    ensures { NeedsFirst }
 {}
