@@ -39,14 +39,14 @@ has_filter p (x ∷ xs) u h = by (cases (p x)) (has_filter p xs u)
     by (inr f) rest = later (rest (rw f at h))
 
 -- something stands under the URL
-abbrev IsSettled : World → Url → Type 0
+abbrev pub IsSettled : World → Url → Type 0
 IsSettled w u = is_some (get w.loading.entries u) ≡ true
 
-unsettled_apart : (o : Option Entry) → is_unsettled o ≡ true → is_some o ≡ true → ⊥
+pub unsettled_apart : (o : Option Entry) → is_unsettled o ≡ true → is_some o ≡ true → ⊥
 unsettled_apart None e s = true≢false (sym s)
 unsettled_apart (Some x) e s = true≢false (sym e)
 
-asks_live : (stop : Option Limit) (us : List Url) (u : Url) → has (asks_by stop us) u ≡ true → (stop ≡ None) × (has us u ≡ true)
+pub asks_live : (stop : Option Limit) (us : List Url) (u : Url) → has (asks_by stop us) u ≡ true → (stop ≡ None) × (has us u ≡ true)
 asks_live None us u h = (refl, h)
 asks_live (Some limit) us u h = absurd (true≢false (sym h))
 
@@ -100,7 +100,7 @@ turn_entries {w} {u} {c} {m} (Turn.turn live q) e =
     tasks_keep (λ l. l.entries ≡ insert w.loading.entries u (entry_of u c)) (entries_steps (insert w.loading.entries u (entry_of u c))) q
     (store_entries (nat_lt 16777216 (w.loading.bytes + bytes_of c)) w.loading (bytes_of c) u c live)
 
-turn_settles : {w : World} {u : Url} {c : Completion} {m : World} (v : Url) → Turn w u c m → stopped m ≡ None → (v ≡ u) ⊎ IsSettled w v → IsSettled m v
+pub turn_settles : {w : World} {u : Url} {c : Completion} {m : World} (v : Url) → Turn w u c m → stopped m ≡ None → (v ≡ u) ⊎ IsSettled w v → IsSettled m v
 turn_settles {w} {u} {c} {m} v q e h = ap (λ es. is_some (get es v)) (turn_entries q e) ∙ some_inserted w.loading.entries u v (entry_of u c) h
 
 -- a world with an open ask isn't stopped
@@ -109,7 +109,7 @@ live_before [] w after r e = ap stopped (sym r) ∙ e
 live_before (d ∷ ds) w after r e = (asks_live (stopped w) (open_asks w.loading) d.0 r.0).0
 
 -- what was settled, or is delivered, is settled in the end
-runs_settle : (ds : List Delivery) (w after : World) (v : Url) → Runs w ds after → stopped after ≡ None → (has (urls_of ds) v ≡ true) ⊎ IsSettled w v → IsSettled after v
+pub runs_settle : (ds : List Delivery) (w after : World) (v : Url) → Runs w ds after → stopped after ≡ None → (has (urls_of ds) v ≡ true) ⊎ IsSettled w v → IsSettled after v
 runs_settle [] w after v r e (inl h) = absurd (true≢false (sym h))
 runs_settle [] w after v r e (inr h) = subst (λ w. IsSettled w v) (sym r) h
 runs_settle (d ∷ ds) w after v r e h = by h (runs_settle ds r.1 after v r.3 e)
@@ -125,7 +125,7 @@ runs_settle (d ∷ ds) w after v r e h = by h (runs_settle ds r.1 after v r.3 e)
     by (inl h) later = first (or_cases (same_url v d.0) (has (urls_of ds) v) h) later
     by (inr h) later = later (inr (turn_settles v r.2 live (inr h)))
 
-open_in : (w : World) (ds : List Delivery) (entry v : Url) → Runs (opening entry) ds w → has (asks w) v ≡ true → (has w.loading.asked v ≡ true) × (has (urls_of ds) v ≡ false)
+pub open_in : (w : World) (ds : List Delivery) (entry v : Url) → Runs (opening entry) ds w → has (asks w) v ≡ true → (has w.loading.asked v ≡ true) × (has (urls_of ds) v ≡ false)
 open_in w ds entry v r h =
     let live = asks_live (stopped w) (open_asks w.loading) v h in
     let found = has_filter (λ u. is_unsettled (get w.loading.entries u)) w.loading.asked v live.1 in
@@ -162,11 +162,11 @@ orderly_turn {w} {u} {c} q h =
     let counted = orderly_count (nat_lt 16777216 (w.loading.bytes + bytes_of c)) w.loading (bytes_of c) h in
     turn_keeps IsOrderly orderly_turns q (orderly_store (count w.loading (bytes_of c)).stopped (count w.loading (bytes_of c)) u c counted)
 
-runs_orderly : (ds : List Delivery) (w after : World) → Runs w ds after → IsOrderly w.loading → IsOrderly after.loading
+pub runs_orderly : (ds : List Delivery) (w after : World) → Runs w ds after → IsOrderly w.loading → IsOrderly after.loading
 runs_orderly [] w after r h = subst (λ w. IsOrderly w.loading) (sym r) h
 runs_orderly (d ∷ ds) w after r h = runs_orderly ds r.1 after r.3 (orderly_turn r.2 h)
 
-opening_orderly : (entry : Url) → IsOrderly (opening_loading entry)
+pub opening_orderly : (entry : Url) → IsOrderly (opening_loading entry)
 opening_orderly entry = record { asked_once = (refl, tt); few = omega arith; visited_once = λ s root visited e. none s root visited e }
   where
     none : (s : ℕ) (root : Url) (visited : List Url) → slice_get (Asked ∷ []) s ≡ Some (Open root visited) → AreDistinct visited

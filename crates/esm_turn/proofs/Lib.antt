@@ -10,3 +10,4 @@ pub mod NeedsFirst
 pub mod OrderFree
 pub mod DirectLaws
 pub mod ManyImports
+pub mod Deliveries

@@ -1,6 +1,6 @@
 // Laws of the definitions, as functions without effect.
 ghost use Rattle.esm_turn.specs.Direct.{HasDirectRun, OneDirectRun, OrderFree, OrderFreeShown};
-ghost use Rattle.esm_turn.specs.Laws.{AsksOnce, BytesStopFirst, OneStandardRun, OneTurn, OpenAsks, StepsOfItems, StoppedAsksNothing, StopsAtOnce};
+ghost use Rattle.esm_turn.specs.Laws.{AsksOnce, BytesStopFirst, DeliversAsks, DeliversOnce, FewDeliveries, OneStandardRun, OneTurn, OpenAsks, StepsOfItems, StoppedAsksNothing, StopsAtOnce};
 ghost use Rattle.esm_turn.specs.Needs.{NeedsFirst};
 
 /// A turn has one outcome.
@@ -16,6 +16,13 @@ pub fn one_standard_run()
 /// An open ask was asked and isn't delivered.
 pub fn open_asks()
     ensures { OpenAsks }
+{}
+
+/// No URL is delivered twice, each was asked, and while an ask is open there are fewer than 4,096 deliveries.
+pub fn deliveries()
+    ensures once { DeliversOnce }
+    ensures asked { DeliversAsks }
+    ensures few { FewDeliveries }
 {}
 
 /// No URL is asked twice.
