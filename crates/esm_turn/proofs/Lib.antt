@@ -4,3 +4,4 @@ pub mod Asks
 pub mod RunBy
 pub mod Sites
 pub mod StepLaws
+pub mod EngineLemmas
