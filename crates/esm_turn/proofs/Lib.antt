@@ -5,3 +5,4 @@ pub mod RunBy
 pub mod Sites
 pub mod StepLaws
 pub mod EngineLemmas
+pub mod Told
