@@ -11,3 +11,5 @@ pub mod OrderFree
 pub mod DirectLaws
 pub mod ManyImports
 pub mod Deliveries
+pub mod EngineLemmas
+pub mod Told

@@ -1,6 +1,8 @@
 pub mod Bodies
 pub mod World
 pub mod Run
+pub mod Engine
+pub mod Stands
 pub mod Direct
 pub mod Needs
 pub mod Laws

@@ -1,0 +1,86 @@
+-- What a machine tells where it stands for a list of deliveries.
+use Rattle.std.proofs.Common.{◌≡◌, ℕ, List, [], ◌∷◌, ◌++◌, Bool, true, false, Some, None, Option, Result, Ok, Err, refl, ap, subst, sym, ◌∙◌}
+use Rattle.std.specs.Prelude.{is_some, slice_get, option_map, codes, ◌≢◌}
+use Rattle.esm_base.specs.declared.status.Limit.{Limit}
+use Rattle.esm_base.specs.declared.status.Status.{Status}
+use Rattle.esm_base.specs.declared.status.Status.TheVariants as statuses
+use Rattle.esm_realm.specs.Urls.{Text, Url, has}
+use Rattle.esm_load.specs.Completion.{Completion}
+use Rattle.esm_load.specs.Loading.{Loading, LoadState, Asked, Open, Whole, Thrown}
+use Rattle.esm_load.specs.Arrival.{open_asks}
+use Rattle.esm_turn.specs.World.{World, opening, stopped, Turn}
+use Rattle.esm_turn.specs.Run.{Delivery, Runs, asks, asks_by, Shown, StandardRun, shown, Ending, Stopped, Uncaught, Done, Pending, ending, ending_by, status_of, limit_name, last_line_by, last_line_of}
+use Rattle.esm_turn.specs.Engine.{IsRunning}
+use Rattle.esm_turn.specs.Stands.{State, IsLive, IsHalted, ShowsBy, Shows, Stands, StandsOn, MayTake, asks_by_stop, asks_of, ending_by_stop, ending_of, StoppedAs}
+use Rattle.esm_turn.specs.declared.turn_end.TurnEnd.{TurnEnd}
+use Rattle.esm_turn.specs.declared.turn_end.TurnEnd.TheVariants as ends
+use Rattle.esm_turn.proofs.OneRun.{run_one}
+
+-- what is told is what the world shows
+told : (entry : Url) (ds : List Delivery) (w : World) (what : Shown) → Runs (opening entry) ds w → StandardRun entry ds what → shown w ≡ what
+told entry ds w what runs std = run_one entry ds (shown w) what (w, runs, refl) std
+
+log_by : (o : Option TurnEnd) (m : State) (w : World) → ShowsBy o m w → m.log ≡ w.bodies.log
+log_by None m w h = sym h.bodies.written
+log_by (Some (ends.Limit l)) m w h = sym h.written
+log_by (Some ends.Memory) m w h = absurd h
+
+pub log_told : (m : State) (entry : Url) (ds : List Delivery) (what : Shown) → Stands entry m ds → StandardRun entry ds what → m.log ≡ what.log
+log_told m entry ds what s std = log_by m.stopped m s.0 s.2 ∙ ap (λ s. s.log) (told entry ds s.0 what s.1 std)
+
+asks_shown : (o : Option TurnEnd) (m : State) (w : World) → ShowsBy o m w → asks_by_stop o m.loading ≡ asks w
+asks_shown None m w h = ap open_asks (sym h.loading) ∙ sym (ap (λ s. asks_by s (open_asks w.loading)) h.live)
+asks_shown (Some (ends.Limit l)) m w h = sym (ap (λ s. asks_by s (open_asks w.loading)) h.stopped)
+asks_shown (Some ends.Memory) m w h = absurd h
+
+pub asks_told : (m : State) (entry : Url) (ds : List Delivery) (what : Shown) → Stands entry m ds → StandardRun entry ds what → asks_of m ≡ what.asks
+asks_told m entry ds what s std = asks_shown m.stopped m s.0 s.2 ∙ ap (λ s. s.asks) (told entry ds s.0 what s.1 std)
+
+ending_shown : (o : Option TurnEnd) (m : State) (w : World) → ShowsBy o m w → ending_by_stop o m.loading ≡ ending w
+ending_shown None m w h =
+    ap (λ l. ending_by None (open_asks l) (slice_get l.loads 0)) (sym h.loading)
+    ∙ sym (ap (λ s. ending_by s (asks_by s (open_asks w.loading)) (slice_get w.loading.loads 0)) h.live)
+ending_shown (Some (ends.Limit l)) m w h = sym (ap (λ s. ending_by s (asks_by s (open_asks w.loading)) (slice_get w.loading.loads 0)) h.stopped)
+ending_shown (Some ends.Memory) m w h = absurd h
+
+pub status_told : (m : State) (entry : Url) (ds : List Delivery) (what : Shown) → Stands entry m ds → StandardRun entry ds what → option_map status_of (ending_of m) ≡ what.status
+status_told m entry ds what s std = ap (λ e. option_map status_of e) (ending_shown m.stopped m s.0 s.2) ∙ ap (λ s. s.status) (told entry ds s.0 what s.1 std)
+
+pub ended_told : (m : State) (entry : Url) (ds : List Delivery) (what : Shown) → Stands entry m ds → StandardRun entry ds what → is_some (ending_of m) ≡ what.ended
+ended_told m entry ds what s std = ap (λ e. is_some e) (ending_shown m.stopped m s.0 s.2) ∙ ap (λ s. s.ended) (told entry ds s.0 what s.1 std)
+
+pub last_line_told : (m : State) (entry : Url) (ds : List Delivery) (what : Shown) → Stands entry m ds → StandardRun entry ds what → last_line_by (ending_of m) ≡ what.last_line
+last_line_told m entry ds what s std = ap last_line_by (ending_shown m.stopped m s.0 s.2) ∙ ap (λ s. s.last_line) (told entry ds s.0 what s.1 std)
+
+-- ---- the limit
+
+not_limit_by : (us : List Url) (load : Option LoadState) → option_map status_of (ending_by None us load) ≡ Some statuses.Limit → ⊥
+not_limit_by (u ∷ us) load e = cc
+not_limit_by [] None e = cc
+not_limit_by [] (Some Asked) e = cc
+not_limit_by [] (Some (Open root visited)) e = cc
+not_limit_by [] (Some (Whole root)) e = cc
+not_limit_by [] (Some (Thrown thrown)) e = cc
+
+stopped_by : (o : Option TurnEnd) (m : State) (w : World) (what : Shown) → ShowsBy o m w → option_map status_of (ending_by_stop o m.loading) ≡ what.status → last_line_by (ending_by_stop o m.loading) ≡ what.last_line → StoppedAs o what
+stopped_by None m w what h e f = λ g. not_limit_by (open_asks m.loading) (slice_get m.loading.loads 0) (e ∙ g)
+stopped_by (Some (ends.Limit l)) m w what h e f = (sym e, sym f)
+stopped_by (Some ends.Memory) m w what h e f = absurd h
+
+pub stopped_told : (m : State) (entry : Url) (ds : List Delivery) (what : Shown) → Stands entry m ds → StandardRun entry ds what → StoppedAs m.stopped what
+stopped_told m entry ds what s std = stopped_by m.stopped m s.0 what s.2 (status_told m entry ds what s std) (last_line_told m entry ds what s std)
+
+-- ---- the first list, and one delivery more
+
+pub stands_new : (entry : Url) (m : State) → IsLive m.loading m.log m.steps (opening entry) → m.stopped ≡ None → Stands entry m []
+stands_new entry m live e = (opening entry, refl, subst (λ o. ShowsBy o m (opening entry)) (sym e) live)
+
+runs_more : (ds : List Delivery) (w mid after : World) (u : Url) (c : Completion) → Runs w ds mid → has (asks mid) u ≡ true → Turn mid u c after → Runs w (ds ++ (u, c) ∷ []) after
+runs_more [] w mid after u c r h t = (subst (λ w. has (asks w) u ≡ true) r h, after, subst (λ w. Turn w u c after) r t, refl)
+runs_more (d ∷ ds) w mid after u c r h t = (r.0, r.1, r.2, runs_more ds r.1 mid after u c r.3 h t)
+
+pub stands_on : (entry : Url) (old new : State) (ds : List Delivery) (w after : World) (u : Url) (c : Completion) → Runs (opening entry) ds w → IsLive old.loading old.log old.steps w → has (open_asks old.loading) u ≡ true → Turn w u c after → Shows new after → Stands entry new (ds ++ (u, c) ∷ [])
+stands_on entry old new ds w after u c r live h t shows = (after, runs_more ds (opening entry) w after u c r asked t, shows)
+  where
+    asked : has (asks w) u ≡ true
+    asked = ap (λ us. has us u) (sym (asks_shown None old w live)) ∙ h
