@@ -7,3 +7,4 @@ pub mod Direct
 pub mod Needs
 pub mod Laws
 pub mod Examples
+pub mod MachineStub

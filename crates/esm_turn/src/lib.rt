@@ -4,6 +4,8 @@
 mod engine;
 pub mod examples;
 pub mod laws;
+mod machine;
 mod turn_end;
 
+pub use machine::Machine;
 pub use turn_end::TurnEnd;
