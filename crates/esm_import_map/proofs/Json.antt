@@ -1,0 +1,52 @@
+-- The JSON value that a text is.
+use Rattle.std.proofs.Common.{◌≡◌, ℕ, List, length, nat_le, Bool, true, false, ◌&&◌, codes, Result, Bor, string_bytes, nat_cmp, option_copied, subst, Option, Some, None, option_map, refl, ap, sym, ◌∙◌, if◌then◌else◌}
+use Rattle.std.proofs.lemmas.Str.{IsUtf8-from_is_utf8, is_utf8-from_IsUtf8}
+use Rattle.std.specs.Str.{IsUtf8, is_utf8}
+use Rattle.serde_json.specs.Data.{Data}
+use Rattle.serde_json.specs.Read.{read}
+use Rattle.serde_json.specs.Data.{Members}
+use Rattle.serde_json.specs.Find.{as_object, get_member}
+use Rattle.serde_json.specs.View.{view, members_view}
+use Rattle.serde_json.specs.declared.value.Value.{Value}
+use Rattle.serde_json.proofs.Views.{Entry, view_of_ref, view-lookup}
+use Rattle.std.specs.BTreeMap.{is_at}
+use Rattle.std.specs.Cmp.Lexicographic.{slice_cmp}
+use Rattle.std.specs.Map.{lookup}
+use Rattle.url.specs.Parts.{Parts}
+use Rattle.esm_import_map.specs.ImportMap.{Maps}
+use Rattle.esm_import_map.specs.Reading.{json_of, without_mark, import_map_of, of_json, of_object, of_parts, part_of, Tells}
+use Rattle.esm_import_map.specs.declared.fault.MapReadEnd.{MapReadEnd}
+
+refused_by : (b u : Bool) (text : List ℕ) → is_utf8 text ≡ u → (IsUtf8 text → read text ≡ None) → (if b && u then read text else None) ≡ None
+refused_by true true text is none = none (IsUtf8-from_is_utf8 text is)
+refused_by true false text is none = refl
+refused_by false u text is none = refl
+
+-- a text that isn't read
+pub json_of-refused : (bytes text : List ℕ) → text ≡ without_mark bytes → (IsUtf8 text → read text ≡ None) → None ≡ json_of bytes
+json_of-refused bytes text same none =
+    let P : List ℕ → Type 0 = λ t. IsUtf8 t → read t ≡ None in
+    sym (refused_by (nat_le (length bytes) 1048576) (is_utf8 (without_mark bytes)) (without_mark bytes) refl (subst P same none))
+
+read_by : (b u : Bool) (text : List ℕ) → b ≡ true → u ≡ true → (if b && u then read text else None) ≡ read text
+read_by b u text e f = rw (e, f)
+
+-- a text that is read
+pub json_of-read : (bytes text : List ℕ) (d : Data) → text ≡ without_mark bytes → nat_le (length bytes) 1048576 ≡ true → IsUtf8 text × (read text ≡ Some d) → Some d ≡ json_of bytes
+json_of-read bytes text d same short p =
+    let P : List ℕ → Type 0 = λ t. IsUtf8 t × (read t ≡ Some d) in
+    let q : P (without_mark bytes) = subst P same p in
+    sym (read_by (nat_le (length bytes) 1048576) (is_utf8 (without_mark bytes)) (without_mark bytes) short (is_utf8-from_IsUtf8 _ q.0) ∙ q.1)
+
+-- the value under a name
+pub named : (name : List ℕ) (found : Option (Bor Value)) (es : List Entry) → option_copied found ≡ lookup (is_at (λ k. slice_cmp nat_cmp name (string_bytes k))) es → option_map (λ v. view v.now) found ≡ get_member name (members_view es)
+named name found es is = view_of_ref found ∙ ap (option_map view) is ∙ view-lookup name es
+
+-- what the two parts say is what the text says
+pub tells_parts : (r : Result Maps MapReadEnd) (base : Parts) (bytes : List ℕ) (d : Data) (ms : Members) (imports scopes : Option Data) → Some d ≡ json_of bytes → Some ms ≡ as_object d
+    → imports ≡ get_member (codes "imports") ms → scopes ≡ get_member (codes "scopes") ms → Tells r (of_parts base (part_of imports) (part_of scopes)) → Tells r (import_map_of bytes base)
+tells_parts r base bytes d ms imports scopes e f g h t =
+    let P : Option Data → Type 0 = λ o. Tells r (of_json base o) in
+    let Q : Option Members → Type 0 = λ o. Tells r (of_object base o) in
+    let u : Tells r (of_parts base (part_of (get_member (codes "imports") ms)) (part_of (get_member (codes "scopes") ms))) = rw (sym g, sym h) t in
+    subst P e (subst Q f u)

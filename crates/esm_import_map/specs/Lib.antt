@@ -1,0 +1,4 @@
+pub mod ImportMap
+pub mod Reading
+pub mod Specifier
+pub mod TextMap

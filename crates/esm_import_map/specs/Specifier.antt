@@ -1,0 +1,26 @@
+-- The URL that a specifier is.
+use Rattle.std.specs.Prelude.{ℕ, List, codes, Bool, ◌||◌, Option, Some, None, nat_eq, if◌then◌else◌}
+use Rattle.std.specs.List.{starts_with, ends_with}
+use Rattle.std.specs.Result.{result_ok}
+use Rattle.url.specs.Parser.{parse_url}
+use Rattle.url.specs.Parts.{Parts}
+
+-- URL Standard, URL parser: the URL that a text is, against a base where there is one
+abbrev pub url_of : Option Parts → List ℕ → Option Parts
+url_of base text = result_ok (parse_url base text)
+
+-- the text begins with another
+abbrev pub begins_with : List ℕ → List ℕ → Bool
+begins_with text front = starts_with nat_eq text front
+
+-- the text ends in `/`
+abbrev pub ends_in_slash : List ℕ → Bool
+ends_in_slash text = ends_with nat_eq text (codes "/")
+
+-- the text begins with `/`, `./` or `../`
+abbrev pub is_relative : List ℕ → Bool
+is_relative text = begins_with text (codes "/") || begins_with text (codes "./") || begins_with text (codes "../")
+
+-- HTML, resolve a URL-like module specifier
+abbrev pub url_like : Parts → List ℕ → Option Parts
+url_like base specifier = url_of (if is_relative specifier then Some base else None) specifier

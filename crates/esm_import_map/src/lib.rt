@@ -1,0 +1,16 @@
+//! What an import map says: a text is read into two finite maps, or refused.
+#![tactic(auto)]
+
+mod fault;
+mod import_map;
+mod reading;
+mod specifier;
+mod text_map;
+
+pub use fault::{MapFault, MapReadEnd};
+pub use import_map::{ImportMap, SpecifierMap};
+pub use specifier::{absolute, against, ends_in_slash, is_relative, url_like};
+pub use text_map::TextMap;
+
+#[cfg(test)]
+mod tests;

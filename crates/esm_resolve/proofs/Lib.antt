@@ -1,0 +1,10 @@
+mod Members
+mod Remaining
+mod Candidates
+mod Searching
+mod Naming
+mod Walking
+mod KeyLemmas
+mod Sound
+mod SharedSetLaw
+mod SharedSetEnds

@@ -1,0 +1,4 @@
+pub mod Greatest
+pub mod Longest
+pub mod Prefixes
+pub mod Usable

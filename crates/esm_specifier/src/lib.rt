@@ -1,0 +1,12 @@
+//! What a specifier resolves to, by an import map and the URL of the module in which it stands.
+#![tactic(auto)]
+
+mod fault;
+mod lookup;
+mod resolving;
+
+pub use fault::{SpecEnd, SpecFault};
+pub use resolving::{is_canonical, resolve};
+
+#[cfg(test)]
+mod tests;

@@ -1,0 +1,127 @@
+// Resolves a specifier.
+ghost use Rattle.std.specs.Prelude.{◌≡◌, ◌≤◌, true, take, length, IfOk, option_copied, Ok};
+ghost use Rattle.std.specs.Str.{IsCharBoundary};
+ghost use Rattle.esm_specifier.specs.Resolution as spec;
+
+use crate::fault::{SpecEnd, SpecFault};
+use crate::lookup::find;
+use esm_base::{Memory, Text};
+use esm_import_map::{ImportMap, absolute, against, url_like};
+use std::alloc::Global;
+use url::Url;
+
+// The longest URL, in bytes.
+const LONGEST: usize = 8192;
+
+/// Whether a text is canonical: it parses to a URL whose text it is.
+pub fn is_canonical(alloc: Global, text: &str) -> Result<bool, Memory>
+    ensures { IfOk result (λ b. b ≡ spec.is_canonical text.now) }
+{
+    match absolute(alloc, text)? {
+        Some(url) => Ok(url.as_str() == text),
+        None => Ok(false),
+    }
+}
+
+// The answer, if it may be used.
+fn usable(alloc: Global, text: &str) -> Result<Text, SpecEnd>
+    ensures { spec.Tells result (spec.usable (Ok text.now)) }
+{
+    if text.len() > LONGEST || !is_canonical(alloc, text)? {
+        return Err(SpecEnd::Fault(SpecFault::S5));
+    }
+    Ok(Text::copy(alloc, text)?)
+}
+
+// What the address of a key leads to.
+fn follow(
+    alloc: Global,
+    normal: &str,
+    key_len: usize,
+    address: &Option<Url>,
+) -> Result<Text, SpecEnd>
+    requires { IsCharBoundary normal.now key_len }
+    ensures { spec.Tells result (spec.usable (spec.by_address normal.now (take key_len normal.now) address.now)) }
+{
+    let Some(address) = address else {
+        return Err(SpecEnd::Fault(SpecFault::S1));
+    };
+    if key_len == normal.len() {
+        return usable(alloc, address.as_str());
+    }
+    let (_, rest) = normal.split_at(key_len);
+    let Some(url) = against(address, rest)? else {
+        return Err(SpecEnd::Fault(SpecFault::S2));
+    };
+    let (text, front) = (url.as_str().as_bytes(), address.as_str().as_bytes());
+    if !text.starts_with(front) {
+        return Err(SpecEnd::Fault(SpecFault::S3));
+    }
+    usable(alloc, url.as_str())
+}
+
+// What a specifier without a match resolves to.
+fn by_itself(alloc: Global, url: Option<&Url>) -> Result<Text, SpecEnd>
+    ensures { spec.Tells result (spec.usable (spec.by_itself (option_copied url.entry))) }
+{
+    match url {
+        Some(url) => usable(alloc, url.as_str()),
+        None => Err(SpecEnd::Fault(SpecFault::S4)),
+    }
+}
+
+// What a specifier resolves to, before the answer is looked at: by its URL, if it is one, and its normal text.
+fn resolve_normal(
+    alloc: Global,
+    map: &ImportMap,
+    referrer: &str,
+    url: Option<&Url>,
+    normal: &str,
+) -> Result<Text, SpecEnd>
+    ensures { spec.Tells result (spec.usable (spec.resolved map.now referrer.now (option_copied url.entry) normal.now)) }
+{
+    let prefixes = match url {
+        Some(url) => url.is_special(),
+        None => true,
+    };
+    match find(map, referrer, prefixes, normal) {
+        Some(found) => follow(alloc, normal, found.key_len, found.address),
+        None => by_itself(alloc, url),
+    }
+}
+
+// The URL to which a specifier resolves.
+fn find_url(
+    alloc: Global,
+    map: &ImportMap,
+    referrer: &str,
+    specifier: &str,
+) -> Result<Text, SpecEnd>
+    requires { spec.IsCanonicalText referrer.now }
+    ensures { spec.Tells result (spec.resolution_of_specifier map.now referrer.now specifier.now) }
+{
+    let Some(base) = absolute(alloc, referrer)? else {
+        unreachable!()
+    };
+    match url_like(alloc, &base, specifier)? {
+        Some(url) => resolve_normal(alloc, map, referrer, Some(&url), url.as_str()),
+        None => resolve_normal(alloc, map, referrer, None, specifier),
+    }
+}
+
+/// The URL to which a specifier resolves in the module at `referrer`: HTML's "resolve a module specifier". It is
+/// refused with S1 to S5 exactly where `resolution_of_specifier` says so.
+///
+/// The answer is canonical and at most 8,192 bytes long.
+pub fn resolve(
+    alloc: Global,
+    map: &ImportMap,
+    referrer: &str,
+    specifier: &str,
+) -> Result<Text, SpecEnd>
+    requires { spec.IsCanonicalText referrer.now }
+    ensures told { spec.Tells result (spec.resolution_of_specifier map.now referrer.now specifier.now) }
+    ensures usable { IfOk result (λ url. (length url ≤ 8192) × spec.IsCanonicalText url) }
+{
+    find_url(alloc, map, referrer, specifier)
+}
