@@ -5,3 +5,4 @@ pub mod Resolving
 pub mod LoadBy
 pub mod Grows
 pub mod Clean
+pub mod NoLimit

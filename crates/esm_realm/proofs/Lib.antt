@@ -4,3 +4,5 @@ pub mod LeavesOnce
 pub mod WalkBy
 pub mod Agree
 pub mod Depth
+pub mod ByNumber
+pub mod Weigh
