@@ -6,3 +6,5 @@ pub mod Sites
 pub mod StepLaws
 pub mod EngineLemmas
 pub mod Told
+pub mod LeavingSteps
+pub mod BodySteps

@@ -3,6 +3,7 @@ pub mod World
 pub mod Run
 pub mod Engine
 pub mod Stands
+pub mod Leaving
 pub mod Direct
 pub mod Needs
 pub mod Laws

@@ -1,0 +1,143 @@
+-- Running the bodies of what a walk has left, by the ids of its modules.
+use Rattle.std.proofs.Common.{◌≡◌, ℕ, suc, ◌+◌, ◌<◌, ◌≤◌, Bool, true, false, List, [], ◌∷◌, ◌++◌, length, drop, get_or, Option, Some, None, Result, Ok, Err, refl, ap, subst, sym, ◌∙◌, inl, inr, add-one, drop-cons}
+use Rattle.std.specs.Prelude.{◌⊎◌, slice_get, map, filter}
+use Rattle.esm_base.specs.declared.status.Limit.{Limit}
+use Rattle.esm_base.specs.declared.module_id.ModuleId.{ModuleId}
+use Rattle.esm_ast.specs.declared.item.Item.{Item}
+use Rattle.esm_realm.specs.Urls.{Text, Url}
+use Rattle.esm_realm.proofs.Urls.{cases}
+use Rattle.esm_turn.specs.Bodies.{Bodies, run_items, run_body, run_bodies, begins, ends, unless, Begins, Ends}
+use Rattle.esm_turn.specs.declared.turn_end.TurnEnd.{TurnEnd}
+use Rattle.esm_turn.specs.declared.turn_end.TurnEnd.TheVariants as stops
+use Rattle.esm_turn.specs.Engine.{IsRunning, IsStopped, Ran}
+use Rattle.esm_turn.specs.Leaving.{AreIdsOf}
+use Rattle.esm_turn.proofs.EngineLemmas.{drop_at_end}
+
+-- ---- one body
+
+begun_runs : (log : Text) (steps : ℕ) (b : Bodies) (x : Url) → IsRunning log steps b → IsRunning log steps (begins b x)
+begun_runs log steps b x r = record { live = r.live; written = r.written; taken = r.taken }
+
+ends_live : (b : Bodies) (x : Url) → b.stopped ≡ None → ends b x ≡ record b { events = b.events ++ Ends x ∷ [] }
+ends_live b x e = ap (λ s. unless s b (record b { events = b.events ++ Ends x ∷ [] })) e
+
+ends_stopped : (b : Bodies) (x : Url) (limit : Limit) → b.stopped ≡ Some limit → ends b x ≡ b
+ends_stopped b x limit e = ap (λ s. unless s b (record b { events = b.events ++ Ends x ∷ [] })) e
+
+ended_runs : (log : Text) (steps : ℕ) (b : Bodies) (x : Url) → IsRunning log steps b → IsRunning log steps (ends b x)
+ended_runs log steps b x r = subst (λ c. IsRunning log steps c) (sym (ends_live b x r.live)) (record { live = r.live; written = r.written; taken = r.taken })
+
+ended_stops : (limit : Limit) (log : Text) (b : Bodies) (x : Url) → IsStopped limit log b → IsStopped limit log (ends b x)
+ended_stops limit log b x s = subst (λ c. IsStopped limit log c) (sym (ends_stopped b x limit s.stopped)) s
+
+bodies_live : (body : Url → List Item) (x : Url) (xs : List Url) (b : Bodies) → b.stopped ≡ None → run_bodies body (x ∷ xs) b ≡ run_bodies body xs (run_body body b x)
+bodies_live body x xs b e = ap (λ s. unless s b (run_bodies body xs (run_body body b x))) e
+
+bodies_stopped : (body : Url → List Item) (xs : List Url) (b : Bodies) (limit : Limit) → b.stopped ≡ Some limit → run_bodies body xs b ≡ b
+bodies_stopped body [] b limit e = refl
+bodies_stopped body (x ∷ xs) b limit e = ap (λ s. unless s b (run_bodies body xs (run_body body b x))) e
+
+-- ---- one body after the other
+
+module _ (body : Url → List Item) (is : Url → Bool) (nothing : (u : Url) → is u ≡ false → body u ≡ []) where
+  -- where no module stands nothing runs
+  empty_runs : (log : Text) (steps : ℕ) (b : Bodies) (x : Url) → is x ≡ false → IsRunning log steps b → IsRunning log steps (run_body body b x)
+  empty_runs log steps b x n r = subst (λ items. IsRunning log steps (ends (run_items items (begins b x)) x)) (sym (nothing x n)) (ended_runs log steps (begins b x) x (begun_runs log steps b x r))
+
+  -- these ids are what is left to run, and that leads where all leads
+  pub record AreLeft (log : Text) (steps : ℕ) (urls : List Url) (ids : List ModuleId) (all : List Url) (b : Bodies) : Type 0 where
+    pub rest : List Url
+    pub are : AreIdsOf urls ids (filter is rest)
+    pub mid : Bodies
+    pub running : IsRunning log steps mid
+    pub leads : run_bodies body rest mid ≡ run_bodies body all b
+
+  -- the next is a module
+  record IsNext (log : Text) (steps : ℕ) (us : List Url) (u : Url) (all : List Url) (b : Bodies) : Type 0 where
+    pub rest : List Url
+    pub are : filter is rest ≡ us
+    pub mid : Bodies
+    pub running : IsRunning log steps mid
+    pub leads : run_bodies body (u ∷ rest) mid ≡ run_bodies body all b
+
+  next_module : (log : Text) (steps : ℕ) (us : List Url) (u : Url) (all : List Url) (b : Bodies) → IsRunning log steps b → filter is all ≡ u ∷ us → IsNext log steps us u all b
+  next_module log steps us u [] b r e = cc
+  next_module log steps us u (x ∷ xs) b r e = by (cases (is x)) (λ c s f. next_module log steps us u xs c s f)
+    where
+      by : (is x ≡ true) ⊎ (is x ≡ false) → ((c : Bodies) → IsRunning log steps c → filter is xs ≡ u ∷ us → IsNext log steps us u xs c) → IsNext log steps us u (x ∷ xs) b
+      by (inl t) later =
+          let f : x ∷ filter is xs ≡ u ∷ us = rw t at e in
+          let same : x ≡ u = cc in
+          record { rest = xs; are = cc; mid = b; running = r; leads = ap (λ v. run_bodies body (v ∷ xs) b) (sym same) }
+      by (inr n) later =
+          let f : filter is xs ≡ u ∷ us = rw n at e in
+          let i = later (run_body body b x) (empty_runs log steps b x n r) f in
+          record { rest = i.rest; are = i.are; mid = i.mid; running = i.running; leads = i.leads ∙ sym (bodies_live body x xs b r.live) }
+
+  no_module : (log : Text) (steps : ℕ) (all : List Url) (b : Bodies) → IsRunning log steps b → filter is all ≡ [] → IsRunning log steps (run_bodies body all b)
+  no_module log steps [] b r e = r
+  no_module log steps (x ∷ xs) b r e = by (cases (is x)) (λ c s f. no_module log steps xs c s f)
+    where
+      by : (is x ≡ true) ⊎ (is x ≡ false) → ((c : Bodies) → IsRunning log steps c → filter is xs ≡ [] → IsRunning log steps (run_bodies body xs c)) → IsRunning log steps (run_bodies body (x ∷ xs) b)
+      by (inl t) later = let f : x ∷ filter is xs ≡ [] = rw t at e in cc
+      by (inr n) later =
+          let f : filter is xs ≡ [] = rw n at e in
+          subst (λ c. IsRunning log steps c) (sym (bodies_live body x xs b r.live)) (later (run_body body b x) (empty_runs log steps b x n r) f)
+
+  pub left_begins : (log : Text) (steps : ℕ) (urls : List Url) (ids : List ModuleId) (all : List Url) (b : Bodies) → AreIdsOf urls ids (filter is all) → IsRunning log steps b → AreLeft log steps urls ids all b
+  left_begins log steps urls ids all b a r = record { rest = all; are = a; mid = b; running = r; leads = refl }
+
+  -- the id at the front is that of the next module
+  record IsFront (urls : List Url) (id : ModuleId) (ids : List ModuleId) (us : List Url) : Type 0 where
+    pub u : Url
+    pub others : List Url
+    pub all : us ≡ u ∷ others
+    pub at : slice_get urls id.0 ≡ Some u
+    pub are : AreIdsOf urls ids others
+
+  front : (urls : List Url) (id : ModuleId) (ids : List ModuleId) (us : List Url) → AreIdsOf urls (id ∷ ids) us → IsFront urls id ids us
+  front urls id ids [] a = cc
+  front urls id ids (u ∷ us) a = record { u = u; others = us; all = refl; at = cc; are = cc }
+
+  -- one body more
+  pub left_goes_on : (log new_log : Text) (steps new_steps : ℕ) (urls : List Url) (id : ModuleId) (ids : List ModuleId) (items : List Item) (all : List Url) (b : Bodies)
+      → ((u : Url) → slice_get urls id.0 ≡ Some u → items ≡ body u)
+      → ((c : Bodies) → IsRunning log steps c → IsRunning new_log new_steps (run_items items c))
+      → AreLeft log steps urls (id ∷ ids) all b → AreLeft new_log new_steps urls ids all b
+  left_goes_on log new_log steps new_steps urls id ids items all b is_body ran a =
+      let f = front urls id ids (filter is a.rest) a.are in
+      let n = next_module log steps f.others f.u a.rest a.mid a.running f.all in
+      let begun : IsRunning log steps (begins n.mid f.u) = begun_runs log steps n.mid f.u n.running in
+      let runs : IsRunning new_log new_steps (run_body body n.mid f.u) =
+        subst (λ items. IsRunning new_log new_steps (ends (run_items items (begins n.mid f.u)) f.u)) (is_body f.u f.at) (ended_runs new_log new_steps (run_items items (begins n.mid f.u)) f.u (ran (begins n.mid f.u) begun)) in
+      record {
+        rest = n.rest;
+        are = subst (λ us. AreIdsOf urls ids us) (sym n.are) f.are;
+        mid = run_body body n.mid f.u;
+        running = runs;
+        leads = sym (bodies_live body f.u n.rest n.mid n.running.live) ∙ n.leads ∙ a.leads;
+      }
+
+  -- a body that doesn't end
+  pub left_ends : (end : TurnEnd) (log new_log : Text) (steps new_steps : ℕ) (urls : List Url) (id : ModuleId) (ids : List ModuleId) (items : List Item) (all : List Url) (b : Bodies)
+      → ((u : Url) → slice_get urls id.0 ≡ Some u → items ≡ body u)
+      → ((c : Bodies) → IsRunning log steps c → Ran (Err end) new_log new_steps (run_items items c))
+      → AreLeft log steps urls (id ∷ ids) all b → Ran (Err end) new_log new_steps (run_bodies body all b)
+  left_ends stops.Memory log new_log steps new_steps urls id ids items all b is_body ran a = tt
+  left_ends (stops.Limit limit) log new_log steps new_steps urls id ids items all b is_body ran a =
+      let f = front urls id ids (filter is a.rest) a.are in
+      let n = next_module log steps f.others f.u a.rest a.mid a.running f.all in
+      let begun : IsRunning log steps (begins n.mid f.u) = begun_runs log steps n.mid f.u n.running in
+      let stop : IsStopped limit new_log (run_body body n.mid f.u) =
+        subst (λ items. IsStopped limit new_log (ends (run_items items (begins n.mid f.u)) f.u)) (is_body f.u f.at) (ended_stops limit new_log (run_items items (begins n.mid f.u)) f.u (ran (begins n.mid f.u) begun)) in
+      let e : run_bodies body all b ≡ run_body body n.mid f.u =
+        sym a.leads ∙ sym n.leads ∙ bodies_live body f.u n.rest n.mid n.running.live ∙ bodies_stopped body n.rest (run_body body n.mid f.u) limit stop.stopped in
+      subst (λ c. IsStopped limit new_log c) (sym e) stop
+
+  -- no body is left
+  pub left_done : (log : Text) (steps : ℕ) (urls : List Url) (all : List Url) (b : Bodies) → AreLeft log steps urls [] all b → IsRunning log steps (run_bodies body all b)
+  left_done log steps urls all b a = subst (λ c. IsRunning log steps c) a.leads (no_module log steps a.rest a.mid a.running (none (filter is a.rest) a.are))
+    where
+      none : (us : List Url) → AreIdsOf urls [] us → us ≡ []
+      none [] e = refl
+      none (u ∷ us) e = cc
