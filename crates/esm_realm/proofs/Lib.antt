@@ -2,3 +2,4 @@ pub mod Urls
 pub mod WalkLaws
 pub mod LeavesOnce
 pub mod WalkBy
+pub mod Sounds
