@@ -1,11 +1,11 @@
 -- The steps of a walk by ids.
 use mathlib.Core.Bool.{true≢false}
 use Rattle.std.proofs.Common.{◌≡◌, ℕ, suc, zero, ◌+◌, ◌≤◌, ◌<◌, Bool, true, false, List, [], ◌∷◌, ◌++◌, length, drop, get_or, set, Option, Some, None, refl, ap, subst, sym, ◌∙◌, arith, inl, inr, eq-eqb, eqb-true, append_assoc}
-use Rattle.std.specs.Prelude.{◌⊎◌, ◌||◌, slice_get, map, filter, nat_eq}
+use Rattle.std.specs.Prelude.{◌⊎◌, ◌||◌, slice_get, map, filter, nat_eq, nat_lt, option_map, replicate}
 use Rattle.std.specs.FinMap.{get}
-use Rattle.std.proofs.lemmas.List.{append-nil, get_or-set_same, get_or-set_other}
+use Rattle.std.proofs.lemmas.List.{append-nil, get_or-set_same, get_or-set_other, length-map, get_or-replicate, get_or_past, length-replicate}
 use Rattle.std.proofs.lemmas.List.Elements.{filter-append}
-use Rattle.std.proofs.lemmas.Option.{slice_get_within}
+use Rattle.std.proofs.lemmas.Option.{slice_get_within, slice_get-map, slice_get-get_or}
 use Rattle.esm_base.specs.declared.module_id.ModuleId.{ModuleId}
 use Rattle.esm_realm.specs.Urls.{Url, has, same_url}
 use Rattle.esm_realm.specs.Walk.{Mark, Visits, Passes, leaves}
@@ -14,7 +14,8 @@ use Rattle.esm_realm.specs.Walk.Visits.{known, fresh}
 use Rattle.esm_realm.specs.Walk.Passes.{all, next}
 use Rattle.esm_realm.specs.Laws.{AreDistinct}
 use Rattle.esm_realm.specs.Records.{ModuleRecord}
-use Rattle.esm_realm.specs.Sound.{RecordParts, Sound, url_of}
+use Rattle.esm_realm.specs.Sound.{RecordParts, Sound, url_of, parts_of}
+use Rattle.esm_realm.specs.declared.record.Record.{Record}
 use Rattle.esm_realm.proofs.Urls.{cases, same_text, own_text, not_both, not_true, has_own, or_true, or_left}
 use Rattle.esm_realm.proofs.LeavesOnce.{leaves_append}
 use Rattle.esm_load.specs.Table.{Entry, Module, Failed, Broken, targets_in, body_in}
@@ -218,3 +219,31 @@ pub unset_less : (entered : List Bool) (x : ℕ) → x < length entered → get_
 unset_less [] x lt e = absurd (omega arith)
 unset_less (b ∷ entered) zero lt e = subst (λ c. unset (true ∷ entered) < unset (c ∷ entered)) (sym e) (omega arith)
 unset_less (b ∷ entered) (suc x) lt e = unset_more b _ _ (unset_less entered x (omega (arith, lt)) e)
+
+-- ---- records of a realm
+
+-- a module's record lies in the realm
+pub within_realm : (v : LoadsView) (records : List Record) (u : Url) (i : ℕ) → IsModule v (map parts_of records) u i → i < length records
+within_realm v records u i m =
+    let lt : i < length (map parts_of records) = slice_get_within (map parts_of records) i m.parts m.is in
+    rw length-map at lt
+
+-- the targets in the record
+pub record_targets : (v : LoadsView) (records : List Record) (u : Url) (i : ℕ) (r : Record) → r ≡ get_or records i r → IsModule v (map parts_of records) u i → targets (loading_of v (map parts_of records)) u ≡ r.targets.items
+record_targets v records u i r at m =
+    let found : slice_get records i ≡ Some r = slice_get-get_or records i r (within_realm v records u i m) ∙ ap Some (sym at) in
+    let e : Some m.parts ≡ Some (parts_of r) = sym m.is ∙ slice_get-map parts_of records i ∙ ap (λ o. option_map parts_of o) found in
+    module_targets v (map parts_of records) u i m ∙ ap (λ (q : RecordParts). q.targets) (some_same e)
+  where
+    some_same : {a b : RecordParts} → Some a ≡ Some b → a ≡ b
+    some_same e = cc
+
+-- ---- the whole walk
+
+-- at the beginning no flag is set
+pub flags_begin : (v : LoadsView) (records : List RecordParts) (n : ℕ) (entered : List Bool) → entered ≡ replicate n false → AreFlags v records [] entered
+flags_begin v records n entered e = λ u i m. ap (λ bs. get_or bs i false) e ∙ by i (cases (nat_lt i n))
+  where
+    by : (i : ℕ) → (nat_lt i n ≡ true) ⊎ (nat_lt i n ≡ false) → get_or (replicate n false) i false ≡ false
+    by i (inl t) = let lt : i < n = grind arith in get_or-replicate n i false false lt
+    by i (inr f) = let le : length (replicate n false) ≤ i = rw length-replicate (grind arith) in get_or_past (replicate n false) i false le
