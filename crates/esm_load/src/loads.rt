@@ -1,5 +1,5 @@
 // Loading the entry and all that it reaches.
-ghost use Rattle.std.specs.Prelude.{◌≡◌, ◌<◌, true, false, [], ◌∷◌, List, map, Ok, Err, Some, None, OnOk, cond, option_copied};
+ghost use Rattle.std.specs.Prelude.{◌≡◌, ◌<◌, true, false, [], ◌∷◌, List, map, Ok, Err, Some, None, OnOk, cond, option_copied, slice_get};
 ghost use Rattle.std.specs.Arc.{arc_value};
 ghost use Rattle.esm_ast.specs.Outcome.{completion_of};
 ghost use Rattle.esm_base.specs.declared.status.Limit.{Limit as StopBy};
@@ -10,7 +10,7 @@ ghost use Rattle.esm_load.specs.Completion.{seen};
 ghost use Rattle.esm_load.specs.Loading.{Loading, opening_loading};
 ghost use Rattle.esm_load.specs.Arrival.{settle, open_asks};
 ghost use Rattle.esm_load.specs.LoadsView.{AreOne, loading_of, no_loads};
-ghost use Rattle.esm_load.specs.Steps.{AnswersNext, HasNoNext, IsEnd, IsModuleAt, askers_left};
+ghost use Rattle.esm_load.specs.Steps.{AnswersNext, HasNoNext, IsEnd, IsModuleAt, askers_left, is_end};
 
 use crate::LoadEnd;
 use crate::table::{Loaded, Stage, Table};
@@ -39,10 +39,10 @@ impl Model for Loads {
 
     ghost view = { λ l. view_of l.table };
 
-    ghost use Rattle.std.specs.Prelude.{◌≡◌, []};
+    ghost use Rattle.std.specs.Prelude.{◌≡◌, [], false};
     ghost use Rattle.esm_load.specs.declared.table.Stage.TheVariants.{Idle};
 
-    ghost invariant = { λ l. (l.table.slots.items ≡ []) × (l.table.asks.items ≡ []) × (l.table.stage ≡ Idle) };
+    ghost invariant = { λ l. (l.table.slots.items ≡ []) × (l.table.asks.items ≡ []) × (l.table.stage ≡ Idle) × (l.table.job ≡ false) };
 }
 
 impl Loads {
@@ -132,6 +132,7 @@ impl Loads {
     pub fn take_job(&mut self) -> bool
         ensures before { self.old.jobs ≡ cond result (0 ∷ []) [] }
         ensures after { self.new ≡ record self.old { jobs = [] } }
+        ensures ended { result ≡ true → is_end (slice_get self.old.loads 0) ≡ true }
         ensures one { (records : List RecordParts) → AreOne self.old records → AreOne self.new records }
     {
         let job = self.table.job;

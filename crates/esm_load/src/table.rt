@@ -1,5 +1,5 @@
 // The asked URLs, who waits for them, and the load.
-ghost use Rattle.std.specs.Prelude.{◌≡◌, []};
+ghost use Rattle.std.specs.Prelude.{◌≡◌, [], false};
 ghost use Rattle.esm_load.specs.LoadsView.{no_loads};
 ghost use Rattle.esm_load.specs.TableView.{view_of};
 
@@ -106,6 +106,7 @@ impl Table {
         ensures slots { result.slots.items ≡ [] }
         ensures asks { result.asks.items ≡ [] }
         ensures stage { result.stage ≡ Stage.Idle }
+        ensures job { result.job ≡ false }
     {
         Table {
             numbers: BTreeMap::new(alloc),

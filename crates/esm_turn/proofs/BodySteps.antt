@@ -1,6 +1,8 @@
 -- Running the bodies of what a walk has left, by the ids of its modules.
-use Rattle.std.proofs.Common.{◌≡◌, ℕ, suc, ◌+◌, ◌<◌, ◌≤◌, Bool, true, false, List, [], ◌∷◌, ◌++◌, length, drop, get_or, Option, Some, None, Result, Ok, Err, refl, ap, subst, sym, ◌∙◌, inl, inr, add-one, drop-cons}
-use Rattle.std.specs.Prelude.{◌⊎◌, slice_get, filter}
+use Rattle.std.proofs.Common.{◌≡◌, ℕ, zero, suc, arith, ◌+◌, ◌<◌, ◌≤◌, Bool, true, false, List, [], ◌∷◌, ◌++◌, length, drop, get_or, Option, Some, None, Result, Ok, Err, refl, ap, subst, sym, ◌∙◌, inl, inr, add-one, drop-cons}
+use Rattle.std.specs.Prelude.{◌⊎◌, All, slice_get, filter, map, option_map}
+use Rattle.std.proofs.lemmas.List.{length-map}
+use Rattle.std.proofs.lemmas.Option.{slice_get-map, slice_get-get_or, slice_get_within}
 use Rattle.std.specs.FinMap.{get}
 use Rattle.esm_base.specs.declared.status.Limit.{Limit}
 use Rattle.esm_base.specs.declared.module_id.ModuleId.{ModuleId}
@@ -162,3 +164,24 @@ module _ (v : LoadsView) (records : List RecordParts) where
       none : (us : List Url) → AreModules v records [] us → us ≡ []
       none [] e = refl
       none (u ∷ us) e = absurd e
+
+-- ---- trees by ids
+
+pub mapped_at : {X : Type 0} (f : X → List Item) (xs : List X) (ys : List (List Item)) (k : ℕ) (x : X) → map f xs ≡ ys → k < length xs → x ≡ get_or xs k x → slice_get ys k ≡ Some (f x)
+mapped_at f xs ys k x e lt at = ap (λ zs. slice_get zs k) (sym e) ∙ slice_get-map f xs k ∙ ap (λ o. option_map f o) (slice_get-get_or xs k x lt ∙ ap Some (sym at))
+
+pub within_trees : {X : Type 0} (f : X → List Item) (xs : List X) (ys : List (List Item)) (k : ℕ) → map f xs ≡ ys → k < length ys → k < length xs
+within_trees f xs ys k e lt = let h : k < length (map f xs) = subst (λ zs. k < length zs) (sym e) lt in rw length-map at h
+
+pub split_at : (ids : List ModuleId) (k : ℕ) (d : ModuleId) → k < length ids → drop k ids ≡ get_or ids k d ∷ drop (k + 1) ids
+split_at ids k d lt = rw add-one (drop-cons ids k d lt)
+
+-- each module has a tree
+pub modules_within : (v : LoadsView) (records : List RecordParts) (ids : List ModuleId) (us : List Url) → AreModules v records ids us → All (λ (id : ModuleId). id.0 < length v.trees) ids
+modules_within v records [] us a = λ k d lt. absurd (omega (arith, lt))
+modules_within v records (id ∷ ids) [] a = absurd a
+modules_within v records (id ∷ ids) (u ∷ us) a = λ k d lt. by (modules_within v records ids us a.1) k d lt
+  where
+    by : ((k : ℕ) (d : ModuleId) → k < length ids → (get_or ids k d).0 < length v.trees) → (k : ℕ) (d : ModuleId) → k < length (id ∷ ids) → (get_or (id ∷ ids) k d).0 < length v.trees
+    by later zero d lt = slice_get_within v.trees id.0 a.0.tree a.0.tree_is
+    by later (suc k) d lt = later k d (omega (arith, lt))

@@ -5,6 +5,7 @@ mod engine;
 pub mod examples;
 pub mod laws;
 mod order;
+mod turn;
 mod turn_end;
 
 pub use turn_end::TurnEnd;

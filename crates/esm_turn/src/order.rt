@@ -1,5 +1,6 @@
 // The order in which the bodies of a graph run: a walk, depth first in the order of requests.
-ghost use Rattle.std.specs.Prelude.{◌≡◌, ◌<◌, ◌≤◌, List, [], length, filter, OnOk, IfOk};
+ghost use Rattle.std.specs.Prelude.{◌≡◌, ◌<◌, ◌≤◌, List, [], length, filter, All, OnOk, IfOk};
+ghost use Rattle.esm_base.specs.declared.module_id.ModuleId.{ModuleId as ModuleId'};
 ghost use Rattle.esm_realm.specs.Urls.{Url};
 ghost use Rattle.esm_realm.specs.Walk.{Mark, IsWalk, leaves};
 ghost use Rattle.esm_realm.specs.Sound.{Sound, records_of};
@@ -52,7 +53,8 @@ pub(crate) fn order_of(
 ) -> Result<Vec<ModuleId>, Memory>
     requires sound { Sound (records_of realm.now) }
     requires one { AreOne loads.now (records_of realm.now) }
-    ensures { IfOk result (λ ids. (marks : List Mark) × IsWalk (targets (loading_of loads.now (records_of realm.now))) [] root.now marks × AreModules loads.now (records_of realm.now) ids.items (filter (is_module (loading_of loads.now (records_of realm.now))) (leaves marks))) }
+    ensures inside { IfOk result (λ ids. All (λ (id : ModuleId'). id.0 < length loads.now.trees) ids.items) }
+    ensures walk { IfOk result (λ ids. (marks : List Mark) × IsWalk (targets (loading_of loads.now (records_of realm.now))) [] root.now marks × AreModules loads.now (records_of realm.now) ids.items (filter (is_module (loading_of loads.now (records_of realm.now))) (leaves marks))) }
 {
     let mut entered = vec![in alloc; false; realm.records.len()]?;
     let mut left = Vec::new(alloc);
