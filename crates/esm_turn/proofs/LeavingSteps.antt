@@ -20,7 +20,7 @@ use Rattle.esm_realm.proofs.Urls.{cases, same_text, own_text, not_both, not_true
 use Rattle.esm_realm.proofs.LeavesOnce.{leaves_append}
 use Rattle.esm_load.specs.Table.{Entry, Module, Failed, Broken, targets_in, body_in}
 use Rattle.esm_load.specs.Loading.{Loading, targets}
-use Rattle.esm_load.specs.LoadsView.{LoadsView, loading_of}
+use Rattle.esm_load.specs.LoadsView.{LoadsView, HasRecord, loading_of}
 use Rattle.esm_load.specs.Steps.{IsModule}
 use Rattle.esm_turn.specs.Leaving.{is_module, is_module_in, AreModules, AreFlags, Walked, unset, unset_by}
 
@@ -247,3 +247,18 @@ flags_begin v records n entered e = λ u i m. ap (λ bs. get_or bs i false) e �
     by : (i : ℕ) → (nat_lt i n ≡ true) ⊎ (nat_lt i n ≡ false) → get_or (replicate n false) i false ≡ false
     by i (inl t) = let lt : i < n = grind arith in get_or-replicate n i false false lt
     by i (inr f) = let le : length (replicate n false) ≤ i = rw length-replicate (grind arith) in get_or_past (replicate n false) i false le
+
+-- the URL in the record
+pub record_url : (records : List Record) (u : Url) (i : ℕ) (r : Record) → i < length records → r ≡ get_or records i r → HasRecord (map parts_of records) i u → r.url ≡ u
+record_url records u i r lt at h =
+    let found : slice_get records i ≡ Some r = slice_get-get_or records i r lt ∙ ap Some (sym at) in
+    let e : Some (parts_of r) ≡ Some h.parts = sym (slice_get-map parts_of records i ∙ ap (λ o. option_map parts_of o) found) ∙ h.is in
+    ap url_of (some_same e) ∙ h.under
+  where
+    some_same : {a b : RecordParts} → Some a ≡ Some b → a ≡ b
+    some_same e = cc
+
+pub record_within : (records : List Record) (u : Url) (i : ℕ) → HasRecord (map parts_of records) i u → i < length records
+record_within records u i h =
+    let lt : i < length (map parts_of records) = slice_get_within (map parts_of records) i h.parts h.is in
+    rw length-map at lt

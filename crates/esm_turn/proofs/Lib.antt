@@ -8,3 +8,4 @@ pub mod EngineLemmas
 pub mod Told
 pub mod LeavingSteps
 pub mod BodySteps
+pub mod TurnSteps
