@@ -1,9 +1,9 @@
 -- What contracts see of the parts of a machine that a turn reads and writes, and of one task.
-use Rattle.std.specs.Prelude.{◌≡◌, Bool, true, false, None, Some, Result, Ok, Err}
+use Rattle.std.specs.Prelude.{◌≡◌, Bool, true, false, Option, None, Some, Result, Ok, Err}
 use Rattle.esm_realm.specs.Sound.{RecordParts, Sound, records_of}
 use Rattle.esm_load.specs.Loading.{Loading}
 use Rattle.esm_load.specs.LoadsView.{AreOne, loading_of}
-use Rattle.esm_load.specs.Steps.{AnswersNext}
+use Rattle.esm_load.specs.Steps.{AnswersNext, HasNoNext}
 use Rattle.esm_turn.specs.declared.turn.Parts.{Parts}
 use Rattle.esm_turn.specs.declared.turn_end.TurnEnd.{TurnEnd}
 use Rattle.esm_turn.specs.declared.turn_end.TurnEnd.TheVariants as ends
@@ -22,6 +22,11 @@ pub record AreFit (p : Parts) : Type 0 where
 -- the parts are in the state of this world
 abbrev pub AreLive : Parts → World → Type 0
 AreLive p w = IsLive (loading_in p) p.engine.log.items p.engine.steps w
+
+-- between two turns the parts fit, and no asker of a settled URL is left. After a refusal nothing is said
+abbrev pub AreKept : Option TurnEnd → Parts → Type 0
+AreKept None p = AreFit p × HasNoNext (loading_in p)
+AreKept (Some end) p = Unit {0}
 
 -- one task: the first asker of a settled URL is answered, and all jobs run behind it
 pub record IsTask (w after : World) : Type 0 where

@@ -4,8 +4,10 @@
 mod engine;
 pub mod examples;
 pub mod laws;
+mod machine;
 mod order;
 mod turn;
 mod turn_end;
 
+pub use machine::Machine;
 pub use turn_end::TurnEnd;
