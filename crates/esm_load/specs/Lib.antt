@@ -6,3 +6,6 @@ pub mod Load
 pub mod Arrival
 pub mod Laws
 pub mod Examples
+pub mod LoadsView
+pub mod TableView
+pub mod Steps

@@ -6,3 +6,4 @@ pub mod Agree
 pub mod Depth
 pub mod ByNumber
 pub mod Weigh
+pub mod Sounds

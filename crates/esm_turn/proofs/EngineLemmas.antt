@@ -51,7 +51,7 @@ midway_ends (ends.Limit limit) log new_log steps new_steps items b item k lt is 
     split : drop k items ≡ item ∷ drop (k + 1) items
     split = rw add-one (drop-cons items k item lt ∙ ap (λ x. x ∷ drop (suc k) items) (sym is))
 
-drop_at_end : (xs : List Item) (n : ℕ) → length xs ≤ n → drop n xs ≡ []
+pub drop_at_end : (xs : List Item) (n : ℕ) → length xs ≤ n → drop n xs ≡ []
 drop_at_end xs n le = drop_all n xs le
 
 -- no item is left

@@ -1,17 +1,19 @@
 -- What a machine tells where it stands for a list of deliveries.
 use Rattle.std.proofs.Common.{◌≡◌, ℕ, List, [], ◌∷◌, ◌++◌, Bool, true, false, Some, None, Option, Result, Ok, Err, refl, ap, subst, sym, ◌∙◌}
-use Rattle.std.specs.Prelude.{is_some, slice_get, option_map, codes, ◌≢◌}
+use Rattle.std.specs.Prelude.{is_some, IsSome, ◌↔◌, slice_get, option_map, codes, ◌≢◌}
+use Rattle.std.specs.FinMap.{get-empty}
 use Rattle.esm_base.specs.declared.status.Limit.{Limit}
 use Rattle.esm_base.specs.declared.status.Status.{Status}
 use Rattle.esm_base.specs.declared.status.Status.TheVariants as statuses
-use Rattle.esm_realm.specs.Urls.{Text, Url, has}
+use Rattle.esm_realm.specs.Urls.{Text, Url, has, url_cmp}
 use Rattle.esm_load.specs.Completion.{Completion}
-use Rattle.esm_load.specs.Loading.{Loading, LoadState, Asked, Open, Whole, Thrown}
-use Rattle.esm_load.specs.Arrival.{open_asks}
+use Rattle.esm_load.specs.Loading.{Loading, LoadState, Asked, Open, Whole, Thrown, Root, opening_loading}
+use Rattle.esm_load.specs.Arrival.{open_asks, next_by}
+use Rattle.esm_load.specs.Steps.{HasNoNext}
 use Rattle.esm_turn.specs.World.{World, opening, stopped, Turn}
 use Rattle.esm_turn.specs.Run.{Delivery, Runs, asks, asks_by, Shown, StandardRun, shown, Ending, Stopped, Uncaught, Done, Pending, ending, ending_by, status_of, limit_name, last_line_by, last_line_of}
 use Rattle.esm_turn.specs.Engine.{IsRunning}
-use Rattle.esm_turn.specs.Stands.{State, IsLive, IsHalted, ShowsBy, Shows, Stands, StandsOn, MayTake, asks_by_stop, asks_of, ending_by_stop, ending_of, StoppedAs}
+use Rattle.esm_turn.specs.Stands.{State, IsLive, IsHalted, ShowsBy, Shows, Stands, StandsOn, MayTake, MayTakeBy, Took, Leads, asks_by_stop, asks_of, ending_by_stop, ending_of, IsEndedBy, StoppedAs}
 use Rattle.esm_turn.specs.declared.turn_end.TurnEnd.{TurnEnd}
 use Rattle.esm_turn.specs.declared.turn_end.TurnEnd.TheVariants as ends
 use Rattle.esm_turn.proofs.OneRun.{run_one}
@@ -84,3 +86,70 @@ stands_on entry old new ds w after u c r live h t shows = (after, runs_more ds (
   where
     asked : has (asks w) u ≡ true
     asked = ap (λ us. has us u) (sym (asks_shown None old w live)) ∙ h
+
+may_take : (o : Option TurnEnd) (l : Loading) (u : Url) → o ≡ None → MayTakeBy o l u → has (open_asks l) u ≡ true
+may_take None l u e h = h
+may_take (Some end) l u e h = cc
+
+-- how a call has ended early
+abbrev pub result_err : Result (Unit {0}) TurnEnd → Option TurnEnd
+result_err (Ok done) = None
+result_err (Err end) = Some end
+
+-- a turn from where the machine stood
+pub took : (result : Result (Unit {0}) TurnEnd) (old new : State) (u : Url) (c : Completion) → old.stopped ≡ None → new.stopped ≡ result_err result → MayTake old u
+    → ((w : World) → IsLive old.loading old.log old.steps w → Leads (Turn w u c) result new.loading new.log new.steps) → Took old u c result new
+took (Ok done) old new u c e f may turn = (
+    f,
+    λ entry ds s.
+      let live : IsLive old.loading old.log old.steps s.0 = subst (λ o. ShowsBy o old s.0) e s.2 in
+      let t = turn s.0 live in
+      stands_on entry old new ds s.0 t.0 u c s.1 live (may_take old.stopped old.loading u e may) t.1 (subst (λ o. ShowsBy o new t.0) (sym f) t.2),
+  )
+took (Err (ends.Limit limit)) old new u c e f may turn = (
+    f,
+    λ entry ds s.
+      let live : IsLive old.loading old.log old.steps s.0 = subst (λ o. ShowsBy o old s.0) e s.2 in
+      let t = turn s.0 live in
+      stands_on entry old new ds s.0 t.0 u c s.1 live (may_take old.stopped old.loading u e may) t.1 (subst (λ o. ShowsBy o new t.0) (sym f) t.2),
+  )
+took (Err ends.Memory) old new u c e f may turn = f
+
+-- ---- what a machine computes
+
+pub asks_live : (m : State) (us : List Url) → m.stopped ≡ None → us ≡ open_asks m.loading → us ≡ asks_of m
+asks_live m us e f = f ∙ sym (ap (λ o. asks_by_stop o m.loading) e)
+
+pub asks_stopped : (m : State) (end : TurnEnd) → m.stopped ≡ Some end → [] ≡ asks_of m
+asks_stopped m end e = sym (ap (λ o. asks_by_stop o m.loading) e)
+
+pub ending_live : (m : State) → m.stopped ≡ None → ending_by None (open_asks m.loading) (slice_get m.loading.loads 0) ≡ ending_of m
+ending_live m e = sym (ap (λ o. ending_by_stop o m.loading) e)
+
+pub ending_stopped : (m : State) (end : TurnEnd) → m.stopped ≡ Some end → ending_by_stop (Some end) m.loading ≡ ending_of m
+ending_stopped m end e = sym (ap (λ o. ending_by_stop o m.loading) e)
+
+-- where a machine that hasn't stopped has ended, no ask is open
+no_ask : (us : List Url) (load : Option LoadState) → is_some (ending_by None us load) ≡ true → ending_by None [] load ≡ ending_by None us load
+no_ask [] load e = refl
+no_ask (u ∷ us) load e = cc
+
+pub ending_ended : (m : State) → m.stopped ≡ None → is_some (ending_of m) ≡ true → ending_by None [] (slice_get m.loading.loads 0) ≡ ending_of m
+ending_ended m e h = no_ask (open_asks m.loading) (slice_get m.loading.loads 0) (ap is_some (ending_live m e) ∙ h) ∙ ending_live m e
+
+-- ---- the entry is asked
+
+pub opening_next : (entry : Url) → HasNoNext (opening_loading entry)
+opening_next entry = ap (λ e. next_by (entry, Root 0) [] None e) (get-empty url_cmp entry)
+
+pub mapped_some : (o : Option Ending) → is_some (option_map status_of o) ≡ is_some o
+mapped_some None = refl
+mapped_some (Some e) = refl
+
+-- the status is there exactly where the machine has ended
+pub status_exactly : (end : TurnEnd) (l : Loading) (o : Option TurnEnd) → o ≡ Some end → IsSome (option_map status_of (ending_by_stop (Some end) l)) ↔ IsEndedBy o l
+status_exactly end l None e = cc
+status_exactly (ends.Limit limit) l (Some (ends.Limit k)) e = (λ h. tt, λ h. refl)
+status_exactly (ends.Limit limit) l (Some ends.Memory) e = cc
+status_exactly ends.Memory l (Some (ends.Limit k)) e = cc
+status_exactly ends.Memory l (Some ends.Memory) e = (λ h. let f : false ≡ true = h in cc, λ h. absurd h)

@@ -88,6 +88,15 @@ ending_by_stop (Some ends.Memory) l = None
 abbrev pub ending_of : State → Option Ending
 ending_of m = ending_by_stop m.stopped m.loading
 
+-- the machine has stopped by a limit, or hasn't stopped and no ask is open
+abbrev pub IsEndedBy : Option TurnEnd → Loading → Type 0
+IsEndedBy None l = open_asks l ≡ []
+IsEndedBy (Some (ends.Limit limit)) l = Unit {0}
+IsEndedBy (Some ends.Memory) l = ⊥
+
+abbrev pub IsEnded : State → Type 0
+IsEnded m = IsEndedBy m.stopped m.loading
+
 -- a machine that has stopped has done so by the limit that has stopped the run
 abbrev pub StoppedAs : Option TurnEnd → Shown → Type 0
 StoppedAs None what = what.status ≢ Some statuses.Limit

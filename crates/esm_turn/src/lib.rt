@@ -5,6 +5,8 @@ mod engine;
 pub mod examples;
 pub mod laws;
 mod machine;
+mod order;
+mod turn;
 mod turn_end;
 
 pub use machine::Machine;
