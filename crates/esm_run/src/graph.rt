@@ -1,5 +1,5 @@
 // The run of a graph of modules: a machine driven from a source.
-ghost use Rattle.std.specs.Prelude.{◌≡◌, ◌+◌, ◌++◌, [], ℕ, List, IfOk, IfSome, OnOk, IsSome, MatchOption, MatchResult, true, length};
+ghost use Rattle.std.specs.Prelude.{◌≡◌, ◌+◌, ◌++◌, [], ℕ, List, IfOk, IfSome, OnOk, is_some, MatchOption, MatchResult, true, length};
 ghost use Rattle.esm_ast.specs.Outcome.{completion_of};
 ghost use Rattle.esm_realm.specs.Urls.{Url, has};
 ghost use Rattle.esm_load.specs.Completion.{seen};
@@ -7,7 +7,6 @@ ghost use Rattle.esm_load.specs.Specifier.{is_usable};
 ghost use Rattle.esm_turn.specs.Run.{Shown, StandardRun};
 ghost use Rattle.esm_turn.specs.Run as runs;
 ghost use Rattle.esm_turn.specs.Stands.{Stands, StandsOn, asks_of, ending_of};
-ghost use Rattle.esm_turn.specs.MachineStub.{state_of};
 ghost use Rattle.esm_run.specs.Taken.{arrivals_of};
 ghost use Rattle.esm_run.specs.Written.{last_text};
 ghost use Rattle.esm_run.specs.Driving.{IsOpenAsk, IsDriven, IsShort, DrivesOn, IsEndingOf};
@@ -30,15 +29,15 @@ pub(crate) struct Ending {
 // A machine that has asked for the entry.
 fn new_machine(alloc: Global, entry: &Text) -> Result<Machine, Memory>
     requires { is_usable entry.now ≡ true }
-    ensures { IfOk result (λ m. Stands entry.now (state_of m) []) }
+    ensures { IfOk result (λ m. Stands entry.now m []) }
 {
     Machine::new(alloc, entry.clone()?)
 }
 
 // The first open ask, if there is one.
 fn first_ask(alloc: Global, machine: &Machine) -> Result<Option<Text>, Memory>
-    ensures found { IfOk result (λ found. MatchOption found (asks_of (state_of machine.now) ≡ []) (λ url. has (asks_of (state_of machine.now)) url ≡ true)) }
-    ensures open { IfOk result (λ found. IfSome found (IsOpenAsk (state_of machine.now))) }
+    ensures found { IfOk result (λ found. MatchOption found (asks_of machine.now ≡ []) (λ url. has (asks_of machine.now) url ≡ true)) }
+    ensures open { IfOk result (λ found. IfSome found (IsOpenAsk machine.now)) }
 {
     match machine.asks() {
         [] => Ok(None),
@@ -48,8 +47,8 @@ fn first_ask(alloc: Global, machine: &Machine) -> Result<Option<Text>, Memory>
 
 // Has the machine take what came of an open ask. A limit that it passes stops it.
 fn hand_over(machine: &mut Machine, url: &Text, outcome: &Outcome) -> Result<(), Memory>
-    requires { has (asks_of (state_of machine.old)) url.now ≡ true }
-    ensures { OnOk result (StandsOn (state_of machine.old) url.now (seen (completion_of outcome.now)) (state_of machine.new)) }
+    requires { has (asks_of machine.old) url.now ≡ true }
+    ensures { OnOk result (StandsOn machine.old url.now (seen (completion_of outcome.now)) machine.new) }
 {
     match machine.deliver(url, outcome) {
         Ok(()) => Ok(()),
@@ -66,9 +65,9 @@ fn take_delivery<S: Source>(
     url: Text,
     taken: &mut Vec<Delivery>,
 ) -> Result<(), Memory>
-    requires found { has (asks_of (state_of machine.old)) url ≡ true }
-    requires open { IsOpenAsk (state_of machine.old) url }
-    ensures drives { (entry : Url) → IsDriven entry (S.holds source.old) (S.asked source.old) (state_of machine.old) (arrivals_of taken.old.items) → DrivesOn entry (S.holds source.old) result (S.asked source.new) (state_of machine.new) (arrivals_of taken.new.items) }
+    requires found { has (asks_of machine.old) url ≡ true }
+    requires open { IsOpenAsk machine.old url }
+    ensures drives { (entry : Url) → IsDriven entry (S.holds source.old) (S.asked source.old) machine.old (arrivals_of taken.old.items) → DrivesOn entry (S.holds source.old) result (S.asked source.new) machine.new (arrivals_of taken.new.items) }
     ensures holds { S.holds source.new ≡ S.holds source.old }
     ensures more { OnOk result (length taken.new.items ≡ length taken.old.items + 1) }
 {
@@ -94,7 +93,7 @@ pub(crate) fn drive<S: Source>(
     requires usable { is_usable entry.now ≡ true }
     requires fresh { S.asked source.old ≡ [] }
     requires nothing { taken.old.items ≡ [] }
-    ensures drives { MatchResult result (λ m. IsDriven entry.now (S.holds source.old) (S.asked source.new) (state_of m) (arrivals_of taken.new.items) × (asks_of (state_of m) ≡ [])) (λ _. IsShort entry.now (S.holds source.old) (S.asked source.new) (arrivals_of taken.new.items)) }
+    ensures drives { MatchResult result (λ m. IsDriven entry.now (S.holds source.old) (S.asked source.new) m (arrivals_of taken.new.items) × (asks_of m ≡ [])) (λ _. IsShort entry.now (S.holds source.old) (S.asked source.new) (arrivals_of taken.new.items)) }
     ensures holds { S.holds source.new ≡ S.holds source.old }
 {
     laws::deliveries();
@@ -131,14 +130,14 @@ fn with_last_line(text: Vec<u8>, line: &Text) -> Result<Vec<u8>, Memory>
 
 // The status and the text of a machine's run that has ended.
 pub(crate) fn ending_of_run(alloc: Global, machine: &Machine) -> Result<Ending, Memory>
-    requires { IsSome (ending_of (state_of machine.now)) }
-    ensures { (entry : Url) (deliveries : List runs.Delivery) (what : Shown) → Stands entry (state_of machine.now) deliveries → StandardRun entry deliveries what → IfOk result (IsEndingOf what) }
+    requires { is_some (ending_of machine.now) ≡ true }
+    ensures { (entry : Url) (deliveries : List runs.Delivery) (what : Shown) → Stands entry machine.now deliveries → StandardRun entry deliveries what → IfOk result (IsEndingOf what) }
 {
     let Some(status) = machine.end() else {
         unreachable!();
     };
     let log = Vec::from_slice(alloc, machine.log())?;
-    let last = machine.last_line(alloc)?;
+    let last = machine.last_line()?;
     let text = with_last_line(log, &last)?;
     Ok(Ending { status, text })
 }

@@ -112,14 +112,14 @@ modules_append v records (id ∷ a) b (u ∷ us) ws p q = (p.0, modules_append v
 
 -- the walk of u, which has passed some requests: what is left to pass completes it
 pub record IsMidwalk (v : LoadsView) (records : List RecordParts) (u : Url) (seen : List Url) (left : List ModuleId) (entered : List Bool) (left_now : List ModuleId) (i : ℕ) (rest : List Url) : Type 0 where
-  pub done : List Mark
+  pub done : List (Mark Url)
   pub mid : List Url
   pub flags : AreFlags v records mid entered
   pub added : List ModuleId
   pub behind : left_now ≡ left ++ added
   pub modules : AreModules v records added (filter (is_module (loading_of v records)) (leaves done))
-  pub goes_on : (more : List Mark) (after : List Url) → Passes (targets (loading_of v records)) mid u i rest more after
-      → Passes (targets (loading_of v records)) (u ∷ seen) u 0 (targets (loading_of v records) u) (done ++ more) after
+  pub goes_on : (more : List (Mark Url)) (after : List Url) → Passes same_url (targets (loading_of v records)) mid u i rest more after
+      → Passes same_url (targets (loading_of v records)) (u ∷ seen) u 0 (targets (loading_of v records) u) (done ++ more) after
 
 module _ (v : LoadsView) (records : List RecordParts) where
   -- it was entered before
@@ -136,8 +136,8 @@ module _ (v : LoadsView) (records : List RecordParts) where
       no_targets (Some (Broken thrown)) h = refl
       no_targets (Some (Module m)) h = cc
 
-      passes : Passes (targets (loading_of v records)) (t ∷ seen) t 0 (targets (loading_of v records) t) [] (t ∷ seen)
-      passes = subst (λ ts. Passes (targets (loading_of v records)) (t ∷ seen) t 0 ts [] (t ∷ seen)) (sym (no_targets (get (loading_of v records).entries t) none)) all
+      passes : Passes same_url (targets (loading_of v records)) (t ∷ seen) t 0 (targets (loading_of v records) t) [] (t ∷ seen)
+      passes = subst (λ ts. Passes same_url (targets (loading_of v records)) (t ∷ seen) t 0 ts [] (t ∷ seen)) (sym (no_targets (get (loading_of v records).entries t) none)) all
 
       nothing : filter (is_module (loading_of v records)) (t ∷ []) ≡ []
       nothing = rw none
@@ -175,7 +175,7 @@ module _ (v : LoadsView) (records : List RecordParts) where
     added = m.added ++ w.added;
     behind = w.behind ∙ ap (λ ids. ids ++ w.added) m.behind ∙ append_assoc left m.added w.added;
     modules = subst (λ us. AreModules v records (m.added ++ w.added) us) (sym left_is) (modules_append v records m.added w.added _ _ m.modules w.modules);
-    goes_on = λ more after p. subst (λ ms. Passes (targets (loading_of v records)) (u ∷ seen) u 0 (targets (loading_of v records) u) ms after) (marks more) (m.goes_on (w.marks ++ Pass u i ∷ more) after (next w.visits p));
+    goes_on = λ more after p. subst (λ ms. Passes same_url (targets (loading_of v records)) (u ∷ seen) u 0 (targets (loading_of v records) u) ms after) (marks more) (m.goes_on (w.marks ++ Pass u i ∷ more) after (next w.visits p));
   }
     where
       is : Url → Bool
@@ -186,7 +186,7 @@ module _ (v : LoadsView) (records : List RecordParts) where
           ap (λ us. filter (is_module (loading_of v records)) us) (leaves_append m.done (w.marks ++ Pass u i ∷ []) ∙ ap (λ us. leaves m.done ++ us) (leaves_append w.marks (Pass u i ∷ []) ∙ append-nil (leaves w.marks)))
           ∙ filter-append (is_module (loading_of v records)) (leaves m.done) (leaves w.marks)
 
-      marks : (more : List Mark) → m.done ++ (w.marks ++ Pass u i ∷ more) ≡ (m.done ++ (w.marks ++ Pass u i ∷ [])) ++ more
+      marks : (more : List (Mark Url)) → m.done ++ (w.marks ++ Pass u i ∷ more) ≡ (m.done ++ (w.marks ++ Pass u i ∷ [])) ++ more
       marks more = simp append_assoc
 
   pub walk_done : (x : ModuleId) (u : Url) (seen : List Url) (left : List ModuleId) (entered : List Bool) (left_now left_after : List ModuleId) (i : ℕ) → IsModule v records u x.0 → has seen u ≡ false
@@ -194,7 +194,7 @@ module _ (v : LoadsView) (records : List RecordParts) where
   walk_done x u seen left entered left_now left_after i at n m e = record {
     marks = Enter u ∷ (m.done ++ Leave u ∷ []);
     after = m.mid;
-    visits = fresh n (subst (λ ms. Passes (targets (loading_of v records)) (u ∷ seen) u 0 (targets (loading_of v records) u) ms m.mid) (append-nil m.done) (m.goes_on [] m.mid all));
+    visits = fresh n (subst (λ ms. Passes same_url (targets (loading_of v records)) (u ∷ seen) u 0 (targets (loading_of v records) u) ms m.mid) (append-nil m.done) (m.goes_on [] m.mid all));
     flags = m.flags;
     added = m.added ++ x ∷ [];
     behind = e ∙ ap (λ ids. ids ++ x ∷ []) m.behind ∙ append_assoc left m.added (x ∷ []);

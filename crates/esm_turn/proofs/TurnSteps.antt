@@ -30,7 +30,7 @@ loading_live l log steps w live = (both_none w.loading.stopped w.bodies.stopped 
 
 -- ---- evaluating
 
-pub evaluated : (result : Result (Unit {0}) TurnEnd) (l : Loading) (log new_log : Text) (steps new_steps : ℕ) (w : World) (x : Url) (marks : List Mark) → IsLive l log steps w → IsWalk (targets l) [] x marks
+pub evaluated : (result : Result (Unit {0}) TurnEnd) (l : Loading) (log new_log : Text) (steps new_steps : ℕ) (w : World) (x : Url) (marks : List (Mark Url)) → IsLive l log steps w → IsWalk (targets l) [] x marks
     → Ran result new_log new_steps (run_bodies (body l) (leaves marks) w.bodies) → Leads (Evaluates w x) result l new_log new_steps
 evaluated result l log new_log steps new_steps w x marks live walk ran = by result ran
   where

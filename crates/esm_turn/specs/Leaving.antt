@@ -2,7 +2,7 @@
 use Rattle.std.specs.Prelude.{◌≡◌, ℕ, suc, Bool, true, false, List, [], ◌∷◌, ◌++◌, slice_index_or, filter, Option, Some, None}
 use Rattle.std.specs.FinMap.{get}
 use Rattle.esm_base.specs.declared.module_id.ModuleId.{ModuleId}
-use Rattle.esm_realm.specs.Urls.{Url, has}
+use Rattle.esm_realm.specs.Urls.{Url, has, same_url}
 use Rattle.esm_realm.specs.Walk.{Mark, Visits, leaves}
 use Rattle.esm_realm.specs.Sound.{RecordParts}
 use Rattle.esm_load.specs.Table.{Entry, Module}
@@ -31,9 +31,9 @@ AreFlags v records seen entered = (u : Url) (i : ℕ) → IsModule v records u i
 
 -- the walk of x: its marks, the flags that it leaves, and the ids of the modules that it leaves
 pub record Walked (v : LoadsView) (records : List RecordParts) (x : Url) (seen : List Url) (entered : List Bool) (left left_after : List ModuleId) : Type 0 where
-  pub marks : List Mark
+  pub marks : List (Mark Url)
   pub after : List Url
-  pub visits : Visits (targets (loading_of v records)) seen x marks after
+  pub visits : Visits same_url (targets (loading_of v records)) seen x marks after
   pub flags : AreFlags v records after entered
   pub added : List ModuleId
   pub behind : left_after ≡ left ++ added
