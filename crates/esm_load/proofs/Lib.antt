@@ -3,3 +3,4 @@ pub mod Kept
 pub mod Asking
 pub mod Resolving
 pub mod LoadBy
+pub mod ResolvingBy
