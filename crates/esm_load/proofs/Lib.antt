@@ -4,3 +4,6 @@ pub mod Asking
 pub mod Resolving
 pub mod LoadBy
 pub mod ResolvingBy
+pub mod Added
+pub mod Places
+pub mod Lists

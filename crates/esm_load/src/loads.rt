@@ -13,7 +13,7 @@ ghost use Rattle.esm_load.specs.LoadsView.{AreOne, loading_of, no_loads};
 ghost use Rattle.esm_load.specs.Steps.{AnswersNext, HasNoNext, IsEnd, IsModuleAt, askers_left};
 
 use crate::LoadEnd;
-use crate::table::{Loaded, Stage, Table};
+use crate::table::{Loaded, Stage, Stand, Table};
 use esm_ast::{Outcome, Tree};
 use esm_base::{ModuleId, Text};
 use esm_realm::Realm;
@@ -39,10 +39,9 @@ impl Model for Loads {
 
     ghost view = { λ l. view_of l.table };
 
-    ghost use Rattle.std.specs.Prelude.{◌≡◌, []};
-    ghost use Rattle.esm_load.specs.declared.table.Stage.TheVariants.{Idle};
+    ghost use Rattle.esm_load.specs.Well.{IsWell};
 
-    ghost invariant = { λ l. (l.table.slots.items ≡ []) × (l.table.asks.items ≡ []) × (l.table.stage ≡ Idle) };
+    ghost invariant = { λ l. IsWell l.table };
 }
 
 impl Loads {
@@ -150,8 +149,10 @@ impl Loads {
     pub fn module_at(&self, url: &Text) -> Option<ModuleId>
         ensures { (records : List RecordParts) → AreOne self.now records → IsModuleAt self.now records url.now result }
     {
-        let _ = url;
-        let _ = &self.table.asks;
-        None
+        let place = self.table.find(url)?;
+        match self.table.slots[place].stand {
+            Stand::Module(id) => Some(id),
+            _ => None,
+        }
     }
 }
