@@ -5,5 +5,8 @@ pub mod Resolving
 pub mod LoadBy
 pub mod ResolvingBy
 pub mod Added
+pub mod Entries
+pub mod Waiting
+pub mod Stages
 pub mod Places
 pub mod Lists

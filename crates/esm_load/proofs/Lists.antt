@@ -86,7 +86,7 @@ and_right : (a b : Bool) → b ≡ false → (a && b) ≡ false
 and_right true b e = e
 and_right false b e = refl
 
-other_place : (k j : ℕ) → (k ≡ j → ⊥) → (k == j) ≡ false
+pub other_place : (k j : ℕ) → (k ≡ j → ⊥) → (k == j) ≡ false
 other_place k j n = not_true (k == j) (λ e. n (equal_places k j e))
 
 -- nobody waits for what isn't there

@@ -87,7 +87,7 @@ place_push (v ∷ vs) u q e = by (same_url u v) refl e (same_url q v) refl (same
         len : (vs : List Url) → suc (length vs) ≡ length (v ∷ vs)
         len vs = omega arith
 
-listed : (vs : List Url) (k : ℕ) (u : Url) → slice_get vs k ≡ Some u → has vs u ≡ true
+pub listed : (vs : List Url) (k : ℕ) (u : Url) → slice_get vs k ≡ Some u → has vs u ≡ true
 listed [] k u e = cc
 listed (w ∷ ws) zero u e = let same : w ≡ u = cc in or_left (same_url u w) (has ws u) (subst (λ w. same_url u w ≡ true) (sym same) (own_text u))
 listed (w ∷ ws) (suc k) u e = or_true (same_url u w) (has ws u) (listed ws k u e)

@@ -24,4 +24,4 @@ returns-clause-well c =
         c.in_ok-insert.ensures.updates.0 q ∙ (ap (λ b. cond b (Some c.len-place.result) (get url_cmp t.numbers q)) (is_eq-slice_cmp c.in_ok-key.key q ∙ (ap (λ k. same_url k q) c.in_ok-key.ensures ∙ same_sym u q))
         ∙ ap (λ n. cond (same_url q u) (Some n) (get url_cmp t.numbers q)) place) in
     well_added t _ u c.new.result c.requires.well c.requires.fresh c.requires.usable room
-    (record { slots = slots; rest = record { waiters = refl; stage = refl; visited = refl; trees = refl; job = refl; bytes = refl } }) asks queues c.new.ensures.items flags updates refl refl
+    (record { slots = slots; flags = flags; rest = record { waiters = refl; stage = refl; visited = refl; trees = refl; job = refl; bytes = refl } }) asks queues c.new.ensures.items flags updates refl refl
