@@ -1,5 +1,5 @@
 // Loading the entry and all that it reaches.
-ghost use Rattle.std.specs.Prelude.{◌≡◌, ◌<◌, true, false, [], ◌∷◌, List, map, Ok, Err, Some, None, OnOk, cond, option_copied, slice_get};
+ghost use Rattle.std.specs.Prelude.{◌≡◌, ◌<◌, true, false, [], ◌∷◌, List, map, Ok, Err, Some, None, OnOk, cond, option_copied};
 ghost use Rattle.std.specs.Arc.{arc_value};
 ghost use Rattle.esm_ast.specs.Outcome.{completion_of};
 ghost use Rattle.esm_base.specs.declared.status.Limit.{Limit as StopBy};
@@ -10,10 +10,10 @@ ghost use Rattle.esm_load.specs.Completion.{seen};
 ghost use Rattle.esm_load.specs.Loading.{Loading, opening_loading};
 ghost use Rattle.esm_load.specs.Arrival.{settle, open_asks};
 ghost use Rattle.esm_load.specs.LoadsView.{AreOne, loading_of, no_loads};
-ghost use Rattle.esm_load.specs.Steps.{AnswersNext, HasNoNext, IsEnd, IsModuleAt, askers_left, is_end};
+ghost use Rattle.esm_load.specs.Steps.{AnswersNext, HasNoNext, IsEnd, IsModuleAt, askers_left};
 
 use crate::LoadEnd;
-use crate::table::{Loaded, Stage, Table};
+use crate::table::{open_slot, Loaded, Stage, Table};
 use esm_ast::{Outcome, Tree};
 use esm_base::{ModuleId, Text};
 use esm_realm::Realm;
@@ -27,6 +27,7 @@ use std::sync::Arc;
 #[derive(Drop)]
 pub struct Loads {
     table: Table,
+    alloc: Global,
 }
 
 impl Model for Loads {
@@ -39,10 +40,9 @@ impl Model for Loads {
 
     ghost view = { λ l. view_of l.table };
 
-    ghost use Rattle.std.specs.Prelude.{◌≡◌, [], false};
-    ghost use Rattle.esm_load.specs.declared.table.Stage.TheVariants.{Idle};
+    ghost use Rattle.esm_load.specs.Well.{IsWell};
 
-    ghost invariant = { λ l. (l.table.slots.items ≡ []) × (l.table.asks.items ≡ []) × (l.table.stage ≡ Idle) × (l.table.job ≡ false) };
+    ghost invariant = { λ l. IsWell l.table };
 }
 
 impl Loads {
@@ -52,6 +52,7 @@ impl Loads {
     {
         Loads {
             table: Table::new(alloc),
+            alloc,
         }
     }
 
@@ -65,9 +66,10 @@ impl Loads {
         ensures limit { (limit : StopBy) → result ≡ Err (LoadEnd.Limit limit) → ⊥ }
         ensures realm { records_of realm.new ≡ records_of realm.old }
     {
-        let _ = url;
         let _ = realm;
-        Err(LoadEnd::Memory)
+        open_slot(&mut self.table, self.alloc, url)?;
+        self.table.stage = Stage::Asked;
+        Ok(())
     }
 
     /// Takes what the fetch of an open ask has come to. Those who waited for it are then answered by `step`.
@@ -132,7 +134,6 @@ impl Loads {
     pub fn take_job(&mut self) -> bool
         ensures before { self.old.jobs ≡ cond result (0 ∷ []) [] }
         ensures after { self.new ≡ record self.old { jobs = [] } }
-        ensures ended { result ≡ true → is_end (slice_get self.old.loads 0) ≡ true }
         ensures one { (records : List RecordParts) → AreOne self.old records → AreOne self.new records }
     {
         let job = self.table.job;
@@ -151,8 +152,6 @@ impl Loads {
     pub fn module_at(&self, url: &Text) -> Option<ModuleId>
         ensures { (records : List RecordParts) → AreOne self.now records → IsModuleAt self.now records url.now result }
     {
-        let _ = url;
-        let _ = &self.table.asks;
-        None
+        self.table.module_at(url)
     }
 }

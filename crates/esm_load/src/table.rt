@@ -1,10 +1,16 @@
 // The asked URLs, who waits for them, and the load.
-ghost use Rattle.std.specs.Prelude.{◌≡◌, [], false};
-ghost use Rattle.esm_load.specs.LoadsView.{no_loads};
-ghost use Rattle.esm_load.specs.TableView.{view_of};
+ghost use Rattle.std.specs.Prelude.{◌≡◌, ◌≤◌, ◌<◌, List, length, None, Err, IfOk, OnOk};
+ghost use Rattle.esm_base.specs.declared.status.Limit.{Limit as StopBy};
+ghost use Rattle.esm_realm.specs.Sound.{IsUsable, RecordParts};
+ghost use Rattle.esm_load.specs.LoadsView.{AreOne, no_loads};
+ghost use Rattle.esm_load.specs.TableView.{view_of, urls_of, place_in, loads_on};
+ghost use Rattle.esm_load.specs.Steps.{IsModuleAt};
+ghost use Rattle.esm_load.specs.Well.{IsWell};
+ghost use Rattle.esm_load.specs.Changes.{IsAdded};
 
+use crate::LoadEnd;
 use esm_ast::Tree;
-use esm_base::{ModuleId, Text};
+use esm_base::{Limit, ModuleId, Text};
 use std::alloc::Global;
 use std::collections::{BTreeMap, VecDeque};
 use std::sync::Arc;
@@ -29,10 +35,6 @@ pub struct Slot {
     pub url: Text,
     /// How it stands.
     pub stand: Stand,
-    /// Whether the load has visited it.
-    pub visited: bool,
-    /// The places of the waiters that wait for it, in order of asking.
-    pub waiting: VecDeque<usize>,
 }
 
 /// A request that waited for a URL.
@@ -41,7 +43,7 @@ pub struct Waiter {
     /// The place of the URL.
     pub target: usize,
     /// The place of the module that requests it.
-    pub module: usize,
+    pub source: usize,
     /// The number of the request.
     pub request: usize,
     /// Whether it still waits.
@@ -79,8 +81,10 @@ pub struct Table {
     pub slots: Vec<Slot>,
     /// The URLs that are asked and not settled, in order of asking.
     pub asks: Vec<Text>,
-    /// Their places.
-    pub ask_places: Vec<usize>,
+    /// For each slot, the places of the waiters that wait for it, in order of asking.
+    pub queues: Vec<VecDeque<usize>>,
+    /// For each slot, whether the load has visited it.
+    pub flags: Vec<bool>,
     /// All requests that waited, in order of asking.
     pub waiters: Vec<Waiter>,
     /// How many of them still wait.
@@ -103,16 +107,14 @@ impl Table {
     /// The table in which nothing is asked.
     pub fn new(alloc: Global) -> Table
         ensures view { view_of result ≡ no_loads }
-        ensures slots { result.slots.items ≡ [] }
-        ensures asks { result.asks.items ≡ [] }
-        ensures stage { result.stage ≡ Stage.Idle }
-        ensures job { result.job ≡ false }
+        ensures well { IsWell result }
     {
         Table {
             numbers: BTreeMap::new(alloc),
             slots: Vec::new(alloc),
             asks: Vec::new(alloc),
-            ask_places: Vec::new(alloc),
+            queues: Vec::new(alloc),
+            flags: Vec::new(alloc),
             waiters: Vec::new(alloc),
             waiting: 0,
             delivered: 0,
@@ -123,4 +125,65 @@ impl Table {
             bytes: 0,
         }
     }
+
+    /// The place of a URL, none where it wasn't asked for.
+    pub fn find(&self, url: &Text) -> Option<usize>
+        requires { IsWell self.now }
+        ensures { result ≡ place_in (urls_of self.now.slots.items) url.now }
+    {
+        self.numbers.get(url).copied()
+    }
+
+    /// The id of the module that stands under a URL.
+    pub fn module_at(&self, url: &Text) -> Option<ModuleId>
+        requires { IsWell self.now }
+        ensures { (records : List RecordParts) → AreOne (view_of self.now) records → IsModuleAt (view_of self.now) records url.now result }
+    {
+        match self.find(url) {
+            Some(place) => {
+                let slot = &self.slots[place];
+                match slot.stand {
+                    Stand::Module(id) => Some(id),
+                    _ => None,
+                }
+            }
+            None => None,
+        }
+    }
+
+    /// Whether the load goes on.
+    pub fn is_loading(&self) -> bool
+        ensures { result ≡ loads_on self.now.stage }
+    {
+        matches!(&self.stage, Stage::Loading)
+    }
+}
+
+/// Asks for a URL that wasn't asked for.
+pub fn open_slot(table: &mut Table, alloc: Global, url: &Text) -> Result<usize, LoadEnd>
+    requires well { IsWell table.old }
+    requires fresh { place_in (urls_of table.old.slots.items) url.now ≡ None }
+    requires usable { IsUsable url.now }
+    ensures place { IfOk result (λ k. k ≡ length table.old.slots.items) }
+    ensures added { OnOk result (IsAdded url.now table.old table.new) }
+    ensures well { OnOk result (IsWell table.new) }
+    ensures limit { (limit : StopBy) → result ≡ Err (LoadEnd.Limit limit) → (limit ≡ StopBy.L1) × (4096 ≤ length table.old.slots.items) }
+    ensures room { OnOk result (length table.old.slots.items < 4096) }
+{
+    let place = table.slots.len();
+    if place >= 4096 {
+        return Err(LoadEnd::Limit(Limit::L1));
+    }
+    let key = url.clone()?;
+    let ask = url.clone()?;
+    let url = url.clone()?;
+    table.asks.push(ask)?;
+    table.queues.push(VecDeque::new(alloc))?;
+    table.flags.push(false)?;
+    table.slots.push(Slot {
+        url,
+        stand: Stand::Open,
+    })?;
+    table.numbers.insert(key, place)?;
+    Ok(place)
 }
