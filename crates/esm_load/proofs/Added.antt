@@ -37,13 +37,13 @@ module_within ss k h = within ss k h.slot h.at
     within (r ∷ ss) zero s e = omega arith
     within (r ∷ ss) (suc k) s e = let h = within ss k s e in omega arith
 
-abbrev new_slot : Url → Slot
+abbrev pub new_slot : Url → Slot
 new_slot u = record { url = u; stand = Open }
 
-urls_more : (ss : List Slot) (u : Url) → urls_of (ss ++ new_slot u ∷ []) ≡ urls_of ss ++ u ∷ []
+pub urls_more : (ss : List Slot) (u : Url) → urls_of (ss ++ new_slot u ∷ []) ≡ urls_of ss ++ u ∷ []
 urls_more ss u = map-append url_of_slot ss (new_slot u ∷ [])
 
-visited_within : (ss : List Slot) (ks : List ℕ) → All (IsModuleSlot ss) ks → Within (length (urls_of ss)) ks
+pub visited_within : (ss : List Slot) (ks : List ℕ) → All (IsModuleSlot ss) ks → Within (length (urls_of ss)) ks
 visited_within ss ks h = All-weaker (IsModuleSlot ss) (λ (k : ℕ). k < length (urls_of ss)) (λ k m. module_within ss k m) ks h
 
 indexed_more : (t n : Table) (u : Url) → AreIndexed t.numbers (urls_of t.slots.items) → place_in (urls_of t.slots.items) u ≡ None → IsUsable u → length t.slots.items < 4096

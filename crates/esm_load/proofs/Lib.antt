@@ -8,5 +8,15 @@ pub mod Added
 pub mod Entries
 pub mod Waiting
 pub mod Stages
+pub mod Standings
+pub mod Visiting
+pub mod Waited
+pub mod Thrown
+pub mod Asked
+pub mod Modules
+pub mod EnterSteps
+pub mod Unlinked
+pub mod Freshness
+pub mod EnterFacts
 pub mod Places
 pub mod Lists

@@ -1,5 +1,5 @@
 -- What a step does to a table.
-use Rattle.std.specs.Prelude.{◌≡◌, ℕ, ◌+◌, Bool, true, false, List, [], ◌∷◌, ◌++◌, length, slice_get, All, Some, None}
+use Rattle.std.specs.Prelude.{◌≡◌, ◌<◌, ◌⊎◌, ℕ, ◌+◌, Bool, true, false, List, [], ◌∷◌, ◌++◌, length, slice_get, All, Some, None}
 use Rattle.std.specs.FinMap.{get}
 use Rattle.esm_realm.specs.Urls.{Url}
 use Rattle.esm_realm.specs.Sound.{RecordParts}
@@ -50,6 +50,22 @@ pub record IsOpenAt (slots : List Slot) (k : ℕ) : Type 0 where
 -- the URL wasn't asked for, or isn't settled
 abbrev pub IsUnsettled : Table → Url → Type 0
 IsUnsettled t u = (k : ℕ) → place_in (urls_of t.slots.items) u ≡ Some k → IsOpenAt t.slots.items k
+
+-- the URL was asked for
+pub record WasFound (old new : Table) (url : Url) (k : ℕ) : Type 0 where
+  pub place : place_in (urls_of old.slots.items) url ≡ Some k
+  pub same : new ≡ old
+
+-- it is asked for now
+pub record IsNew (old new : Table) (url : Url) (k : ℕ) : Type 0 where
+  pub nowhere : place_in (urls_of old.slots.items) url ≡ None
+  pub place : k ≡ length old.slots.items
+  pub room : length old.slots.items < 4096
+  pub added : IsAdded url old new
+
+-- a URL has this place, or it is asked for at this place
+abbrev pub Opened : Table → Table → Url → ℕ → Type 0
+Opened old new url k = WasFound old new url k ⊎ IsNew old new url k
 
 -- one request more waits
 pub record Waits (old new : Table) (target source request : ℕ) : Type 0 where

@@ -63,6 +63,13 @@ loads_of stages.Loading urls visited = Open (url_at urls 0) (visited_at urls vis
 loads_of (stages.Ended (loaded.Ready id)) urls visited = Whole (url_at urls 0) ∷ []
 loads_of (stages.Ended (loaded.Thrown thrown)) urls visited = Thrown thrown ∷ []
 
+-- the load has begun and not ended
+abbrev pub loads_on : Stage → Bool
+loads_on stages.Idle = false
+loads_on stages.Asked = false
+loads_on stages.Loading = true
+loads_on (stages.Ended end) = false
+
 abbrev pub jobs_of : Bool → List ℕ
 jobs_of true = 0 ∷ []
 jobs_of false = []

@@ -13,7 +13,7 @@ ghost use Rattle.esm_load.specs.LoadsView.{AreOne, loading_of, no_loads};
 ghost use Rattle.esm_load.specs.Steps.{AnswersNext, HasNoNext, IsEnd, IsModuleAt, askers_left};
 
 use crate::LoadEnd;
-use crate::table::{Loaded, Stage, Stand, Table};
+use crate::table::{open_slot, Loaded, Stage, Table};
 use esm_ast::{Outcome, Tree};
 use esm_base::{ModuleId, Text};
 use esm_realm::Realm;
@@ -27,6 +27,7 @@ use std::sync::Arc;
 #[derive(Drop)]
 pub struct Loads {
     table: Table,
+    alloc: Global,
 }
 
 impl Model for Loads {
@@ -51,6 +52,7 @@ impl Loads {
     {
         Loads {
             table: Table::new(alloc),
+            alloc,
         }
     }
 
@@ -64,9 +66,10 @@ impl Loads {
         ensures limit { (limit : StopBy) → result ≡ Err (LoadEnd.Limit limit) → ⊥ }
         ensures realm { records_of realm.new ≡ records_of realm.old }
     {
-        let _ = url;
         let _ = realm;
-        Err(LoadEnd::Memory)
+        open_slot(&mut self.table, self.alloc, url)?;
+        self.table.stage = Stage::Asked;
+        Ok(())
     }
 
     /// Takes what the fetch of an open ask has come to. Those who waited for it are then answered by `step`.
@@ -149,10 +152,6 @@ impl Loads {
     pub fn module_at(&self, url: &Text) -> Option<ModuleId>
         ensures { (records : List RecordParts) → AreOne self.now records → IsModuleAt self.now records url.now result }
     {
-        let place = self.table.find(url)?;
-        match self.table.slots[place].stand {
-            Stand::Module(id) => Some(id),
-            _ => None,
-        }
+        self.table.module_at(url)
     }
 }

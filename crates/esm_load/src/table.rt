@@ -1,9 +1,10 @@
 // The asked URLs, who waits for them, and the load.
-ghost use Rattle.std.specs.Prelude.{◌≡◌, ◌≤◌, ◌<◌, length, None, Err, IfOk, OnOk};
+ghost use Rattle.std.specs.Prelude.{◌≡◌, ◌≤◌, ◌<◌, List, length, None, Err, IfOk, OnOk};
 ghost use Rattle.esm_base.specs.declared.status.Limit.{Limit as StopBy};
-ghost use Rattle.esm_realm.specs.Sound.{IsUsable};
-ghost use Rattle.esm_load.specs.LoadsView.{no_loads};
-ghost use Rattle.esm_load.specs.TableView.{view_of, urls_of, place_in};
+ghost use Rattle.esm_realm.specs.Sound.{IsUsable, RecordParts};
+ghost use Rattle.esm_load.specs.LoadsView.{AreOne, no_loads};
+ghost use Rattle.esm_load.specs.TableView.{view_of, urls_of, place_in, loads_on};
+ghost use Rattle.esm_load.specs.Steps.{IsModuleAt};
 ghost use Rattle.esm_load.specs.Well.{IsWell};
 ghost use Rattle.esm_load.specs.Changes.{IsAdded};
 
@@ -131,6 +132,30 @@ impl Table {
         ensures { result ≡ place_in (urls_of self.now.slots.items) url.now }
     {
         self.numbers.get(url).copied()
+    }
+
+    /// The id of the module that stands under a URL.
+    pub fn module_at(&self, url: &Text) -> Option<ModuleId>
+        requires { IsWell self.now }
+        ensures { (records : List RecordParts) → AreOne (view_of self.now) records → IsModuleAt (view_of self.now) records url.now result }
+    {
+        match self.find(url) {
+            Some(place) => {
+                let slot = &self.slots[place];
+                match slot.stand {
+                    Stand::Module(id) => Some(id),
+                    _ => None,
+                }
+            }
+            None => None,
+        }
+    }
+
+    /// Whether the load goes on.
+    pub fn is_loading(&self) -> bool
+        ensures { result ≡ loads_on self.now.stage }
+    {
+        matches!(&self.stage, Stage::Loading)
     }
 }
 
