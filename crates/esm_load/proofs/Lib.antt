@@ -18,5 +18,6 @@ pub mod EnterSteps
 pub mod Unlinked
 pub mod Freshness
 pub mod EnterFacts
+pub mod First
 pub mod Places
 pub mod Lists
