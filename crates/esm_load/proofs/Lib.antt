@@ -18,8 +18,12 @@ pub mod EnterSteps
 pub mod Unlinked
 pub mod Freshness
 pub mod EnterFacts
+pub mod First
 pub mod Places
 pub mod Lists
 pub mod Clean
 pub mod Grows
 pub mod NoLimit
+pub mod Arrived
+pub mod Settled
+pub mod Stored

@@ -26,7 +26,7 @@ same_sym u v = by (same_url u v) refl (same_url v u) refl
     by true e false f = absurd (true≢false (sym (turn u v e) ∙ f))
     by false e true f = absurd (true≢false (sym (turn v u f) ∙ e))
 
-none_map : (o : Option ℕ) → option_map suc o ≡ None → o ≡ None
+pub none_map : (o : Option ℕ) → option_map suc o ≡ None → o ≡ None
 none_map None e = refl
 none_map (Some k) e = cc
 
@@ -44,7 +44,7 @@ pub record IsPlaced (us : List Url) (k : ℕ) (u : Url) : Type 0 where
   pub within : k < length us
   pub at : slice_get us k ≡ Some u
 
-some_map : (o : Option ℕ) (k : ℕ) → option_map suc o ≡ Some k → (j : ℕ) × (o ≡ Some j) × (k ≡ suc j)
+pub some_map : (o : Option ℕ) (k : ℕ) → option_map suc o ≡ Some k → (j : ℕ) × (o ≡ Some j) × (k ≡ suc j)
 some_map None k e = cc
 some_map (Some j) k e = (j, refl, sym (some_same e))
   where

@@ -11,3 +11,4 @@ pub mod TableView
 pub mod Well
 pub mod Changes
 pub mod Steps
+pub mod Arriving

@@ -13,7 +13,8 @@ ghost use Rattle.esm_load.specs.LoadsView.{AreOne, loading_of, no_loads};
 ghost use Rattle.esm_load.specs.Steps.{AnswersNext, HasNoNext, IsEnd, IsModuleAt, askers_left};
 
 use crate::LoadEnd;
-use crate::table::{open_slot, Loaded, Stage, Table};
+use crate::arriving::arrive;
+use crate::table::{ask_first, Loaded, Stage, Table};
 use esm_ast::{Outcome, Tree};
 use esm_base::{ModuleId, Text};
 use esm_realm::Realm;
@@ -67,9 +68,13 @@ impl Loads {
         ensures realm { records_of realm.new ≡ records_of realm.old }
     {
         let _ = realm;
-        open_slot(&mut self.table, self.alloc, url)?;
-        self.table.stage = Stage::Asked;
-        Ok(())
+        match ask_first(&mut self.table, self.alloc, url) {
+            Ok(()) => Ok(()),
+            Err(end) => {
+                self.table = Table::new(self.alloc);
+                Err(end)
+            }
+        }
     }
 
     /// Takes what the fetch of an open ask has come to. Those who waited for it are then answered by `step`.
@@ -90,10 +95,13 @@ impl Loads {
         ensures limit { (limit : StopBy) → result ≡ Err (LoadEnd.Limit limit) → (settle (loading_of self.old (records_of realm.old)) url.now (seen (completion_of outcome.now))).stopped ≡ Some limit }
         ensures sound { Sound (records_of realm.new) }
     {
-        let _ = url;
-        let _ = realm;
-        let _ = outcome;
-        Err(LoadEnd::Memory)
+        match arrive(&mut self.table, realm, self.alloc, url, outcome) {
+            Ok(()) => Ok(()),
+            Err(end) => {
+                self.table = Table::new(self.alloc);
+                Err(end)
+            }
+        }
     }
 
     /// Answers the first asker of a settled URL, in order of asking; false exactly where there is none.
@@ -153,5 +161,28 @@ impl Loads {
         ensures { (records : List RecordParts) → AreOne self.now records → IsModuleAt self.now records url.now result }
     {
         self.table.module_at(url)
+    }
+}
+
+#[cfg(test)]
+mod tests {
+    use super::*;
+    use std::test::Fail;
+
+    #[test]
+    fn asks_for_the_entry(rt: HostRuntime) -> Result<(), Fail> {
+        let alloc = rt.alloc();
+        let mut realm = Realm::new(alloc);
+        let mut loads = Loads::new(alloc);
+        assert!(rt; loads.asks().is_empty());
+        let url = Text::copy(alloc, "https://a.test/main.js")?;
+        assert!(rt; loads.ask_entry(&mut realm, &url).is_ok());
+        assert!(rt; loads.asks().len() == 1);
+        assert!(rt; loads.asks()[0] == url);
+        assert!(rt; loads.ended().is_none());
+        assert!(rt; loads.module_at(&url).is_none());
+        assert!(rt; loads.trees().is_empty());
+        assert!(rt; !loads.take_job());
+        Ok(())
     }
 }

@@ -121,3 +121,39 @@ pub fn resolve(alloc: Global, referrer: &str, specifier: &str) -> Result<Text, S
         None => Err(SpecEnd::Fault(SpecFault::S4)),
     }
 }
+
+#[cfg(test)]
+mod tests {
+    use super::*;
+    use std::test::Fail;
+
+    #[test]
+    fn specifiers_resolve_as_the_standard_says(rt: HostRuntime) -> Result<(), Fail> {
+        let alloc = rt.alloc();
+        let main = "https://a.test/main.js";
+        let rows = [
+            ("./a.js", "https://a.test/a.js"),
+            ("././t.js", "https://a.test/t.js"),
+            ("../b.js", "https://a.test/b.js"),
+            ("/lib/c.js", "https://a.test/lib/c.js"),
+            ("HTTPS://b.test:443/d.js", "https://b.test/d.js"),
+            ("react", "S4"),
+            ("a.js", "S4"),
+        ];
+        for (specifier, wanted) in rows {
+            let shown = match resolve(alloc, main, specifier) {
+                Ok(url) => url,
+                Err(SpecEnd::Fault(SpecFault::S4)) => Text::copy(alloc, "S4")?,
+                Err(SpecEnd::Fault(SpecFault::S5)) => Text::copy(alloc, "S5")?,
+                Err(SpecEnd::Memory) => Text::copy(alloc, "Memory")?,
+            };
+            assert!(rt; shown.is(wanted));
+        }
+        let mut long = String::from_str(alloc, "https://a.test/")?;
+        while long.len() < 8193 {
+            long.push_str("a")?;
+        }
+        assert!(rt; resolve(alloc, main, long.as_str()) == Err(SpecEnd::Fault(SpecFault::S5)));
+        Ok(())
+    }
+}
