@@ -1,11 +1,12 @@
 -- What a machine tells where it stands for a list of deliveries.
-use Rattle.std.proofs.Common.{◌≡◌, ℕ, List, [], ◌∷◌, ◌++◌, Bool, true, false, Some, None, Option, Result, Ok, Err, refl, ap, subst, sym, ◌∙◌}
+use Rattle.std.proofs.Common.{◌≡◌, ℕ, zero, suc, ◌<◌, arith, length, get_or, List, [], ◌∷◌, ◌++◌, Bool, true, false, Some, None, Option, Result, Ok, Err, refl, ap, subst, sym, ◌∙◌}
 use Rattle.std.specs.Prelude.{is_some, IsSome, ◌↔◌, slice_get, option_map, codes, ◌≢◌}
 use Rattle.std.specs.FinMap.{get-empty}
 use Rattle.esm_base.specs.declared.status.Limit.{Limit}
 use Rattle.esm_base.specs.declared.status.Status.{Status}
 use Rattle.esm_base.specs.declared.status.Status.TheVariants as statuses
-use Rattle.esm_realm.specs.Urls.{Text, Url, has, url_cmp}
+use Rattle.esm_realm.specs.Urls.{Text, Url, has, same_url, url_cmp}
+use Rattle.esm_realm.proofs.Urls.{has_own, or_true}
 use Rattle.esm_load.specs.Completion.{Completion}
 use Rattle.esm_load.specs.Loading.{Loading, LoadState, Asked, Open, Whole, Thrown, Root, opening_loading}
 use Rattle.esm_load.specs.Arrival.{open_asks, next_by}
@@ -153,3 +154,18 @@ status_exactly (ends.Limit limit) l (Some (ends.Limit k)) e = (λ h. tt, λ h. r
 status_exactly (ends.Limit limit) l (Some ends.Memory) e = cc
 status_exactly ends.Memory l (Some (ends.Limit k)) e = cc
 status_exactly ends.Memory l (Some ends.Memory) e = (λ h. let f : false ≡ true = h in cc, λ h. absurd h)
+
+-- ---- an ask may be delivered
+
+asked_at : (us : List Url) (k : ℕ) (u : Url) → k < length us → u ≡ get_or us k u → has us u ≡ true
+asked_at [] k u lt e = absurd (omega (arith, lt))
+asked_at (v ∷ us) zero u lt e = subst (λ w. has (w ∷ us) u ≡ true) e (has_own u us)
+asked_at (v ∷ us) (suc k) u lt e = or_true (same_url u v) (has us u) (asked_at us k u (omega (arith, lt)) e)
+
+may_by : (o : Option TurnEnd) (l : Loading) (u : Url) → has (asks_by_stop o l) u ≡ true → MayTakeBy o l u
+may_by None l u h = h
+may_by (Some end) l u h = tt
+
+-- the ask at a place
+pub may_take_at : (m : State) (us : List Url) (k : ℕ) (u : Url) → us ≡ asks_of m → k < length us → u ≡ get_or us k u → MayTake m u
+may_take_at m us k u e lt at = may_by m.stopped m.loading u (subst (λ vs. has vs u ≡ true) e (asked_at us k u lt at))
