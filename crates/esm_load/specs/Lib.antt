@@ -8,4 +8,6 @@ pub mod Laws
 pub mod Examples
 pub mod LoadsView
 pub mod TableView
+pub mod Well
+pub mod Changes
 pub mod Steps

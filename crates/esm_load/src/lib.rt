@@ -2,6 +2,7 @@
 #![tactic(auto)]
 
 mod end;
+mod entering;
 pub mod laws;
 mod loads;
 pub mod plain;

@@ -13,7 +13,7 @@ ghost use Rattle.esm_load.specs.LoadsView.{AreOne, loading_of, no_loads};
 ghost use Rattle.esm_load.specs.Steps.{AnswersNext, HasNoNext, IsEnd, IsModuleAt, askers_left, is_end};
 
 use crate::LoadEnd;
-use crate::table::{Loaded, Stage, Table};
+use crate::table::{ask_first, Loaded, Stage, Table};
 use esm_ast::{Outcome, Tree};
 use esm_base::{ModuleId, Text};
 use esm_realm::Realm;
@@ -27,6 +27,7 @@ use std::sync::Arc;
 #[derive(Drop)]
 pub struct Loads {
     table: Table,
+    alloc: Global,
 }
 
 impl Model for Loads {
@@ -39,10 +40,9 @@ impl Model for Loads {
 
     ghost view = { λ l. view_of l.table };
 
-    ghost use Rattle.std.specs.Prelude.{◌≡◌, [], false};
-    ghost use Rattle.esm_load.specs.declared.table.Stage.TheVariants.{Idle};
+    ghost use Rattle.esm_load.specs.Well.{IsWell};
 
-    ghost invariant = { λ l. (l.table.slots.items ≡ []) × (l.table.asks.items ≡ []) × (l.table.stage ≡ Idle) × (l.table.job ≡ false) };
+    ghost invariant = { λ l. IsWell l.table };
 }
 
 impl Loads {
@@ -52,6 +52,7 @@ impl Loads {
     {
         Loads {
             table: Table::new(alloc),
+            alloc,
         }
     }
 
@@ -65,9 +66,14 @@ impl Loads {
         ensures limit { (limit : StopBy) → result ≡ Err (LoadEnd.Limit limit) → ⊥ }
         ensures realm { records_of realm.new ≡ records_of realm.old }
     {
-        let _ = url;
         let _ = realm;
-        Err(LoadEnd::Memory)
+        match ask_first(&mut self.table, self.alloc, url) {
+            Ok(()) => Ok(()),
+            Err(end) => {
+                self.table = Table::new(self.alloc);
+                Err(end)
+            }
+        }
     }
 
     /// Takes what the fetch of an open ask has come to. Those who waited for it are then answered by `step`.
@@ -151,8 +157,29 @@ impl Loads {
     pub fn module_at(&self, url: &Text) -> Option<ModuleId>
         ensures { (records : List RecordParts) → AreOne self.now records → IsModuleAt self.now records url.now result }
     {
-        let _ = url;
-        let _ = &self.table.asks;
-        None
+        self.table.module_at(url)
+    }
+}
+
+#[cfg(test)]
+mod tests {
+    use super::*;
+    use std::test::Fail;
+
+    #[test]
+    fn asks_for_the_entry(rt: HostRuntime) -> Result<(), Fail> {
+        let alloc = rt.alloc();
+        let mut realm = Realm::new(alloc);
+        let mut loads = Loads::new(alloc);
+        assert!(rt; loads.asks().is_empty());
+        let url = Text::copy(alloc, "https://a.test/main.js")?;
+        assert!(rt; loads.ask_entry(&mut realm, &url).is_ok());
+        assert!(rt; loads.asks().len() == 1);
+        assert!(rt; loads.asks()[0] == url);
+        assert!(rt; loads.ended().is_none());
+        assert!(rt; loads.module_at(&url).is_none());
+        assert!(rt; loads.trees().is_empty());
+        assert!(rt; !loads.take_job());
+        Ok(())
     }
 }
