@@ -132,7 +132,7 @@ module _ (v : LoadsView) (records : List RecordParts) where
       let n = next_module log steps f.others f.u a.rest a.mid a.running f.all in
       let begun : IsRunning log steps (begins n.mid f.u) = begun_runs log steps n.mid f.u n.running in
       let runs : IsRunning new_log new_steps (run_body (body (loading_of v records)) n.mid f.u) =
-        subst (λ items. IsRunning new_log new_steps (ends (run_items items (begins n.mid f.u)) f.u)) (body_is f.u id.0 items tree f.at) (ended_runs new_log new_steps (run_items items (begins n.mid f.u)) f.u (ran (begins n.mid f.u) begun)) in
+      subst (λ items. IsRunning new_log new_steps (ends (run_items items (begins n.mid f.u)) f.u)) (body_is f.u id.0 items tree f.at) (ended_runs new_log new_steps (run_items items (begins n.mid f.u)) f.u (ran (begins n.mid f.u) begun)) in
       record {
         rest = n.rest;
         are = subst (λ us. AreModules v records ids us) (sym n.are) f.are;
@@ -152,9 +152,9 @@ module _ (v : LoadsView) (records : List RecordParts) where
       let n = next_module log steps f.others f.u a.rest a.mid a.running f.all in
       let begun : IsRunning log steps (begins n.mid f.u) = begun_runs log steps n.mid f.u n.running in
       let stop : IsStopped limit new_log (run_body (body (loading_of v records)) n.mid f.u) =
-        subst (λ items. IsStopped limit new_log (ends (run_items items (begins n.mid f.u)) f.u)) (body_is f.u id.0 items tree f.at) (ended_stops limit new_log (run_items items (begins n.mid f.u)) f.u (ran (begins n.mid f.u) begun)) in
+      subst (λ items. IsStopped limit new_log (ends (run_items items (begins n.mid f.u)) f.u)) (body_is f.u id.0 items tree f.at) (ended_stops limit new_log (run_items items (begins n.mid f.u)) f.u (ran (begins n.mid f.u) begun)) in
       let e : run_bodies (body (loading_of v records)) all b ≡ run_body (body (loading_of v records)) n.mid f.u =
-        sym a.leads ∙ sym n.leads ∙ bodies_live (body (loading_of v records)) f.u n.rest n.mid n.running.live ∙ bodies_stopped (body (loading_of v records)) n.rest (run_body (body (loading_of v records)) n.mid f.u) limit stop.stopped in
+      sym a.leads ∙ sym n.leads ∙ bodies_live (body (loading_of v records)) f.u n.rest n.mid n.running.live ∙ bodies_stopped (body (loading_of v records)) n.rest (run_body (body (loading_of v records)) n.mid f.u) limit stop.stopped in
       subst (λ c. IsStopped limit new_log c) (sym e) stop
 
   -- no body is left

@@ -80,9 +80,9 @@ module _ (v : LoadsView) (records : List RecordParts) where
       other : (w : Url) (i : ℕ) → IsModule v records w i → nat_eq i x ≡ false → same_url w u ≡ false
       other w i is ne =
           not_true (same_url w u) (λ same.
-            let e : w ≡ u = same_text w u same in
-            let at : IsModule v records u i = subst (λ y. IsModule v records y i) e is in
-            not_both (nat_eq i x) (eq-eqb i x (one_module v records u i x sound at m)) ne)
+          let e : w ≡ u = same_text w u same in
+          let at : IsModule v records u i = subst (λ y. IsModule v records y i) e is in
+          not_both (nat_eq i x) (eq-eqb i x (one_module v records u i x sound at m)) ne)
 
       by : (w : Url) (i : ℕ) → IsModule v records w i → (nat_eq i x ≡ true) ⊎ (nat_eq i x ≡ false) → get_or (set entered x true) i false ≡ has (u ∷ seen) w
       by w i is (inl t) =

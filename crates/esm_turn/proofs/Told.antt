@@ -101,19 +101,19 @@ result_err (Err end) = Some end
 pub took : (result : Result (Unit {0}) TurnEnd) (old new : State) (u : Url) (c : Completion) → old.stopped ≡ None → new.stopped ≡ result_err result → MayTake old u
     → ((w : World) → IsLive old.loading old.log old.steps w → Leads (Turn w u c) result new.loading new.log new.steps) → Took old u c result new
 took (Ok done) old new u c e f may turn = (
-    f,
-    λ entry ds s.
+  f,
+  λ entry ds s.
       let live : IsLive old.loading old.log old.steps s.0 = subst (λ o. ShowsBy o old s.0) e s.2 in
       let t = turn s.0 live in
       stands_on entry old new ds s.0 t.0 u c s.1 live (may_take old.stopped old.loading u e may) t.1 (subst (λ o. ShowsBy o new t.0) (sym f) t.2),
-  )
+)
 took (Err (ends.Limit limit)) old new u c e f may turn = (
-    f,
-    λ entry ds s.
+  f,
+  λ entry ds s.
       let live : IsLive old.loading old.log old.steps s.0 = subst (λ o. ShowsBy o old s.0) e s.2 in
       let t = turn s.0 live in
       stands_on entry old new ds s.0 t.0 u c s.1 live (may_take old.stopped old.loading u e may) t.1 (subst (λ o. ShowsBy o new t.0) (sym f) t.2),
-  )
+)
 took (Err ends.Memory) old new u c e f may turn = f
 
 -- ---- what a machine computes

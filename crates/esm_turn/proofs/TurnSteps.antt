@@ -113,8 +113,7 @@ task_goes_on result l mid new log new_log steps new_steps w live a leads = by re
 -- an answer that a limit stops
 pub task_stops : (l mid new : Loading) (log : Text) (steps new_steps : ℕ) (limit : Limit) (w : World) → IsLive l log steps w → AnswersNext l mid → mid.stopped ≡ Some limit → Leads (IsTask w) (Err (ends.Limit limit)) new log new_steps
 task_stops l mid new log steps new_steps limit w live a e =
-    let s : stopped (record w { loading = mid }) ≡ Some limit = first_some mid.stopped w.bodies.stopped limit e in
-    (
+    let s : stopped (record w { loading = mid }) ≡ Some limit = first_some mid.stopped w.bodies.stopped limit e in (
       record w { loading = mid },
       record { live = live.live; loading = mid; answers = subst (λ k. AnswersNext k mid) (sym live.loading) a; jobs = Jobs.stops limit s },
       record { stopped = s; written = live.bodies.written },

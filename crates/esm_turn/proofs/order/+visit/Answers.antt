@@ -48,10 +48,10 @@ loop-target-preserved t c =
     record {
       falls = let lt = c.loop-target.invariant.falls in let le = c.in_ok-visit.ensures.fewer in omega arith;
       completes = λ seen f.
-        let at : drop c.loop-target.target-index c.deref-target-items.result.now ≡ c.target-item.result ∷ drop (suc c.loop-target.target-index) c.deref-target-items.result.now =
+          let at : drop c.loop-target.target-index c.deref-target-items.result.now ≡ c.target-item.result ∷ drop (suc c.loop-target.target-index) c.deref-target-items.result.now =
           drop-cons c.deref-target-items.result.now c.loop-target.target-index c.target-item.result c.loop-target-test.true ∙ ap (λ x. x ∷ drop (suc c.loop-target.target-index) c.deref-target-items.result.now) (sym c.target-item.is) in
-        let mid = rw at at (c.loop-target.invariant.completes seen f) in
-        rw add-one (walk_passed _ _ c.args.url.now c.target-item.result seen _ _ _ _ _ c.loop-target.target-index _ mid (c.in_ok-visit.ensures.walk mid.mid mid.flags));
+          let mid = rw at at (c.loop-target.invariant.completes seen f) in
+          rw add-one (walk_passed _ _ c.args.url.now c.target-item.result seen _ _ _ _ _ c.loop-target.target-index _ mid (c.in_ok-visit.ensures.walk mid.mid mid.flags));
     }
 
 pub returns-clause-walk : goal.returns-clause-walk

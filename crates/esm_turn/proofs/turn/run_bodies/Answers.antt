@@ -17,7 +17,7 @@ loop-id-preserved c =
     let id : ModuleId = get_or c.args.order.now c.loop-id.id-index (record { 0 = 0 }) in
     let within = within_trees arc_value c.trees-trees.result.now c.args.loads.now.trees id.0 c.trees-trees.ensures (c.requires c.loop-id.id-index (record { 0 = 0 }) c.loop-id-test.true) in
     let tree : slice_get c.args.loads.now.trees id.0 ≡ Some c.deref.result.now =
-      mapped_at arc_value c.trees-trees.result.now c.args.loads.now.trees id.0 c.index-trees-id.result c.trees-trees.ensures within c.index-trees-id.is ∙ ap Some (sym c.deref.ensures) in
+    mapped_at arc_value c.trees-trees.result.now c.args.loads.now.trees id.0 c.index-trees-id.result c.trees-trees.ensures within c.index-trees-id.is ∙ ap Some (sym c.deref.ensures) in
     λ records all b a r.
     let left = rw (split_at c.args.order.now c.loop-id.id-index (record { 0 = 0 }) c.loop-id-test.true) at (c.loop-id.invariant records all b a r) in
     left_goes_on c.args.loads.now records _ _ _ _ id _ c.deref.result.now all b tree (λ mid m. c.in-Ok.ensures mid m) left
@@ -27,7 +27,7 @@ returns-in-Err c =
     let id : ModuleId = get_or c.args.order.now c.loop-id.id-index (record { 0 = 0 }) in
     let within = within_trees arc_value c.trees-trees.result.now c.args.loads.now.trees id.0 c.trees-trees.ensures (c.requires c.loop-id.id-index (record { 0 = 0 }) c.loop-id-test.true) in
     let tree : slice_get c.args.loads.now.trees id.0 ≡ Some c.deref.result.now =
-      mapped_at arc_value c.trees-trees.result.now c.args.loads.now.trees id.0 c.index-trees-id.result c.trees-trees.ensures within c.index-trees-id.is ∙ ap Some (sym c.deref.ensures) in
+    mapped_at arc_value c.trees-trees.result.now c.args.loads.now.trees id.0 c.index-trees-id.result c.trees-trees.ensures within c.index-trees-id.is ∙ ap Some (sym c.deref.ensures) in
     λ records all b a r.
     let left = rw (split_at c.args.order.now c.loop-id.id-index (record { 0 = 0 }) c.loop-id-test.true) at (c.loop-id.invariant records all b a r) in
     left_ends c.args.loads.now records c.in-Err.end _ _ _ _ id _ c.deref.result.now all b tree (λ mid m. c.in-Err.ensures mid m) left

@@ -16,7 +16,7 @@ returns-in-Err-clause-task c = λ w live.
     let mid = loading_in (record c.args.parts.now { realm = c.step.new.realm; loads = c.step.new.self }) in
     let answers = c.in-Ok-true.ensures.answers (ap (λ b. Ok b) c.in-Ok-true.field-0-test) in
     by_task c.in-Err.end w c.run_jobs.new.parts (loading_in c.run_jobs.new.parts) _
-      (task_goes_on (Err c.in-Err.end) l mid (loading_in c.run_jobs.new.parts) _ _ _ _ w live answers (c.in-Err.ensures.jobs (record w { loading = mid }) (live_answered l mid _ _ w refl live)))
+    (task_goes_on (Err c.in-Err.end) l mid (loading_in c.run_jobs.new.parts) _ _ _ _ w live answers (c.in-Err.ensures.jobs (record w { loading = mid }) (live_answered l mid _ _ w refl live)))
 
 pub returns-in-Err-Limit-clause-task : goal.returns-in-Err-Limit-clause-task
 returns-in-Err-Limit-clause-task c = λ w live.

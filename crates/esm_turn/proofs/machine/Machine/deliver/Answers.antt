@@ -11,10 +11,10 @@ pub returns-in-Ok-clause-turn : goal.returns-in-Ok-clause-turn
 returns-in-Ok-clause-turn c = λ e.
     let new : State = record { loading = loading_in c.run_turn.new.parts; log = c.run_turn.new.parts.engine.log.items; steps = c.run_turn.new.parts.engine.steps; stopped = c.self.inside.stopped } in
     took (Ok tt) c.args.self.now new c.args.url.now (seen (completion_of c.args.outcome.now)) e c.in-None.is c.requires
-      (λ w live. c.in-Ok.ensures.turn w (subst (λ (m : State). IsLive m.loading m.log m.steps w) (sym c.self.view_is) live))
+    (λ w live. c.in-Ok.ensures.turn w (subst (λ (m : State). IsLive m.loading m.log m.steps w) (sym c.self.view_is) live))
 
 pub returns-in-Err-clause-turn : goal.returns-in-Err-clause-turn
 returns-in-Err-clause-turn c = λ e.
     let new : State = record { loading = loading_in c.run_turn.new.parts; log = c.run_turn.new.parts.engine.log.items; steps = c.run_turn.new.parts.engine.steps; stopped = Some c.in-Err.end } in
     took (Err c.in-Err.end) c.args.self.now new c.args.url.now (seen (completion_of c.args.outcome.now)) e refl c.requires
-      (λ w live. c.in-Err.ensures.turn w (subst (λ (m : State). IsLive m.loading m.log m.steps w) (sym c.self.view_is) live))
+    (λ w live. c.in-Err.ensures.turn w (subst (λ (m : State). IsLive m.loading m.log m.steps w) (sym c.self.view_is) live))
