@@ -1,15 +1,13 @@
 -- Lemmas on places of URLs.
 use mathlib.Core.Bool.{true≢false}
-use Rattle.std.proofs.Common.{◌≡◌, ℕ, suc, zero, ◌+◌, ◌<◌, ◌≤◌, Bool, true, false, cond, List, [], ◌∷◌, ◌++◌, length, map, Option, Some, None, refl, ap, subst, sym, ◌∙◌, arith, inl, inr, length-append}
-use Rattle.std.specs.Prelude.{◌⊎◌, ◌||◌, ◌&&◌, ◌==◌, slice_get, option_map, nat_eq}
-use Rattle.std.specs.Ordering.{eq_by_cmp, is_eq, nat_cmp}
-use Rattle.std.specs.Cmp.Lexicographic.{slice_cmp}
-use Rattle.std.specs.Str.{bytes_eq}
+use Rattle.std.proofs.Common.{◌≡◌, ℕ, suc, zero, ◌<◌, Bool, true, false, cond, List, [], ◌∷◌, ◌++◌, length, Option, Some, None, refl, ap, subst, sym, ◌∙◌, arith}
+use Rattle.std.specs.Prelude.{◌||◌, slice_get, option_map}
+use Rattle.std.specs.Ordering.{eq_by_cmp}
 use Rattle.std.proofs.lemmas.Map.Text.{is_eq-slice_cmp}
 use Rattle.esm_realm.specs.Urls.{Url, url_cmp, has, same_url}
 use Rattle.esm_realm.specs.Laws.{AreDistinct}
-use Rattle.esm_realm.proofs.Urls.{cases, same_text, own_text, or_true, or_left, or_cases, or_false, both_false, not_true, not_both, has_append}
-use Rattle.esm_load.specs.TableView.{place_in, place_by, url_at, onto, visited_at}
+use Rattle.esm_realm.proofs.Urls.{same_text, own_text, or_true, or_left, both_false, not_both}
+use Rattle.esm_load.specs.TableView.{place_in, place_by}
 
 pub cmp_same : (u v : Url) → eq_by_cmp url_cmp u v ≡ same_url u v
 cmp_same u v = is_eq-slice_cmp u v

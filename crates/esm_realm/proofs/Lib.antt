@@ -3,3 +3,4 @@ pub mod WalkLaws
 pub mod LeavesOnce
 pub mod WalkBy
 pub mod Sounds
+pub mod PlainRecords
