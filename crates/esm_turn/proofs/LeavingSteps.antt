@@ -1,6 +1,5 @@
 -- The steps of a walk by ids.
-use mathlib.Core.Bool.{true≢false}
-use Rattle.std.proofs.Common.{◌≡◌, ℕ, suc, zero, ◌+◌, ◌≤◌, ◌<◌, Bool, true, false, List, [], ◌∷◌, ◌++◌, length, drop, get_or, set, Option, Some, None, refl, ap, subst, sym, ◌∙◌, arith, inl, inr, eq-eqb, eqb-true, append_assoc}
+use Rattle.std.proofs.Common.{◌≡◌, ℕ, suc, zero, ◌≤◌, ◌<◌, Bool, true, false, List, [], ◌∷◌, ◌++◌, length, get_or, set, Option, Some, None, refl, ap, subst, sym, ◌∙◌, arith, inl, inr, eq-eqb, eqb-true, append_assoc}
 use Rattle.std.specs.Prelude.{◌⊎◌, ◌||◌, slice_get, map, filter, nat_eq, nat_lt, option_map, replicate}
 use Rattle.std.specs.FinMap.{get}
 use Rattle.std.proofs.lemmas.List.{append-nil, get_or-set_same, get_or-set_other, length-map, get_or-replicate, get_or_past, length-replicate}
@@ -8,7 +7,7 @@ use Rattle.std.proofs.lemmas.List.Elements.{filter-append}
 use Rattle.std.proofs.lemmas.Option.{slice_get_within, slice_get-map, slice_get-get_or}
 use Rattle.esm_base.specs.declared.module_id.ModuleId.{ModuleId}
 use Rattle.esm_realm.specs.Urls.{Url, has, same_url}
-use Rattle.esm_realm.specs.Walk.{Mark, Visits, Passes, leaves}
+use Rattle.esm_realm.specs.Walk.{Mark, Passes, leaves}
 use Rattle.esm_realm.specs.Walk.Mark.{Enter, Pass, Leave}
 use Rattle.esm_realm.specs.Walk.Visits.{known, fresh}
 use Rattle.esm_realm.specs.Walk.Passes.{all, next}
@@ -18,8 +17,8 @@ use Rattle.esm_realm.specs.Sound.{RecordParts, Sound, url_of, parts_of}
 use Rattle.esm_realm.specs.declared.record.Record.{Record}
 use Rattle.esm_realm.proofs.Urls.{cases, same_text, own_text, not_both, not_true, has_own, or_true, or_left}
 use Rattle.esm_realm.proofs.LeavesOnce.{leaves_append}
-use Rattle.esm_load.specs.Table.{Entry, Module, Failed, Broken, targets_in, body_in}
-use Rattle.esm_load.specs.Loading.{Loading, targets}
+use Rattle.esm_load.specs.Table.{Entry, Module, Failed, Broken, targets_in}
+use Rattle.esm_load.specs.Loading.{targets}
 use Rattle.esm_load.specs.LoadsView.{LoadsView, HasRecord, loading_of}
 use Rattle.esm_load.specs.Steps.{IsModule}
 use Rattle.esm_turn.specs.Leaving.{is_module, is_module_in, AreModules, AreFlags, Walked, unset, unset_by}

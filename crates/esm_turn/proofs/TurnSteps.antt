@@ -1,22 +1,21 @@
 -- The steps of a turn.
 use Rattle.std.proofs.Common.{◌≡◌, ℕ, Bool, true, false, List, [], ◌∷◌, Some, None, Option, Result, Ok, Err, refl, ap, subst, sym, ◌∙◌}
-use Rattle.std.specs.Prelude.{slice_get, cond}
+use Rattle.std.specs.Prelude.{slice_get}
 use Rattle.esm_base.specs.declared.status.Limit.{Limit}
 use Rattle.esm_realm.specs.Urls.{Text, Url}
 use Rattle.esm_realm.specs.Walk.{Mark, IsWalk, leaves}
 use Rattle.esm_load.specs.Completion.{Completion}
 use Rattle.esm_load.specs.Loading.{Loading, LoadState, Whole, Thrown, targets, body}
-use Rattle.esm_load.specs.Load.{Answers}
 use Rattle.esm_load.specs.Arrival.{settle, next}
 use Rattle.esm_load.specs.Steps.{AnswersNext, HasNoNext}
 use Rattle.esm_turn.specs.declared.turn_end.TurnEnd.{TurnEnd}
 use Rattle.esm_turn.specs.declared.turn_end.TurnEnd.TheVariants as ends
-use Rattle.esm_turn.specs.Bodies.{Bodies, run_bodies}
+use Rattle.esm_turn.specs.Bodies.{run_bodies}
 use Rattle.esm_turn.specs.World.{World, Evaluates, Follows, Jobs, Tasks, Turn, stopped, first_stop, with_jobs}
 use Rattle.esm_turn.specs.World.Evaluates.{evaluates}
 use Rattle.esm_turn.specs.World.Follows.{loaded, failed}
-use Rattle.esm_turn.specs.Engine.{IsRunning, IsStopped, Ran}
-use Rattle.esm_turn.specs.Stands.{IsLive, IsHalted, Leads}
+use Rattle.esm_turn.specs.Engine.{Ran}
+use Rattle.esm_turn.specs.Stands.{IsLive, Leads}
 use Rattle.esm_turn.specs.Parts.{IsTask, LeadsByTask, AreLive, loading_in}
 use Rattle.esm_turn.specs.declared.turn.Parts.{Parts}
 use Rattle.esm_turn.proofs.Keeps.{both_none, first_some}

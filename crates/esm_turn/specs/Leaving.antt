@@ -1,5 +1,5 @@
 -- A walk by the ids of modules: which of them it has entered, and in which order it has left them.
-use Rattle.std.specs.Prelude.{◌≡◌, ℕ, suc, Bool, true, false, List, [], ◌∷◌, ◌++◌, slice_index_or, filter, Option, Some, None}
+use Rattle.std.specs.Prelude.{◌≡◌, ℕ, suc, Bool, true, false, List, [], ◌∷◌, ◌++◌, slice_index_or, filter, Option, Some}
 use Rattle.std.specs.FinMap.{get}
 use Rattle.esm_base.specs.declared.module_id.ModuleId.{ModuleId}
 use Rattle.esm_realm.specs.Urls.{Url, has}
