@@ -1,5 +1,5 @@
 -- A table with one more URL is well.
-use Rattle.std.proofs.Common.{◌≡◌, ℕ, suc, zero, ◌+◌, ◌<◌, ◌≤◌, Bool, true, false, cond, List, [], ◌∷◌, ◌++◌, length, map, Option, Some, None, refl, ap, subst, sym, ◌∙◌, arith, inl, inr, length-append}
+use Rattle.std.proofs.Common.{◌≡◌, ℕ, suc, zero, ◌+◌, ◌<◌, Bool, true, false, cond, List, [], ◌∷◌, ◌++◌, length, Some, None, refl, ap, subst, sym, ◌∙◌, arith, inl, inr, length-append}
 use Rattle.std.specs.Prelude.{◌⊎◌, slice_get, All}
 use Rattle.std.specs.declared.collections.VecDeque.{VecDeque}
 use Rattle.std.specs.declared.alloc.Global.{Global}
@@ -14,7 +14,7 @@ use Rattle.esm_realm.proofs.Urls.{not_true, not_both}
 use Rattle.esm_load.specs.LoadsView.{url_of_slot}
 use Rattle.esm_load.specs.TableView.{urls_of, url_at, place_in, visited_at, is_open, open_urls, places_of}
 use Rattle.esm_load.specs.Well.{IsWell, AreIndexed, AreQueued, AreFlagged, IsModuleSlot, IsLast, IsStage}
-use Rattle.esm_load.specs.Changes.{IsAdded, KeepsWaiters}
+use Rattle.esm_load.specs.Changes.{IsAdded}
 use Rattle.esm_load.specs.declared.table.Slot.{Slot}
 use Rattle.esm_load.specs.declared.table.Stand.TheVariants.{Open}
 use Rattle.esm_load.specs.declared.table.Waiter.{Waiter}
@@ -23,7 +23,7 @@ use Rattle.esm_load.specs.declared.table.Stage.TheVariants.{Idle, Asked, Loading
 use Rattle.esm_load.specs.declared.table.Loaded.TheVariants.{Ready, Thrown}
 use Rattle.esm_load.specs.declared.table.Table.{Table}
 use Rattle.esm_load.proofs.Places.{place_none, place_push}
-use Rattle.esm_load.proofs.Lists.{get_push, get_kept, get_last, at_kept, at_last, onto_kept, onto_has, Within, open_push, places_past}
+use Rattle.esm_load.proofs.Lists.{get_push, get_kept, at_kept, at_last, onto_kept, onto_has, Within, open_push, places_past}
 
 pub urls_many : (ss : List Slot) → length (urls_of ss) ≡ length ss
 urls_many [] = refl

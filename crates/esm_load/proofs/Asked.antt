@@ -1,28 +1,25 @@
 -- A request asks, as the definition says.
-use Rattle.std.proofs.Common.{◌≡◌, ℕ, suc, zero, ◌+◌, ◌<◌, ◌≤◌, Bool, true, false, List, [], ◌∷◌, ◌++◌, length, Some, None, refl, ap, subst, sym, ◌∙◌, arith, inl, inr, length-append}
-use Rattle.std.specs.Prelude.{◌⊎◌, slice_get, nat_lt, All}
+use Rattle.std.proofs.Common.{◌≡◌, ℕ, ◌<◌, ◌≤◌, true, false, List, [], ◌∷◌, ◌++◌, length, Some, None, refl, ap, subst, sym, ◌∙◌, arith, inl, inr, length-append}
+use Rattle.std.specs.Prelude.{nat_lt, All}
 use Rattle.std.proofs.lemmas.List.Elements.{All-head, All-tail}
-use Rattle.std.proofs.lemmas.Option.{slice_get_within}
 use Rattle.esm_base.specs.declared.status.Limit.TheVariants.{L1}
 use Rattle.esm_realm.specs.Urls.{Url, has}
 use Rattle.esm_realm.specs.Sound.{RecordParts}
 use Rattle.esm_load.specs.Loading.{Loading as World, Asker, Request, LoadState, ask, ask_by}
-use Rattle.esm_load.specs.LoadsView.{AreOne, loading_of, entries_in}
-use Rattle.esm_load.specs.TableView.{view_of, urls_of, url_at, place_in, asker_of, waiting_of, waiting_by, askers_of, loads_of, onto, is_open}
+use Rattle.esm_load.specs.LoadsView.{loading_of}
+use Rattle.esm_load.specs.TableView.{view_of, urls_of, url_at, place_in, asker_of, waiting_of, waiting_by, loads_of, onto, is_open}
 use Rattle.esm_load.specs.Well.{IsWell, IsStage}
-use Rattle.esm_load.specs.Changes.{IsAdded, KeepsWaiters, Waits, Opened, WasFound, IsNew, IsOpenAt, IsUnsettled, Grown, freshness}
+use Rattle.esm_load.specs.Changes.{Waits, Opened, IsNew, IsOpenAt, IsUnsettled, Grown, freshness}
 use Rattle.esm_load.specs.declared.table.Slot.{Slot}
-use Rattle.esm_load.specs.declared.table.Stand.TheVariants.{Open}
 use Rattle.esm_load.specs.declared.table.Waiter.{Waiter}
 use Rattle.esm_load.specs.declared.table.Table.{Table}
-use Rattle.esm_load.specs.declared.table.Stage.{Stage}
 use Rattle.esm_load.specs.declared.table.Stage.TheVariants.{Loading}
 use Rattle.esm_load.proofs.Places.{place_none, listed, place_some}
 use Rattle.esm_load.proofs.Lists.{at_kept, at_last, onto_kept, get_last}
 use Rattle.esm_load.proofs.Waiting.{waiting_push}
 use Rattle.esm_load.proofs.Entries.{entries_open}
 use Rattle.esm_load.proofs.Added.{urls_more, urls_many, visited_within, new_slot}
-use Rattle.esm_load.proofs.Standings.{place_url, place_slot}
+use Rattle.esm_load.proofs.Standings.{place_url}
 use Rattle.esm_load.proofs.Visiting.{fresh_open}
 use Rattle.esm_realm.proofs.Sounds.{all_one}
 

@@ -1,11 +1,10 @@
 -- Lemmas on lists that grow, and on who waits in them.
-use mathlib.Core.Bool.{true≢false}
-use Rattle.std.proofs.Common.{◌≡◌, ℕ, suc, zero, ◌+◌, ◌<◌, ◌≤◌, Bool, true, false, cond, List, [], ◌∷◌, ◌++◌, length, map, Option, Some, None, refl, ap, subst, sym, ◌∙◌, arith, inl, inr, length-append, get_or}
-use Rattle.std.specs.Prelude.{◌⊎◌, ◌||◌, ◌&&◌, ◌==◌, slice_get, nat_eq, All}
+use Rattle.std.proofs.Common.{◌≡◌, ℕ, suc, zero, ◌<◌, Bool, true, false, List, [], ◌∷◌, ◌++◌, length, map, Some, refl, ap, subst, sym, ◌∙◌, arith, inl, inr}
+use Rattle.std.specs.Prelude.{◌⊎◌, ◌&&◌, ◌==◌, slice_get, All}
 use Rattle.std.proofs.lemmas.List.Elements.{All-head, All-tail}
 use Rattle.esm_realm.specs.Urls.{Url, has, same_url}
-use Rattle.esm_realm.proofs.Urls.{cases, same_text, own_text, or_true, or_left, or_cases, not_true, not_both}
-use Rattle.esm_load.specs.TableView.{url_at, onto, open_urls, open_by, is_open, places_of, places_by, waits_for, waits_in}
+use Rattle.esm_realm.proofs.Urls.{same_text, own_text, or_true, or_left, or_cases, not_true}
+use Rattle.esm_load.specs.TableView.{url_at, onto, open_urls, open_by, is_open, places_of, places_by}
 use Rattle.esm_load.specs.declared.table.Slot.{Slot}
 use Rattle.esm_load.specs.declared.table.Waiter.{Waiter}
 

@@ -10,7 +10,7 @@ ghost use Rattle.esm_load.specs.Completion.{seen};
 ghost use Rattle.esm_load.specs.Loading.{Loading, opening_loading};
 ghost use Rattle.esm_load.specs.Arrival.{settle, open_asks};
 ghost use Rattle.esm_load.specs.LoadsView.{AreOne, loading_of, no_loads};
-ghost use Rattle.esm_load.specs.Steps.{AnswersNext, HasNoNext, IsEnd, IsModuleAt, askers_left};
+ghost use Rattle.esm_load.specs.Steps.{AnswersNext, HasNoNext, IsEnd, IsModuleAt, askers_left, is_end};
 
 use crate::LoadEnd;
 use crate::arriving::arrive;

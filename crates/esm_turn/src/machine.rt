@@ -203,6 +203,7 @@ impl Machine {
     /// The status of the run; none while an ask is open, and after want of memory. It takes no memory.
     pub fn end(&self) -> Option<Status>
         ensures state { result ≡ option_map status_of (ending_of self.now) }
+        ensures known { is_some result ≡ is_some (ending_of self.now) }
         ensures exactly { IsSome result ↔ IsEnded self.now }
         ensures memory { self.now.stopped ≡ Some TurnEnd.Memory → result ≡ None }
         ensures standard { (entry : Url) (deliveries : List Delivery) (what : Shown) → Stands entry self.now deliveries → StandardRun entry deliveries what → result ≡ what.status }
