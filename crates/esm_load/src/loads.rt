@@ -1,5 +1,5 @@
 // Loading the entry and all that it reaches.
-ghost use Rattle.std.specs.Prelude.{◌≡◌, ◌<◌, true, false, [], ◌∷◌, List, map, Ok, Err, Some, None, OnOk, cond, option_copied};
+ghost use Rattle.std.specs.Prelude.{◌≡◌, ◌<◌, true, false, [], ◌∷◌, List, map, Ok, Err, Some, None, OnOk, cond, option_copied, slice_get};
 ghost use Rattle.std.specs.Arc.{arc_value};
 ghost use Rattle.esm_ast.specs.Outcome.{completion_of};
 ghost use Rattle.esm_base.specs.declared.status.Limit.{Limit as StopBy};
@@ -142,6 +142,7 @@ impl Loads {
     pub fn take_job(&mut self) -> bool
         ensures before { self.old.jobs ≡ cond result (0 ∷ []) [] }
         ensures after { self.new ≡ record self.old { jobs = [] } }
+        ensures ended { result ≡ true → is_end (slice_get self.old.loads 0) ≡ true }
         ensures one { (records : List RecordParts) → AreOne self.old records → AreOne self.new records }
     {
         let job = self.table.job;
