@@ -19,5 +19,8 @@ pub mod Unlinked
 pub mod Freshness
 pub mod EnterFacts
 pub mod First
+pub mod Left
+pub mod Next
+pub mod Popped
 pub mod Places
 pub mod Lists

@@ -1,6 +1,7 @@
 //! Loading a module and all that it reaches, over fetches that end in any order.
 #![tactic(auto)]
 
+mod answering;
 mod end;
 mod entering;
 pub mod laws;
