@@ -22,5 +22,6 @@ pub mod First
 pub mod Left
 pub mod Next
 pub mod Popped
+pub mod Statuses
 pub mod Places
 pub mod Lists
