@@ -23,5 +23,6 @@ pub mod Left
 pub mod Next
 pub mod Popped
 pub mod Statuses
+pub mod Unlinking
 pub mod Places
 pub mod Lists
