@@ -19,6 +19,11 @@ pub mod Unlinked
 pub mod Freshness
 pub mod EnterFacts
 pub mod First
+pub mod Left
+pub mod Next
+pub mod Popped
+pub mod Statuses
+pub mod Unlinking
 pub mod Places
 pub mod Lists
 pub mod Clean

@@ -7,3 +7,4 @@ pub mod Depth
 pub mod ByNumber
 pub mod Weigh
 pub mod Sounds
+pub mod PlainRecords

@@ -1,7 +1,5 @@
 -- The list of open asks is the invariant's.
 use Rattle.std.proofs.Common.{◌≡◌, sym, ◌∙◌, subst}
-use Rattle.std.specs.Prelude.{List}
-use Rattle.esm_realm.specs.Sound.{RecordParts}
 use Rattle.esm_load.specs.Arrival.{open_asks}
 use Rattle.esm_load.specs.TableView.{view_of}
 use Rattle.esm_load.specs.LoadsView.{LoadsView, AreOne, loading_of}
@@ -12,4 +10,4 @@ pub returns : goal.returns
 returns c records one =
     let t = c.self.inside.table in
     subst (λ (v : LoadsView). c.as_slice.result.now ≡ open_asks (loading_of v records)) c.self.view_is
-      (c.as_slice.ensures.value ∙ (c.self.invariant.asks ∙ sym (asks_are (view_of t) records (subst (λ v. AreOne v records) (sym c.self.view_is) one) c.self.invariant.indexed.distinct)))
+    (c.as_slice.ensures.value ∙ (c.self.invariant.asks ∙ sym (asks_are (view_of t) records (subst (λ v. AreOne v records) (sym c.self.view_is) one) c.self.invariant.indexed.distinct)))
