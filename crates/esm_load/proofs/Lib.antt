@@ -24,6 +24,8 @@ pub mod Next
 pub mod Popped
 pub mod Statuses
 pub mod Unlinking
+pub mod Finishing
+pub mod Requests
 pub mod Places
 pub mod Lists
 pub mod Clean

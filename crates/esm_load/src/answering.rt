@@ -13,7 +13,7 @@ ghost use Rattle.esm_load.specs.Going.{IsSettledAt, Reaches, GoesOn};
 
 use crate::LoadEnd;
 use crate::entering::{Standing, enter, standing_at, throw};
-use crate::table::{Loaded, Slot, Stage, Stand, Table};
+use crate::table::{Loaded, Stage, Stand, Table};
 use esm_base::ModuleId;
 use esm_realm::{ModuleStatus, Realm};
 use std::alloc::Global;

@@ -1,0 +1,1 @@
+use Rattle.esm_load.proofs.answering.answer_request.Goals as goal

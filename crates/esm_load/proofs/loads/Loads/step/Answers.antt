@@ -1,0 +1,1 @@
+use Rattle.esm_load.proofs.loads.Loads.step.Goals as goal
