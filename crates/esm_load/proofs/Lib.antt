@@ -26,6 +26,7 @@ pub mod Statuses
 pub mod Unlinking
 pub mod Finishing
 pub mod Requests
+pub mod Roots
 pub mod Places
 pub mod Lists
 pub mod Clean

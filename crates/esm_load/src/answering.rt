@@ -9,6 +9,7 @@ ghost use Rattle.esm_load.specs.TableView.{view_of, places_of, urls_of, url_at, 
 ghost use Rattle.esm_load.specs.Well.{IsWell};
 ghost use Rattle.esm_load.specs.Changes.{Pops, IsModuleAs};
 ghost use Rattle.esm_load.specs.Steps.{AnswersNext, HasNoNext};
+ghost use Rattle.esm_load.specs.declared.table.Slot.{Slot};
 ghost use Rattle.esm_load.specs.Going.{IsSettledAt, Reaches, GoesOn};
 
 use crate::LoadEnd;
@@ -62,7 +63,7 @@ pub fn unlink_visited(table: &Table, realm: &mut Realm)
 // Whether the URL at a place is settled.
 fn is_settled(table: &Table, place: usize) -> bool
     ensures yes { result ≡ true → IsSettledAt table.now.slots.items place }
-    ensures no { result ≡ false → (s : Slot) → slice_get table.now.slots.items place ≡ Some s → is_open s.stand ≡ true }
+    ensures no { result ≡ false → (slot : Slot) → slice_get table.now.slots.items place ≡ Some slot → is_open slot.stand ≡ true }
 {
     if place >= table.slots.len() {
         return false;
