@@ -19,6 +19,14 @@ pub mod Unlinked
 pub mod Freshness
 pub mod EnterFacts
 pub mod First
+pub mod Left
+pub mod Next
+pub mod Popped
+pub mod Statuses
+pub mod Unlinking
+pub mod Finishing
+pub mod Requests
+pub mod Roots
 pub mod Places
 pub mod Lists
 pub mod Clean

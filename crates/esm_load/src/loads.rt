@@ -13,6 +13,7 @@ ghost use Rattle.esm_load.specs.LoadsView.{AreOne, loading_of, no_loads};
 ghost use Rattle.esm_load.specs.Steps.{AnswersNext, HasNoNext, IsEnd, IsModuleAt, askers_left, is_end};
 
 use crate::LoadEnd;
+use crate::answering::answer_next;
 use crate::arriving::arrive;
 use crate::table::{ask_first, Loaded, Stage, Table};
 use esm_ast::{Outcome, Tree};
@@ -117,8 +118,13 @@ impl Loads {
         ensures limit { (limit : StopBy) → result ≡ Err (LoadEnd.Limit limit) → (after : Loading) × AnswersNext (loading_of self.old (records_of realm.old)) after × (after.stopped ≡ Some limit) }
         ensures sound { Sound (records_of realm.new) }
     {
-        let _ = realm;
-        Err(LoadEnd::Memory)
+        match answer_next(&mut self.table, realm, self.alloc) {
+            Ok(answered) => Ok(answered),
+            Err(end) => {
+                self.table = Table::new(self.alloc);
+                Err(end)
+            }
+        }
     }
 
     /// The URLs that are asked and not settled, in order of asking. It takes no memory.
