@@ -15,7 +15,7 @@ ghost use Rattle.esm_load.specs.Steps.{AnswersNext, HasNoNext, IsEnd, IsModuleAt
 use crate::LoadEnd;
 use crate::answering::answer_next;
 use crate::arriving::arrive;
-use crate::table::{ask_first, Loaded, Stage, Table};
+use crate::table::{Loaded, Stage, Table, ask_first};
 use esm_ast::{Outcome, Tree};
 use esm_base::{ModuleId, Text};
 use esm_realm::Realm;

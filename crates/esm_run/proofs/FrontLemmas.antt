@@ -57,13 +57,13 @@ pub no_close : (bytes start close inner : List ℕ) (len : ℕ) → BeginsWithQu
 no_close bytes start [] inner len quote is within before stops differs text rest between = absurd quote
 no_close bytes start (c ∷ tail) inner len quote is within before stops differs text rest between =
     let whole : bytes ≡ start ++ (text ++ (c ∷ (tail ++ rest))) =
-      between.whole ∙ append_assoc start (text ++ (c ∷ tail)) rest ∙ ap (λ l. start ++ l) (append_assoc text (c ∷ tail) rest) in
+    between.whole ∙ append_assoc start (text ++ (c ∷ tail)) rest ∙ ap (λ l. start ++ l) (append_assoc text (c ∷ tail) rest) in
     let found : inner ≡ text ++ (c ∷ (tail ++ rest)) = is ∙ ap (drop (length start)) whole ∙ drop-append_seam start (text ++ (c ∷ (tail ++ rest))) in
     let behind : drop len inner ≡ c ∷ (tail ++ rest) =
-      ap (drop len) found ∙ plain_front c quote text (tail ++ rest) len between.plain
-      (subst (λ l. All IsPlain (take len l)) found before)
-      (subst (λ l. len < length l → IsPlain (get_or l len 0) → ⊥) found stops)
-      (subst (λ l. len ≤ length l) found within) in
+    ap (drop len) found ∙ plain_front c quote text (tail ++ rest) len between.plain
+    (subst (λ l. All IsPlain (take len l)) found before)
+    (subst (λ l. len < length l → IsPlain (get_or l len 0) → ⊥) found stops)
+    (subst (λ l. len ≤ length l) found within) in
     tests_apart (c ∷ tail) rest (subst (λ l. pointwise eqb (take (length (c ∷ tail)) l) (c ∷ tail) ≡ false) behind differs)
 
 pub between_found : (bytes start close inner text behind after : List ℕ) (len : ℕ)

@@ -12,7 +12,8 @@ use std::sync::Wait;
 use std::thread::Threads;
 
 // A site a line: what is written, with `~` for each line feed, and behind `<` its files.
-const SITES: &str = r#"b~a~m~<main.js=import "./a.js";import "./b.js";print("m");|a.js=import "./b.js";print("a");|b.js=import "./main.js";print("b");
+const SITES: &str =
+    r#"b~a~m~<main.js=import "./a.js";import "./b.js";print("m");|a.js=import "./b.js";print("a");|b.js=import "./main.js";print("b");
 t~m~<main.js=import "./t.js";import "././t.js";print("m");|t.js=print("t")
 m~<main.js=import "./main.js";print("m")
 s~a~b~m~<main.js=import "./a.js";import "./b.js";print("m");|a.js=import "./s.js";print("a");|b.js=import "./s.js";print("b");|s.js=print("s")
@@ -23,7 +24,8 @@ a~m~<main.js=import "HTTPS://A.TEST:443/a.js";print("m");|a.js=print("a")
 a~b~m~<main.js=import "./a.js";import "./a.js";import "./b.js";import "./a.js";print("m");|a.js=print("a")|b.js=import "./a.js";print("b")"#;
 
 // Sites whose entry fails: the last line, and behind `<` their files.
-const FAILING: &str = r#"TypeError: cannot fetch https://a.test/a.js<main.js=import "./a.js";import "./b.js";print("m");
+const FAILING: &str =
+    r#"TypeError: cannot fetch https://a.test/a.js<main.js=import "./a.js";import "./b.js";print("m");
 TypeError: https://a.test/main.js: specifier react: S4 bare and not mapped<main.js=import "react";print("m");
 TypeError: https://a.test/main.js: specifier a.js: S4 bare and not mapped<main.js=import "./b.js";import "a.js";|a.js=print("a")
 SyntaxError: https://a.test/a.js: P2 no module text<main.js=import "./a.js";print("m");|a.js=let x;
@@ -131,7 +133,12 @@ fn a_chain_of_4096_modules_runs_from_its_end(rt: HostRuntime) -> Result<(), Memo
     let alloc = rt.alloc();
     let mut files = Vec::new(alloc);
     let mut wanted = String::new(alloc);
-    add_named(alloc, &mut files, "main.js", "import \"./m1.js\";print(\"0\")")?;
+    add_named(
+        alloc,
+        &mut files,
+        "main.js",
+        "import \"./m1.js\";print(\"0\")",
+    )?;
     for i in 1..4095u64 {
         let name = format!(in alloc; "m{i}.js")?;
         let next = i + 1;

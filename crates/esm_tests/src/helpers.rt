@@ -75,7 +75,11 @@ pub fn add_named(
     ensures { HasDistinctUrls files.new.items }
 {
     let url = format!(in alloc; "https://a.test/{name}")?;
-    add_file(files, Text::from_string(url), Vec::from_slice(alloc, body.as_bytes())?)
+    add_file(
+        files,
+        Text::from_string(url),
+        Vec::from_slice(alloc, body.as_bytes())?,
+    )
 }
 
 // The files of a site: `NAME=BODY`, with `|` between them.
