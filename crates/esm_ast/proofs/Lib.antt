@@ -1,2 +1,1 @@
-pub mod SmallTextLemmas
 pub mod ModuleTextLemmas

@@ -1,7 +1,5 @@
-pub mod SmallText
+pub mod ModuleText
 pub mod Entries
 pub mod Script
 pub mod Outcome
 pub mod Laws
-pub mod ModuleText
-pub mod ModuleTextLaws

@@ -3,7 +3,7 @@ use Rattle.std.specs.Prelude.{◌≡◌, ℕ, List}
 use Rattle.std.specs.Arc.{arc_value}
 use Rattle.esm_ast.specs.declared.outcome.Outcome.{Outcome}
 use Rattle.esm_ast.specs.declared.outcome.Outcome.TheVariants as outcome
-use Rattle.esm_ast.specs.SmallText.{FaultOf}
+use Rattle.esm_ast.specs.ModuleText.{FaultOf}
 use Rattle.esm_ast.specs.Script.{ScriptParts, BrokenParts, IsScriptOf}
 
 -- an outcome without where it lies in memory

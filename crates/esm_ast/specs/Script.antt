@@ -1,15 +1,16 @@
 -- What contracts see of a module text that was read, and of one that was refused.
 use Rattle.std.specs.Prelude.{◌≡◌, ℕ, List}
 use Rattle.esm_base.specs.declared.fault.TextFault.{TextFault}
+use Rattle.esm_ast.specs.declared.item.Item.{Item}
 use Rattle.esm_ast.specs.Entries.{EntryLists, entries_of}
-use Rattle.esm_ast.specs.SmallText.{Spells}
+use Rattle.esm_ast.specs.ModuleText.{Spells}
 
 pub record ScriptParts : Type 0 where
   pub bytes : List ℕ
-  pub tree : List (List ℕ)
+  pub tree : List Item
   pub entries : EntryLists
 
-abbrev pub script_parts : List ℕ → List (List ℕ) → EntryLists → ScriptParts
+abbrev pub script_parts : List ℕ → List Item → EntryLists → ScriptParts
 script_parts bytes tree entries = record { bytes = bytes; tree = tree; entries = entries }
 
 pub record BrokenParts : Type 0 where

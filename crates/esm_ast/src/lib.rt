@@ -2,13 +2,14 @@
 #![tactic(auto)]
 
 mod entries;
+mod item;
 pub mod laws;
-pub mod module_text_laws;
 mod outcome;
 mod script;
 mod tree;
 
 pub use entries::{Entries, ImportEntry, IndirectExport, LocalExport, Wanted};
+pub use item::Item;
 pub use outcome::{BrokenText, Outcome};
 pub use script::Script;
 pub use tree::Tree;

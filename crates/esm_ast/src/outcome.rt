@@ -1,6 +1,6 @@
 // What a fetch of a module text comes to.
 ghost use Rattle.std.specs.Prelude.{◌≡◌, IfOk};
-ghost use Rattle.esm_ast.specs.SmallText.{FaultOf};
+ghost use Rattle.esm_ast.specs.ModuleText.{FaultOf};
 
 use crate::Script;
 use esm_base::{Memory, TextFault};
@@ -17,7 +17,7 @@ pub struct BrokenText {
 
 impl Model for BrokenText {
     ghost use Rattle.esm_ast.specs.Script.{BrokenParts};
-    ghost use Rattle.esm_ast.specs.SmallText.{FaultOf};
+    ghost use Rattle.esm_ast.specs.ModuleText.{FaultOf};
 
     ghost Value = { BrokenParts };
 

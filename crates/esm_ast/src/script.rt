@@ -1,7 +1,7 @@
 // A module text that was read.
 ghost use Rattle.std.specs.Prelude.{◌≡◌, IfOk};
 ghost use Rattle.std.specs.Arc.{arc_value};
-ghost use Rattle.esm_ast.specs.SmallText.{Spells};
+ghost use Rattle.esm_ast.specs.ModuleText.{Spells};
 ghost use Rattle.esm_ast.specs.Entries.{entries_of};
 ghost use Rattle.esm_ast.specs.Script.{script_parts};
 
@@ -22,7 +22,7 @@ pub struct Script {
 impl Model for Script {
     ghost use Rattle.std.specs.Prelude.{◌≡◌};
     ghost use Rattle.esm_ast.specs.Script.{ScriptParts, script_parts};
-    ghost use Rattle.esm_ast.specs.SmallText.{Spells};
+    ghost use Rattle.esm_ast.specs.ModuleText.{Spells};
     ghost use Rattle.esm_ast.specs.Entries.{entries_of};
 
     ghost Value = { ScriptParts };

@@ -1,22 +1,24 @@
 // The tree of a module text.
 ghost use Rattle.std.specs.Prelude.{◌≡◌, [], ◌∷◌, ◌++◌, OnOk, OnErr};
 
-use esm_base::{Memory, Text};
+use crate::Item;
+use esm_base::Memory;
 use std::alloc::Global;
 use std::marker::Model;
 
-/// The tree of a small module text: the printed texts in order. Contracts see it as that list.
+/// The tree of a module text: its items in order. Contracts see it as that list.
 #[derive(Drop)]
 pub struct Tree {
-    prints: Vec<Text>,
+    items: Vec<Item>,
 }
 
 impl Model for Tree {
-    ghost use Rattle.std.specs.Prelude.{List, ℕ};
+    ghost use Rattle.std.specs.Prelude.{List};
+    ghost use Rattle.esm_ast.specs.declared.item.Item.{Item};
 
-    ghost Value = { List (List ℕ) };
+    ghost Value = { List Item };
 
-    ghost view = { λ t. t.prints.items };
+    ghost view = { λ t. t.items.items };
 }
 
 impl Tree {
@@ -25,23 +27,23 @@ impl Tree {
         ensures { result ≡ [] }
     {
         Tree {
-            prints: Vec::new(alloc),
+            items: Vec::new(alloc),
         }
     }
 
-    /// Adds a print at the end. After a refusal the tree is as before.
-    pub fn add_print(&mut self, text: Text) -> Result<(), Memory>
-        ensures ok { OnOk result (self.new ≡ self.old ++ text ∷ []) }
+    /// Adds an item at the end. After a refusal the tree is as before.
+    pub fn add(&mut self, item: Item) -> Result<(), Memory>
+        ensures ok { OnOk result (self.new ≡ self.old ++ item ∷ []) }
         ensures err { OnErr result (self.new ≡ self.old) }
     {
-        self.prints.push(text)?;
+        self.items.push(item)?;
         Ok(())
     }
 
-    /// The printed texts in order.
-    pub fn prints(&self) -> &[Text]
+    /// The items in order.
+    pub fn items(&self) -> &[Item]
         ensures { result.now ≡ self.now }
     {
-        self.prints.as_slice()
+        self.items.as_slice()
     }
 }

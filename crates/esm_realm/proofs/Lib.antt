@@ -6,3 +6,5 @@ pub mod Agree
 pub mod Depth
 pub mod ByNumber
 pub mod Weigh
+pub mod Sounds
+pub mod PlainRecords

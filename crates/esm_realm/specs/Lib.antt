@@ -3,3 +3,5 @@ pub mod Walk
 pub mod Reach
 pub mod Records
 pub mod Laws
+pub mod Usable
+pub mod Sound

@@ -1,5 +1,6 @@
 // What the tests are made of.
-ghost use Rattle.std.specs.Prelude.{◌≡◌, ◌≤◌, [], IfOk, vec_len};
+ghost use Rattle.std.specs.Prelude.{◌≡◌, ◌≢◌, ◌≤◌, [], false, All, IfOk, vec_len};
+ghost use Rattle.esm_ports.specs.Files.{HasDistinctUrls};
 
 use esm_base::{Memory, Text};
 use esm_ports::{MemSource, SureSource};
@@ -38,4 +39,58 @@ pub fn words(alloc: Global, text: &str) -> Result<Vec<String>, Memory> {
         words.push(String::from_str(alloc, word)?)?;
     }
     Ok(words)
+}
+
+// Whether there is a file at the URL.
+fn has_file(files: &[(Text, Vec<u8>)], url: &Text) -> bool
+    ensures { result ≡ false → All (λ file. file.0 ≢ url.now) files.now }
+{
+    for file in files {
+        if file.0.is(url.as_str()) {
+            return true;
+        }
+    }
+    false
+}
+
+// Adds a file, unless there is one at its URL.
+pub fn add_file(files: &mut Vec<(Text, Vec<u8>)>, url: Text, body: Vec<u8>) -> Result<(), Memory>
+    requires { HasDistinctUrls files.old.items }
+    ensures { HasDistinctUrls files.new.items }
+{
+    if !has_file(files, &url) {
+        files.push((url, body))?;
+    }
+    Ok(())
+}
+
+// The file of this name below `https://a.test/`.
+pub fn add_named(
+    alloc: Global,
+    files: &mut Vec<(Text, Vec<u8>)>,
+    name: &str,
+    body: &str,
+) -> Result<(), Memory>
+    requires { HasDistinctUrls files.old.items }
+    ensures { HasDistinctUrls files.new.items }
+{
+    let url = format!(in alloc; "https://a.test/{name}")?;
+    add_file(
+        files,
+        Text::from_string(url),
+        Vec::from_slice(alloc, body.as_bytes())?,
+    )
+}
+
+// The files of a site: `NAME=BODY`, with `|` between them.
+pub fn site(alloc: Global, text: &str) -> Result<Vec<(Text, Vec<u8>)>, Memory>
+    ensures { IfOk result (λ files. HasDistinctUrls files.items) }
+{
+    let mut files = Vec::new(alloc);
+    for file in text.split('|') {
+        if let Some((name, body)) = file.split_once('=') {
+            add_named(alloc, &mut files, name, body)?;
+        }
+    }
+    Ok(files)
 }

@@ -7,6 +7,8 @@ ghost use Rattle.esm_base.specs.declared.status.Status.TheVariants.{WriteFault};
 #[cfg(test)]
 mod edges;
 #[cfg(test)]
+mod graphs;
+#[cfg(test)]
 mod helpers;
 #[cfg(test)]
 mod ports;

@@ -134,7 +134,7 @@ fn an_outcome_can_be_shared(rt: HostRuntime) -> Result<(), Memory> {
         match report.taken[0].outcome.share()? {
             Outcome::Script(script) => {
                 assert!(rt; script.bytes() == body.as_bytes());
-                assert_eq!(rt; script.share_tree()?.prints().len(), printed);
+                assert_eq!(rt; script.share_tree()?.items().len(), printed);
                 assert_eq!(rt; script.share_entries()?.requests().len(), 0);
             }
             Outcome::Broken(broken) => assert!(rt; broken.bytes() == body.as_bytes()),

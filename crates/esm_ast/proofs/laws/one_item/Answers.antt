@@ -1,5 +1,5 @@
-use Rattle.esm_ast.proofs.SmallTextLemmas.{item_first}
+use Rattle.esm_ast.proofs.ModuleTextLemmas.{bytes_split}
 use Rattle.esm_ast.proofs.laws.one_item.Goals as goal
 
 pub returns : goal.returns
-returns c = item_first
+returns c = bytes_split

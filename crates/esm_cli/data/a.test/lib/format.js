@@ -1,0 +1,3 @@
+import "./numbers.js";
+import "./dates.js";
+print("format");

@@ -1,0 +1,3 @@
+import "./events.js";
+import "./log.js";
+print("store");

@@ -1,0 +1,4 @@
+import "../ui/button.js";
+import "../lib/http.js";
+import "../lib/dates.js";
+print("account");

@@ -1,0 +1,3 @@
+import "../ui/list.js";
+import "../lib/store.js";
+print("home");

@@ -1,0 +1,13 @@
+-- The list of open asks is the invariant's.
+use Rattle.std.proofs.Common.{◌≡◌, sym, ◌∙◌, subst}
+use Rattle.esm_load.specs.Arrival.{open_asks}
+use Rattle.esm_load.specs.TableView.{view_of}
+use Rattle.esm_load.specs.LoadsView.{LoadsView, AreOne, loading_of}
+use Rattle.esm_load.proofs.Entries.{asks_are}
+use Rattle.esm_load.proofs.loads.Loads.asks.Goals as goal
+
+pub returns : goal.returns
+returns c records one =
+    let t = c.self.inside.table in
+    subst (λ (v : LoadsView). c.as_slice.result.now ≡ open_asks (loading_of v records)) c.self.view_is
+    (c.as_slice.ensures.value ∙ (c.self.invariant.asks ∙ sym (asks_are (view_of t) records (subst (λ v. AreOne v records) (sym c.self.view_is) one) c.self.invariant.indexed.distinct)))

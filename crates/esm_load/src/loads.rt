@@ -1,0 +1,195 @@
+// Loading the entry and all that it reaches.
+ghost use Rattle.std.specs.Prelude.{◌≡◌, ◌<◌, true, false, [], ◌∷◌, List, map, Ok, Err, Some, None, OnOk, cond, option_copied, slice_get};
+ghost use Rattle.std.specs.Arc.{arc_value};
+ghost use Rattle.esm_ast.specs.Outcome.{completion_of};
+ghost use Rattle.esm_base.specs.declared.status.Limit.{Limit as StopBy};
+ghost use Rattle.esm_realm.specs.Urls.{has};
+ghost use Rattle.esm_realm.specs.Usable.{is_usable};
+ghost use Rattle.esm_realm.specs.Sound.{Sound, RecordParts, records_of};
+ghost use Rattle.esm_load.specs.Completion.{seen};
+ghost use Rattle.esm_load.specs.Loading.{Loading, opening_loading};
+ghost use Rattle.esm_load.specs.Arrival.{settle, open_asks};
+ghost use Rattle.esm_load.specs.LoadsView.{AreOne, loading_of, no_loads};
+ghost use Rattle.esm_load.specs.Steps.{AnswersNext, HasNoNext, IsEnd, IsModuleAt, askers_left, is_end};
+
+use crate::LoadEnd;
+use crate::answering::answer_next;
+use crate::arriving::arrive;
+use crate::table::{Loaded, Stage, Table, ask_first};
+use esm_ast::{Outcome, Tree};
+use esm_base::{ModuleId, Text};
+use esm_realm::Realm;
+use std::alloc::Global;
+use std::marker::Model;
+use std::sync::Arc;
+
+/// The table of URLs, those who wait for them, and the load of the entry. Its modules are the records of a realm.
+///
+/// ECMA-262, LoadRequestedModules, over fetches that end in any order. After a refusal it may be dropped only.
+#[derive(Drop)]
+pub struct Loads {
+    table: Table,
+    alloc: Global,
+}
+
+impl Model for Loads {
+    ghost use Rattle.std.specs.Coded.{codes};
+    ghost use Rattle.esm_load.specs.LoadsView.{LoadsView};
+
+    ghost Value = { LoadsView };
+
+    ghost use Rattle.esm_load.specs.TableView.{view_of};
+
+    ghost view = { λ l. view_of l.table };
+
+    ghost use Rattle.esm_load.specs.Well.{IsWell};
+
+    ghost invariant = { λ l. IsWell l.table };
+}
+
+impl Loads {
+    /// The loads that have asked for nothing. It takes no memory.
+    pub fn new(alloc: Global) -> Loads
+        ensures { result ≡ no_loads }
+    {
+        Loads {
+            table: Table::new(alloc),
+            alloc,
+        }
+    }
+
+    /// Asks for the entry.
+    pub fn ask_entry(&mut self, realm: &mut Realm, url: &Text) -> Result<(), LoadEnd>
+        requires fresh { self.old ≡ no_loads }
+        requires empty { records_of realm.old ≡ [] }
+        requires usable { is_usable url.now ≡ true }
+        ensures ok { OnOk result (loading_of self.new (records_of realm.new) ≡ opening_loading url.now) }
+        ensures one { OnOk result (AreOne self.new (records_of realm.new)) }
+        ensures limit { (limit : StopBy) → result ≡ Err (LoadEnd.Limit limit) → ⊥ }
+        ensures realm { records_of realm.new ≡ records_of realm.old }
+    {
+        let _ = realm;
+        match ask_first(&mut self.table, self.alloc, url) {
+            Ok(()) => Ok(()),
+            Err(end) => {
+                self.table = Table::new(self.alloc);
+                Err(end)
+            }
+        }
+    }
+
+    /// Takes what the fetch of an open ask has come to. Those who waited for it are then answered by `step`.
+    /// The bytes are counted first: limit L2 comes exactly where more than 16,777,216 were delivered.
+    pub fn arrive(
+        &mut self,
+        realm: &mut Realm,
+        url: &Text,
+        outcome: &Outcome,
+    ) -> Result<(), LoadEnd>
+        requires sound { Sound (records_of realm.old) }
+        requires one { AreOne self.old (records_of realm.old) }
+        requires open { has (open_asks (loading_of self.old (records_of realm.old))) url.now ≡ true }
+        requires answered { HasNoNext (loading_of self.old (records_of realm.old)) }
+        ensures ok { OnOk result (loading_of self.new (records_of realm.new) ≡ settle (loading_of self.old (records_of realm.old)) url.now (seen (completion_of outcome.now))) }
+        ensures goes_on { OnOk result ((settle (loading_of self.old (records_of realm.old)) url.now (seen (completion_of outcome.now))).stopped ≡ None) }
+        ensures one { OnOk result (AreOne self.new (records_of realm.new)) }
+        ensures limit { (limit : StopBy) → result ≡ Err (LoadEnd.Limit limit) → (settle (loading_of self.old (records_of realm.old)) url.now (seen (completion_of outcome.now))).stopped ≡ Some limit }
+        ensures sound { Sound (records_of realm.new) }
+    {
+        match arrive(&mut self.table, realm, self.alloc, url, outcome) {
+            Ok(()) => Ok(()),
+            Err(end) => {
+                self.table = Table::new(self.alloc);
+                Err(end)
+            }
+        }
+    }
+
+    /// Answers the first asker of a settled URL, in order of asking; false exactly where there is none.
+    /// ECMA-262, FinishLoadingImportedModule. Limit L1 comes exactly where more than 4,096 URLs are asked for.
+    pub fn step(&mut self, realm: &mut Realm) -> Result<bool, LoadEnd>
+        requires sound { Sound (records_of realm.old) }
+        requires one { AreOne self.old (records_of realm.old) }
+        ensures answers { result ≡ Ok true → AnswersNext (loading_of self.old (records_of realm.old)) (loading_of self.new (records_of realm.new)) }
+        ensures falls { result ≡ Ok true → askers_left (loading_of self.new (records_of realm.new)) < askers_left (loading_of self.old (records_of realm.old)) }
+        ensures none { result ≡ Ok false → HasNoNext (loading_of self.old (records_of realm.old)) }
+        ensures unchanged { result ≡ Ok false → (self.new ≡ self.old) × (records_of realm.new ≡ records_of realm.old) }
+        ensures one { OnOk result (AreOne self.new (records_of realm.new)) }
+        ensures limit { (limit : StopBy) → result ≡ Err (LoadEnd.Limit limit) → (after : Loading) × AnswersNext (loading_of self.old (records_of realm.old)) after × (after.stopped ≡ Some limit) }
+        ensures sound { Sound (records_of realm.new) }
+    {
+        match answer_next(&mut self.table, realm, self.alloc) {
+            Ok(answered) => Ok(answered),
+            Err(end) => {
+                self.table = Table::new(self.alloc);
+                Err(end)
+            }
+        }
+    }
+
+    /// The URLs that are asked and not settled, in order of asking. It takes no memory.
+    pub fn asks(&self) -> &[Text]
+        ensures { (records : List RecordParts) → AreOne self.now records → result.now ≡ open_asks (loading_of self.now records) }
+    {
+        self.table.asks.as_slice()
+    }
+
+    /// How the entry's load has ended; none exactly where it hasn't. It takes no memory.
+    pub fn ended(&self) -> Option<&Loaded>
+        ensures { (records : List RecordParts) → AreOne self.now records → IsEnd self.now.loads records (option_copied result) }
+    {
+        match &self.table.stage {
+            Stage::Ended(end) => Some(end),
+            _ => None,
+        }
+    }
+
+    /// Whether the entry's load has ended and nobody has gone on with it, which is done hereby. It takes no memory.
+    pub fn take_job(&mut self) -> bool
+        ensures before { self.old.jobs ≡ cond result (0 ∷ []) [] }
+        ensures after { self.new ≡ record self.old { jobs = [] } }
+        ensures ended { result ≡ true → is_end (slice_get self.old.loads 0) ≡ true }
+        ensures one { (records : List RecordParts) → AreOne self.old records → AreOne self.new records }
+    {
+        let job = self.table.job;
+        self.table.job = false;
+        job
+    }
+
+    /// The tree of each module, in order of ids. It takes no memory.
+    pub fn trees(&self) -> &[Arc<Tree>]
+        ensures { map arc_value result.now ≡ self.now.trees }
+    {
+        self.table.trees.as_slice()
+    }
+
+    /// The id of the module that stands under this URL; none exactly where no module stands there. It takes no memory.
+    pub fn module_at(&self, url: &Text) -> Option<ModuleId>
+        ensures { (records : List RecordParts) → AreOne self.now records → IsModuleAt self.now records url.now result }
+    {
+        self.table.module_at(url)
+    }
+}
+
+#[cfg(test)]
+mod tests {
+    use super::*;
+    use std::test::Fail;
+
+    #[test]
+    fn asks_for_the_entry(rt: HostRuntime) -> Result<(), Fail> {
+        let alloc = rt.alloc();
+        let mut realm = Realm::new(alloc);
+        let mut loads = Loads::new(alloc);
+        assert!(rt; loads.asks().is_empty());
+        let url = Text::copy(alloc, "https://a.test/main.js")?;
+        assert!(rt; loads.ask_entry(&mut realm, &url).is_ok());
+        assert!(rt; loads.asks().len() == 1);
+        assert!(rt; loads.asks()[0] == url);
+        assert!(rt; loads.ended().is_none());
+        assert!(rt; loads.module_at(&url).is_none());
+        assert!(rt; loads.trees().is_empty());
+        assert!(rt; !loads.take_job());
+        Ok(())
+    }
+}

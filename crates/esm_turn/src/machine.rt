@@ -1,0 +1,230 @@
+// The machine: an entry, and the deliveries that it has taken.
+ghost use Rattle.std.specs.Prelude.{◌≡◌, List, [], ◌∷◌, ◌++◌, true, IfOk, IfErr, OnOk, Some, None, Err, is_some, option_map, slice_get, codes, IsSome, ◌↔◌};
+ghost use Rattle.esm_ast.specs.Outcome.{completion_of};
+ghost use Rattle.esm_realm.specs.Urls.{Url};
+ghost use Rattle.esm_realm.specs.Usable.{is_usable};
+ghost use Rattle.esm_realm.specs.Sound.{RecordParts};
+ghost use Rattle.esm_load.specs.Completion.{seen};
+ghost use Rattle.esm_load.specs.Loading.{Loading};
+ghost use Rattle.esm_load.specs.Arrival.{open_asks};
+ghost use Rattle.esm_load.specs.LoadsView.{AreOne, loading_of};
+ghost use Rattle.esm_turn.specs.Run.{Delivery, Shown, StandardRun, ending_by, last_line_by, limit_name, status_of};
+ghost use Rattle.esm_turn.specs.Stands.{IsEnded, MayTake, Stands, StoppedAs, Took, asks_of, ending_by_stop, ending_of};
+ghost use Rattle.esm_turn.specs.declared.turn_end.TurnEnd.{TurnEnd as EndOf};
+
+use crate::TurnEnd;
+use crate::engine::Engine;
+use crate::turn::{Parts, run_turn};
+use esm_ast::Outcome;
+use esm_base::{Limit, Memory, Status, Text};
+use esm_load::{LoadEnd, Loaded, Loads};
+use esm_realm::Realm;
+use std::alloc::Global;
+use std::marker::Model;
+
+/// An entry, and the deliveries that were taken. Contracts see what it holds of loading, its log, its steps and how
+/// it has stopped; `Stands` says for which lists of deliveries it stands.
+///
+/// HTML, "fetch the descendants of and link a module script" and "run a module script", over fetches that end in any
+/// order, each in one turn.
+#[derive(Drop)]
+pub struct Machine {
+    parts: Parts,
+    stopped: Option<TurnEnd>,
+}
+
+impl Model for Machine {
+    ghost use Rattle.std.specs.Coded.{codes};
+    ghost use Rattle.std.specs.FinMap as maps;
+    ghost use Rattle.esm_turn.specs.Stands.{State};
+
+    ghost Value = { State };
+
+    ghost coded = { Prim.hlevel (codes, maps.code) };
+
+    ghost use Rattle.esm_turn.specs.Parts.{AreKept, loading_in};
+
+    ghost view = { λ m. record { loading = loading_in m.parts; log = m.parts.engine.log.items; steps = m.parts.engine.steps; stopped = m.stopped } };
+
+    ghost invariant = { λ m. AreKept m.stopped m.parts };
+}
+
+// The status of a run that no limit has stopped; none while an ask is open.
+fn live_status(loads: &Loads) -> Option<Status>
+    ensures { (records : List RecordParts) → AreOne loads.now records → result ≡ option_map status_of (ending_by None (open_asks (loading_of loads.now records)) (slice_get loads.now.loads 0)) }
+{
+    if !loads.asks().is_empty() {
+        return None;
+    }
+    match loads.ended() {
+        Some(Loaded::Ready(_root)) => Some(Status::Fulfilled),
+        Some(Loaded::Thrown(_thrown)) => Some(Status::EntryFailed),
+        None => Some(Status::Unsettled),
+    }
+}
+
+// The name of a limit, as it is printed.
+fn name_of(limit: Limit) -> &'static str
+    ensures { result.now ≡ limit_name limit }
+{
+    match limit {
+        Limit::L1 => "L1",
+        Limit::L2 => "L2",
+        Limit::L3 => "L3",
+        Limit::L4 => "L4",
+        Limit::L5 => "L5",
+    }
+}
+
+// The status of a run that has stopped so.
+fn stopped_status(end: TurnEnd) -> Option<Status>
+    ensures { (l : Loading) → result ≡ option_map status_of (ending_by_stop (Some end) l) }
+{
+    match end {
+        TurnEnd::Limit(_limit) => Some(Status::Limit),
+        TurnEnd::Memory => None,
+    }
+}
+
+// The last line where a limit has stopped the run.
+fn limit_line(alloc: Global, limit: Limit) -> Result<Text, Memory>
+    ensures { IfOk result (λ line. line ≡ codes "Limit " ++ limit_name limit) }
+{
+    let name = name_of(limit);
+    let line = format!(in alloc; "Limit {name}")?;
+    Ok(Text::from_string(line))
+}
+
+// The last line where the entry's load has ended by a throw.
+fn thrown_line(alloc: Global, thrown: &str) -> Result<Text, Memory>
+    ensures { IfOk result (λ line. line ≡ codes "Uncaught " ++ thrown.now) }
+{
+    let line = format!(in alloc; "Uncaught {thrown}")?;
+    Ok(Text::from_string(line))
+}
+
+// The last line of a run that has stopped so.
+fn stopped_line(alloc: Global, end: TurnEnd) -> Result<Text, Memory>
+    ensures { (l : Loading) → IfOk result (λ line. line ≡ last_line_by (ending_by_stop (Some end) l)) }
+{
+    match end {
+        TurnEnd::Limit(limit) => limit_line(alloc, limit),
+        TurnEnd::Memory => Err(Memory),
+    }
+}
+
+// The last line of a run that no limit has stopped, and in which no ask is open.
+fn live_line(alloc: Global, loads: &Loads) -> Result<Text, Memory>
+    ensures { (records : List RecordParts) → AreOne loads.now records → IfOk result (λ line. line ≡ last_line_by (ending_by None [] (slice_get loads.now.loads 0))) }
+{
+    match loads.ended() {
+        Some(Loaded::Ready(_root)) => Text::copy(alloc, ""),
+        Some(Loaded::Thrown(thrown)) => thrown_line(alloc, thrown.as_str()),
+        None => Text::copy(alloc, "Unsettled"),
+    }
+}
+
+impl Machine {
+    /// The machine that has asked for the entry, whose URL is canonical and at most 8,192 bytes long.
+    pub fn new(alloc: Global, entry: Text) -> Result<Machine, Memory>
+        requires { is_usable entry ≡ true }
+        ensures stands { IfOk result (λ m. Stands entry m []) }
+        ensures live { IfOk result (λ m. m.stopped ≡ None) }
+    {
+        let mut realm = Realm::new(alloc);
+        let mut loads = Loads::new(alloc);
+        match loads.ask_entry(&mut realm, &entry) {
+            Ok(()) => Ok(Machine {
+                parts: Parts {
+                    alloc,
+                    realm,
+                    loads,
+                    engine: Engine::new(alloc),
+                },
+                stopped: None,
+            }),
+            Err(_) => Err(Memory),
+        }
+    }
+
+    /// The URLs that are asked for and not delivered, in order of asking; none where the machine has stopped.
+    /// It takes no memory.
+    pub fn asks(&self) -> &[Text]
+        ensures open { result.now ≡ asks_of self.now }
+        ensures standard { (entry : Url) (deliveries : List Delivery) (what : Shown) → Stands entry self.now deliveries → StandardRun entry deliveries what → result.now ≡ what.asks }
+    {
+        let asks = self.parts.loads.asks();
+        match self.stopped {
+            None => asks,
+            Some(_) => &asks[..0],
+        }
+    }
+
+    /// One turn: the fetch of an open ask has ended so, and all that follows from it is done. Where the machine had
+    /// stopped it answers the same again and changes nothing.
+    ///
+    /// Limit comes exactly where the standard run of the deliveries stops by that limit in this turn: L1 where more
+    /// than 4,096 URLs are asked for, L2 where more than 16,777,216 bytes were delivered, L3 at step 1,000,001.
+    pub fn deliver(&mut self, url: &Text, outcome: &Outcome) -> Result<(), TurnEnd>
+        requires { MayTake self.old url.now }
+        ensures turn { self.old.stopped ≡ None → Took self.old url.now (seen (completion_of outcome.now)) result self.new }
+        ensures again { (end : EndOf) → self.old.stopped ≡ Some end → (result ≡ Err end) × (self.new ≡ self.old) }
+        ensures goes_on { OnOk result (self.new.stopped ≡ None) }
+        ensures stops { IfErr result (λ end. self.new.stopped ≡ Some end) }
+    {
+        match self.stopped {
+            Some(end) => Err(end),
+            None => match run_turn(&mut self.parts, url, outcome) {
+                Ok(()) => Ok(()),
+                Err(end) => {
+                    self.stopped = Some(end);
+                    Err(end)
+                }
+            },
+        }
+    }
+
+    /// How the machine has stopped, if it has. It takes no memory.
+    pub fn stopped(&self) -> Option<TurnEnd>
+        ensures state { result ≡ self.now.stopped }
+        ensures standard { (entry : Url) (deliveries : List Delivery) (what : Shown) → Stands entry self.now deliveries → StandardRun entry deliveries what → StoppedAs result what }
+    {
+        self.stopped
+    }
+
+    /// What the bodies have written, without the last line. It takes no memory.
+    pub fn log(&self) -> &[u8]
+        ensures state { result.now ≡ self.now.log }
+        ensures standard { (entry : Url) (deliveries : List Delivery) (what : Shown) → Stands entry self.now deliveries → StandardRun entry deliveries what → result.now ≡ what.log }
+    {
+        self.parts.engine.log()
+    }
+
+    /// The status of the run; none while an ask is open, and after want of memory. It takes no memory.
+    pub fn end(&self) -> Option<Status>
+        ensures state { result ≡ option_map status_of (ending_of self.now) }
+        ensures known { is_some result ≡ is_some (ending_of self.now) }
+        ensures exactly { IsSome result ↔ IsEnded self.now }
+        ensures memory { self.now.stopped ≡ Some TurnEnd.Memory → result ≡ None }
+        ensures standard { (entry : Url) (deliveries : List Delivery) (what : Shown) → Stands entry self.now deliveries → StandardRun entry deliveries what → result ≡ what.status }
+        ensures ended { (entry : Url) (deliveries : List Delivery) (what : Shown) → Stands entry self.now deliveries → StandardRun entry deliveries what → is_some result ≡ what.ended }
+    {
+        match self.stopped {
+            Some(end) => stopped_status(end),
+            None => live_status(&self.parts.loads),
+        }
+    }
+
+    /// The last line of the run, without a line feed; empty where the status is Fulfilled.
+    pub fn last_line(&self) -> Result<Text, Memory>
+        requires { is_some (ending_of self.now) ≡ true }
+        ensures state { IfOk result (λ line. line ≡ last_line_by (ending_of self.now)) }
+        ensures standard { (entry : Url) (deliveries : List Delivery) (what : Shown) → Stands entry self.now deliveries → StandardRun entry deliveries what → IfOk result (λ line. line ≡ what.last_line) }
+    {
+        let alloc = self.parts.alloc;
+        match self.stopped {
+            Some(end) => stopped_line(alloc, end),
+            None => live_line(alloc, &self.parts.loads),
+        }
+    }
+}

@@ -1,0 +1,3 @@
+import "../lib/log.js";
+import "../pages/home.js";
+print("routes");

@@ -1,0 +1,4 @@
+import "../lib/log.js";
+import "../lib/store.js";
+import "./routes.js";
+print("start");

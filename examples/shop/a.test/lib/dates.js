@@ -1,0 +1,3 @@
+import "./time.js";
+import "./numbers.js";
+print("dates");

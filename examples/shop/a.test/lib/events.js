@@ -1,0 +1,3 @@
+import "./store.js";
+import "./queue.js";
+print("events");

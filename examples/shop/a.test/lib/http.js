@@ -1,0 +1,3 @@
+import "./queue.js";
+import "./log.js";
+print("http");

@@ -1,0 +1,4 @@
+import "../ui/list.js";
+import "../ui/button.js";
+import "../lib/format.js";
+print("cart");

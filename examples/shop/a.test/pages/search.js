@@ -1,0 +1,4 @@
+import "../ui/list.js";
+import "../lib/http.js";
+import "./home.js";
+print("search");

@@ -1,0 +1,2 @@
+import "../lib/events.js";
+print("element");
