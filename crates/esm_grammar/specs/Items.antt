@@ -3,7 +3,7 @@ use Rattle.std.specs.Prelude.{◌≡◌, ◌≢◌, ℕ, ◌+◌, ◌≤◌, Boo
 use Rattle.esm_tree.specs.declared.node.Wanted.TheVariants.{Named, Whole}
 use Rattle.esm_tree.specs.declared.node.ImportBinding.{ImportBinding}
 use Rattle.esm_tree.specs.declared.node.ExportSpecifier.{ExportSpecifier}
-use Rattle.esm_tree.specs.Syntax.{Init, Stmt, Default, Stmts, Item, ImportFrom, ExportAll, ExportAllAs, ExportFrom, ExportList, ExportStatement, ExportFunction, ExportDefaultFunction, Function, Statement}
+use Rattle.esm_tree.specs.Syntax.{Init, Stmt, Default, Stmts, Item, ImportEffect, ImportFrom, ExportAll, ExportAllAs, ExportFrom, ExportList, ExportStatement, ExportFunction, ExportDefaultFunction, Function, Statement}
 use Rattle.esm_tree.specs.declared.lexeme.Terminal.{Terminal}
 use Rattle.esm_tree.specs.declared.lexeme.Terminal.TheVariants as t
 use Rattle.esm_tree.specs.declared.lexeme.Lexeme.{Lexeme}
@@ -105,7 +105,7 @@ module _ (ts : List Lexeme) where
 
   -- Item = Import | Export | Function | Statement
   pub data ItemAt : ℕ → Item → ℕ → Type 0 where
-    import_effect : {i j : ℕ} → is_import_form i ≡ true → terminal_at ts (i + 1) ≡ t.Literal → Ends ts false (i + 2) j → ItemAt i (ImportFrom (text_at ts (i + 1)) []) j
+    import_effect : {i j : ℕ} → is_import_form i ≡ true → terminal_at ts (i + 1) ≡ t.Literal → Ends ts false (i + 2) j → ItemAt i (ImportEffect (text_at ts (i + 1))) j
     import_from : {i j k : ℕ} {bs : List ImportBinding} {s : List ℕ} → is_import_form i ≡ true → terminal_at ts (i + 1) ≢ t.Literal → ClauseAt (i + 1) bs k → FromAt k s j → ItemAt i (ImportFrom s bs) j
     an_export : {i j : ℕ} {x : Item} → terminal_at ts i ≡ t.Export → ExportAt (i + 1) x j → ItemAt i x j
     a_function : {i j : ℕ} {ps : List (List ℕ)} {ss : Stmts} → terminal_at ts i ≡ t.Function → is_name (terminal_at ts (i + 1)) ≡ true → RestAt (i + 2) ps ss j → ItemAt i (Function (text_at ts (i + 1)) ps ss) j

@@ -2,7 +2,7 @@
 use Rattle.std.specs.Prelude.{ℕ, zero, suc, ◌+◌, Bool, true, false, List, [], ◌∷◌, length, nat_le, Option, Some, None}
 use Rattle.esm_tree.specs.declared.node.ImportBinding.{ImportBinding}
 use Rattle.esm_tree.specs.declared.node.ExportSpecifier.{ExportSpecifier}
-use Rattle.esm_tree.specs.Syntax.{Init, Stmt, Default, Stmts, Item, ImportFrom, ExportAll, ExportAllAs, ExportFrom, ExportList, ExportStatement, ExportFunction, ExportDefaultFunction, Function, Statement}
+use Rattle.esm_tree.specs.Syntax.{Init, Stmt, Default, Stmts, Item, ImportEffect, ImportFrom, ExportAll, ExportAllAs, ExportFrom, ExportList, ExportStatement, ExportFunction, ExportDefaultFunction, Function, Statement}
 use Rattle.esm_tree.specs.declared.lexeme.Terminal.{Terminal}
 use Rattle.esm_tree.specs.declared.lexeme.Terminal.TheVariants as t
 use Rattle.esm_tree.specs.declared.lexeme.Lexeme.{Lexeme}
@@ -74,7 +74,7 @@ module _ (ts : List Lexeme) where
     unfoldable pub import_form : ℕ → Read Item
     import_form i =
         pick (sees ts (i + 1) t.Literal)
-        (end_of ts false (ImportFrom (text_at ts (i + 1)) []) (i + 2))
+        (end_of ts false (ImportEffect (text_at ts (i + 1))) (i + 2))
         (do
           bs ← clause (i + 1)
           s ← from bs.1
