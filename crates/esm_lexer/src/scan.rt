@@ -1,7 +1,7 @@
 // The tokens of a text, one after another.
 ghost use Rattle.std.specs.Prelude.{◌≡◌, ◌≢◌, ◌+◌, ◌*◌, ◌<◌, ◌≤◌, ◌||◌, ℕ, List, true, false, chars, map, length, drop, slice_index, IfOk, MatchOption, MatchResult, IsUtf8, Ok, Err};
 ghost use Rattle.std.specs.Arc.{arc_value};
-ghost use Rattle.esm_base.specs.declared.fault.ReadEnd.TheVariants as end;
+ghost use Rattle.esm_base.specs.declared.end.End.TheVariants as end;
 ghost use Rattle.esm_base.specs.declared.fault.TextFault.TheVariants as fault;
 ghost use Rattle.esm_grammar.specs.Characters as characters;
 ghost use Rattle.esm_grammar.specs.Reading.{same};
