@@ -1,10 +1,9 @@
 -- The place of an open ask is listed, and is taken out.
-use Rattle.std.proofs.Common.{◌≡◌, ℕ, Some, refl, ap, subst, sym, ◌∙◌, zero-add, length, ◌<◌}
+use Rattle.std.proofs.Common.{◌≡◌, Some, refl, ap, subst, sym, ◌∙◌, zero-add, length}
 use Rattle.std.specs.Prelude.{slice_get, slice_set}
 use Rattle.std.specs.List.{remove}
 use Rattle.std.specs.List.Sorted.{IsNonDecreasing}
 use Rattle.std.proofs.lemmas.Option.{slice_get_within}
-use Rattle.esm_load.specs.Asks.{open_places}
 use Rattle.esm_load.specs.declared.table.Slot.{Slot}
 use Rattle.esm_load.proofs.OpenPlaces.{places_rise, place_listed, as_many, taken}
 use Rattle.esm_load.proofs.Standings.{index_get, some_is}
