@@ -5,7 +5,7 @@ use Rattle.std.specs.List.{remove}
 use Rattle.std.specs.List.Sorted.{IsNonDecreasing}
 use Rattle.std.proofs.lemmas.List.Sorted.{IsNonDecreasingBy-from_default}
 use Rattle.std.proofs.lemmas.List.Elements.{All-nil, All-cons, All-head, All-tail}
-use Rattle.esm_realm.specs.Sound.{IsUsable}
+use Rattle.esm_base.specs.Urls.{IsUsable}
 use Rattle.esm_load.specs.Asks.{open_places, open_place_by}
 use Rattle.esm_load.specs.TableView.{is_open, open_urls, open_by, urls_of}
 use Rattle.esm_load.specs.declared.table.Slot.{Slot}

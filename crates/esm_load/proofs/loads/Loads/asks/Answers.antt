@@ -1,7 +1,7 @@
 -- The list of open asks is the invariant's.
 use Rattle.std.proofs.Common.{◌≡◌, sym, ◌∙◌, subst}
 use Rattle.std.specs.Prelude.{All}
-use Rattle.esm_realm.specs.Sound.{IsUsable}
+use Rattle.esm_base.specs.Urls.{IsUsable}
 use Rattle.esm_load.specs.Arrival.{open_asks}
 use Rattle.esm_load.specs.TableView.{view_of}
 use Rattle.esm_load.specs.LoadsView.{LoadsView, AreOne, loading_of}

@@ -1,7 +1,6 @@
 -- The entry's URL is usable, and is open where it was just asked for.
 use Rattle.std.proofs.Common.{◌≡◌, true, ap, subst, sym, ◌∙◌}
-use Rattle.esm_realm.specs.Urls.{has}
-use Rattle.esm_realm.specs.Usable.{is_usable}
+use Rattle.esm_base.specs.Urls.{has, is_usable}
 use Rattle.esm_realm.proofs.PlainRecords.{main_usable}
 use Rattle.esm_load.specs.Arrival.{open_asks}
 use Rattle.esm_load.specs.Loading.{Loading}
