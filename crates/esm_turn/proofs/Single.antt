@@ -102,6 +102,18 @@ went_from {k} {l} {m} e w = record { single = w.single; jobs = by w.jobs }
     by (inl f) = inl (f ∙ e)
     by (inr t) = inr (record { jobs = t.jobs ∙ ap (λ js. js ++ 0 ∷ []) e; thrown = t.thrown; loads = t.loads })
 
+after_ask : (b c : Bool) (l : Loading) (t x : Url) (i : ℕ) {m : Loading} → Went (ask_by b c l t (Request 0 x i)) m → Went l m
+after_ask true c l t x i w = went_from refl w
+after_ask false true l t x i w = went_from refl w
+after_ask false false l t x i w = went_from refl w
+
+after_enter : {l mid m : Loading} {i : ℕ} {x : Url} {ts : List Url} → Went l mid → Asks mid 0 x i ts m → Went mid m → Went l m
+after_enter {l} {mid} {m} w q r = by w.jobs
+  where
+    by : (mid.jobs ≡ l.jobs) ⊎ HasThrown l mid → Went l m
+    by (inl e) = went_from e r
+    by (inr t) = subst (Went l) (sym (asks_late (over_of t) q)) w
+
 mutual
   enters_went : {l m : Loading} {x : Url} → Enters l 0 x m → IsSingle l → Went l m
   enters_went (ended n) h = stays h
@@ -116,18 +128,6 @@ mutual
       after_ask (has l.asked t) (nat_lt (length l.asked) 4096) l t x i (asks_went q a.single)
   asks_went {l} (throws o e thrown g k f) h = throws_at l thrown h
   asks_went {l} {m} (loads {mid = mid} o e g k f v q) h = let w = enters_went v h in after_enter w q (asks_went q w.single)
-
-  after_ask : (b c : Bool) (l : Loading) (t x : Url) (i : ℕ) {m : Loading} → Went (ask_by b c l t (Request 0 x i)) m → Went l m
-  after_ask true c l t x i w = went_from refl w
-  after_ask false true l t x i w = went_from refl w
-  after_ask false false l t x i w = went_from refl w
-
-  after_enter : {l mid m : Loading} {i : ℕ} {x : Url} {ts : List Url} → Went l mid → Asks mid 0 x i ts m → Went mid m → Went l m
-  after_enter {l} {mid} {m} w q r = by w.jobs
-    where
-      by : (mid.jobs ≡ l.jobs) ⊎ HasThrown l mid → Went l m
-      by (inl e) = went_from e r
-      by (inr t) = subst (Went l) (sym (asks_late (over_of t) q)) w
 
 -- ---- an answer
 
