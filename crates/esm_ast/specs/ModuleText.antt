@@ -3,7 +3,7 @@
 use Rattle.std.specs.Prelude.{◌≡◌, ◌≢◌, ◌≤◌, ℕ, Bool, true, false, List, [], ◌∷◌, ◌++◌, length, nat_eq, All, codes, ⊤, Result, MatchResult}
 use Rattle.std.specs.List.{list_any}
 use Rattle.esm_base.specs.declared.fault.ReadEnd.{ReadEnd}
-use Rattle.esm_base.specs.declared.fault.ReadEnd.TheVariants.{Fault, Memory}
+use Rattle.esm_base.specs.declared.end.End.TheVariants.{Fault, Memory}
 use Rattle.esm_base.specs.declared.fault.TextFault.{TextFault}
 use Rattle.esm_base.specs.declared.fault.TextFault.TheVariants.{P1, P2, P3, P4, P6}
 use Rattle.esm_ast.specs.declared.item.Item.{Item}

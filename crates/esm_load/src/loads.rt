@@ -2,9 +2,8 @@
 ghost use Rattle.std.specs.Prelude.{◌≡◌, ◌<◌, true, false, [], ◌∷◌, List, map, Ok, Err, Some, None, OnOk, cond, option_copied, slice_get};
 ghost use Rattle.std.specs.Arc.{arc_value};
 ghost use Rattle.esm_ast.specs.Outcome.{completion_of};
-ghost use Rattle.esm_base.specs.declared.status.Limit.{Limit as StopBy};
-ghost use Rattle.esm_realm.specs.Urls.{has};
-ghost use Rattle.esm_realm.specs.Usable.{is_usable};
+ghost use Rattle.esm_base.specs.declared.limits.Limit.{Limit as StopBy};
+ghost use Rattle.esm_base.specs.Urls.{has, is_usable};
 ghost use Rattle.esm_realm.specs.Sound.{Sound, RecordParts, records_of};
 ghost use Rattle.esm_load.specs.Completion.{seen};
 ghost use Rattle.esm_load.specs.Loading.{Loading, opening_loading};

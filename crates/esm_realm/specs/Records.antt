@@ -1,7 +1,7 @@
 -- ECMA-262, Source Text Module Records.
 use Rattle.std.specs.Prelude.{List}
 use Rattle.esm_ast.specs.declared.item.Item.{Item}
-use Rattle.esm_realm.specs.Urls.{Url}
+use Rattle.esm_base.specs.Urls.{Url}
 
 -- the module that stands under a URL: its body, and the resolved URL of each of its requests, in order
 pub record ModuleRecord : Type 0 where

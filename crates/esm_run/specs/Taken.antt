@@ -6,7 +6,7 @@ use Rattle.esm_ports.specs.declared.asked.AskKind.TheVariants.{Body, Absent, Fai
 use Rattle.esm_ast.specs.ModuleText.{FaultOf}
 use Rattle.esm_ast.specs.Script.{IsScriptOf}
 use Rattle.esm_ast.specs.Outcome.{Completion, Spelled, Refused, Missing, Lost, completion_of}
-use Rattle.esm_realm.specs.Urls.{has}
+use Rattle.esm_base.specs.Urls.{has}
 use Rattle.esm_load.specs.Completion.{seen}
 use Rattle.esm_turn.specs.Run as runs
 use Rattle.esm_turn.specs.Run.{Shown, StandardRun}

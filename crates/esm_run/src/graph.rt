@@ -1,7 +1,7 @@
 // The run of a graph of modules: a machine driven from a source.
 ghost use Rattle.std.specs.Prelude.{◌≡◌, ◌+◌, ◌++◌, [], ℕ, List, IfOk, IfSome, OnOk, is_some, MatchOption, MatchResult, true, length};
 ghost use Rattle.esm_ast.specs.Outcome.{completion_of};
-ghost use Rattle.esm_realm.specs.Urls.{Url, has};
+ghost use Rattle.esm_base.specs.Urls.{Url, has};
 ghost use Rattle.esm_load.specs.Completion.{seen};
 ghost use Rattle.esm_load.specs.Specifier.{is_usable};
 ghost use Rattle.esm_turn.specs.Run.{Shown, StandardRun};

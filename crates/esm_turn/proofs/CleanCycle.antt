@@ -4,7 +4,7 @@ use Rattle.std.specs.Prelude.{◌⊎◌}
 use Rattle.url.proofs.OnLiterals.{url_on_literals}
 use Rattle.esm_ast.specs.declared.item.Item.{Item}
 use Rattle.esm_ast.specs.ModuleText.{requests_of}
-use Rattle.esm_realm.specs.Urls.{Url, has, same_url}
+use Rattle.esm_base.specs.Urls.{Url, has, same_url}
 use Rattle.esm_realm.specs.Walk.{Visits, leaves}
 use Rattle.esm_realm.specs.Walk.Mark.{Enter, Pass, Leave}
 use Rattle.esm_realm.proofs.Urls.{same_text, or_true, or_left, or_cases, has_own}

@@ -3,8 +3,8 @@ use mathlib.Core.Bool.{true≢false}
 use Rattle.std.proofs.Common.{◌≡◌, ℕ, ◌+◌, Bool, true, false, List, [], ◌∷◌, ◌++◌, Some, None, Option, refl, ap, subst, sym, ◌∙◌, inl, inr}
 use Rattle.std.specs.Prelude.{◌⊎◌, nat_lt, slice_get}
 use Rattle.std.specs.FinMap.{get, insert, get-empty}
-use Rattle.esm_base.specs.declared.status.Limit.{Limit}
-use Rattle.esm_realm.specs.Urls.{Text, Url, url_cmp, has, same_url}
+use Rattle.esm_base.specs.declared.limits.Limit.{Limit}
+use Rattle.esm_base.specs.Urls.{Text, Url, url_cmp, has, same_url}
 use Rattle.esm_realm.specs.Walk.{Mark, Visits, leaves}
 use Rattle.esm_realm.proofs.Urls.{cases, same_text, own_text, or_cases, not_both}
 use Rattle.esm_load.specs.Completion.{Completion, bytes_of}

@@ -4,8 +4,8 @@ use Rattle.std.proofs.Common.{◌≡◌, ℕ, suc, Bool, true, false, List, [], 
 use Rattle.std.specs.Prelude.{◌⊎◌, ◌||◌, ◌==◌, nat_lt, length, slice_get, slice_set}
 use Rattle.std.specs.List.{list_any}
 use Rattle.std.specs.FinMap.{get}
-use Rattle.esm_base.specs.declared.status.Limit.{Limit}
-use Rattle.esm_realm.specs.Urls.{Text, Url, has}
+use Rattle.esm_base.specs.declared.limits.Limit.{Limit}
+use Rattle.esm_base.specs.Urls.{Text, Url, has}
 use Rattle.esm_load.specs.Table.{Entry}
 use Rattle.esm_load.specs.Loading.{Loading, LoadState, Open, Whole, Thrown, Asker, Root, Request, Opened, opened, opened_in, load_of, is_of, begin, visit, throw, finish_by, ask_by}
 use Rattle.esm_load.specs.Load.{Enters, Asks, Answers}

@@ -1,8 +1,7 @@
 // The machine: an entry, and the deliveries that it has taken.
 ghost use Rattle.std.specs.Prelude.{◌≡◌, List, [], ◌∷◌, ◌++◌, true, IfOk, IfErr, OnOk, Some, None, Err, is_some, option_map, slice_get, codes, IsSome, ◌↔◌};
 ghost use Rattle.esm_ast.specs.Outcome.{completion_of};
-ghost use Rattle.esm_realm.specs.Urls.{Url};
-ghost use Rattle.esm_realm.specs.Usable.{is_usable};
+ghost use Rattle.esm_base.specs.Urls.{Url, is_usable};
 ghost use Rattle.esm_realm.specs.Sound.{RecordParts};
 ghost use Rattle.esm_load.specs.Completion.{seen};
 ghost use Rattle.esm_load.specs.Loading.{Loading};
