@@ -5,7 +5,7 @@ use Rattle.std.specs.List.{list_all}
 use Rattle.std.proofs.lemmas.List.{append_cancel_left}
 use Rattle.esm_ast.specs.declared.item.Item.{Item}
 use Rattle.esm_ast.specs.declared.item.Item.TheVariants.{Print, Import}
-use Rattle.esm_ast.specs.ModuleText.{IsPlain, End, Semicolon, LineFeed, Both, Missing, end_bytes, MayStandBefore, HasNoLine, IsClosed, quoted, print_bytes, import_bytes, item_bytes, BeginsWith, IsItem, AreItems, Spells}
+use Rattle.esm_ast.specs.ModuleText.{IsPlain, Terminator, Semicolon, LineFeed, Both, Missing, end_bytes, MayStandBefore, HasNoLine, IsClosed, quoted, print_bytes, import_bytes, item_bytes, BeginsWith, IsItem, AreItems, Spells}
 use Rattle.esm_ast.specs.Laws.{ModuleTextExample}
 
 All-head : {X : Type 0} (P : X → Type 0) (x : X) (xs : List X) → All P (x ∷ xs) → P x
@@ -40,7 +40,7 @@ not_empty : (a : ℕ) (x : List ℕ) → a ∷ x ≡ [] → ⊥
 not_empty a x e = cc
 
 -- the same bytes behind an item have the same end and rest
-end_split : (e f : End) (x y : List ℕ) → MayStandBefore e x → MayStandBefore f y → IsClosed e x → IsClosed f y
+end_split : (e f : Terminator) (x y : List ℕ) → MayStandBefore e x → MayStandBefore f y → IsClosed e x → IsClosed f y
     → end_bytes e ++ x ≡ end_bytes f ++ y → x ≡ y
 end_split Semicolon Semicolon x y p q sx sy e = cc
 end_split Semicolon LineFeed x y p q sx sy e = absurd (no_byte 59 10 _ _ (omega arith) e)
@@ -85,7 +85,7 @@ have_no_line : (bytes : List ℕ) (items : List Item) → AreItems bytes items �
 have_no_line bytes [] is = λ more e. not_empty 10 more (sym e ∙ is)
 have_no_line bytes (a ∷ items) is = λ more e. item_no_line a _ more (sym e ∙ is.1.0.whole)
 
-closed_by : (end : End) (bytes : List ℕ) (items : List Item) → AreItems bytes items → IsClosed end bytes
+closed_by : (end : Terminator) (bytes : List ℕ) (items : List Item) → AreItems bytes items → IsClosed end bytes
 closed_by Semicolon bytes items is = have_no_line bytes items is
 closed_by LineFeed bytes items is = tt
 closed_by Both bytes items is = tt

@@ -2,7 +2,7 @@
 -- ECMA-262, ParseModule and ModuleRequests, for the items `print("TEXT")` and `import "SPECIFIER"` alone.
 use Rattle.std.specs.Prelude.{◌≡◌, ◌≢◌, ◌≤◌, ℕ, Bool, true, false, List, [], ◌∷◌, ◌++◌, length, nat_eq, All, codes, ⊤, Result, MatchResult}
 use Rattle.std.specs.List.{list_any}
-use Rattle.esm_base.specs.declared.fault.ReadEnd.{ReadEnd}
+use Rattle.esm_base.specs.declared.end.End.{End}
 use Rattle.esm_base.specs.declared.end.End.TheVariants.{Fault, Memory}
 use Rattle.esm_base.specs.declared.fault.TextFault.{TextFault}
 use Rattle.esm_base.specs.declared.fault.TextFault.TheVariants.{P1, P2, P3, P4, P6}
@@ -58,20 +58,20 @@ item_bytes (Print text) = print_bytes text
 item_bytes (Import specifier) = import_bytes specifier
 
 -- what closes an item
-pub data End : Type 0 where
-  Semicolon : End
-  LineFeed : End
-  Both : End
-  Missing : End
+pub data Terminator : Type 0 where
+  Semicolon : Terminator
+  LineFeed : Terminator
+  Both : Terminator
+  Missing : Terminator
 
-abbrev pub end_bytes : End → List ℕ
+abbrev pub end_bytes : Terminator → List ℕ
 end_bytes Semicolon = 59 ∷ []
 end_bytes LineFeed = 10 ∷ []
 end_bytes Both = 59 ∷ 10 ∷ []
 end_bytes Missing = []
 
 -- an end may be missing only at the end of the text
-abbrev pub MayStandBefore : End → List ℕ → Type 0
+abbrev pub MayStandBefore : Terminator → List ℕ → Type 0
 MayStandBefore Semicolon rest = ⊤
 MayStandBefore LineFeed rest = ⊤
 MayStandBefore Both rest = ⊤
@@ -80,7 +80,7 @@ MayStandBefore Missing rest = rest ≡ []
 -- the bytes are this item with an end, and then this rest
 pub record BeginsWith (item : Item) (bytes rest : List ℕ) : Type 0 where
   pub plain : All IsPlain (quoted item)
-  pub end : End
+  pub end : Terminator
   pub stands : MayStandBefore end rest
   pub whole : bytes ≡ item_bytes item ++ (end_bytes end ++ rest)
 
@@ -89,7 +89,7 @@ abbrev pub HasNoLine : List ℕ → Type 0
 HasNoLine bytes = (more : List ℕ) → bytes ≡ 10 ∷ more → ⊥
 
 -- a line feed behind a semicolon belongs to the same end
-abbrev pub IsClosed : End → List ℕ → Type 0
+abbrev pub IsClosed : Terminator → List ℕ → Type 0
 IsClosed Semicolon rest = HasNoLine rest
 IsClosed LineFeed rest = ⊤
 IsClosed Both rest = ⊤
@@ -118,10 +118,10 @@ FaultOf bytes P4 = ⊥
 FaultOf bytes P6 = ⊥
 
 -- the refusal is right
-abbrev pub IsRefusedFor : List ℕ → ReadEnd → Type 0
+abbrev pub IsRefusedFor : List ℕ → End TextFault → Type 0
 IsRefusedFor bytes (Fault fault) = FaultOf bytes fault
 IsRefusedFor bytes Memory = ⊤
 
 -- the answer of a reader of these bytes
-abbrev pub IsReading : {T : Type 0} → (T → List Item) → List ℕ → Result T ReadEnd → Type 0
+abbrev pub IsReading : {T : Type 0} → (T → List Item) → List ℕ → Result T (End TextFault) → Type 0
 IsReading tree_of bytes result = MatchResult result (λ tree. Spells bytes (tree_of tree)) (IsRefusedFor bytes)

@@ -14,8 +14,10 @@ use Rattle.std.specs.Cmp.Lexicographic.{slice_cmp}
 use Rattle.std.specs.Map.{lookup}
 use Rattle.url.specs.Parts.{Parts}
 use Rattle.esm_import_map.specs.ImportMap.{Maps}
-use Rattle.esm_import_map.specs.Reading.{json_of, without_mark, import_map_of, of_json, of_object, of_parts, part_of, Tells}
-use Rattle.esm_import_map.specs.declared.fault.MapReadEnd.{MapReadEnd}
+use Rattle.esm_import_map.specs.Reading.{json_of, without_mark, import_map_of, of_json, of_object, of_parts, part_of}
+use Rattle.esm_base.specs.declared.end.End.{End}
+use Rattle.esm_base.specs.Ends.{Gives}
+use Rattle.esm_import_map.specs.declared.fault.MapFault.{MapFault}
 
 refused_by : (b u : Bool) (text : List ℕ) → is_utf8 text ≡ u → (IsUtf8 text → read text ≡ None) → (if b && u then read text else None) ≡ None
 refused_by true true text is none = none (IsUtf8-from_is_utf8 text is)
@@ -43,10 +45,10 @@ pub named : (name : List ℕ) (found : Option (Bor Value)) (es : List Entry) →
 named name found es is = view_of_ref found ∙ ap (option_map view) is ∙ view-lookup name es
 
 -- what the two parts say is what the text says
-pub tells_parts : (r : Result Maps MapReadEnd) (base : Parts) (bytes : List ℕ) (d : Data) (ms : Members) (imports scopes : Option Data) → Some d ≡ json_of bytes → Some ms ≡ as_object d
-    → imports ≡ get_member (codes "imports") ms → scopes ≡ get_member (codes "scopes") ms → Tells r (of_parts base (part_of imports) (part_of scopes)) → Tells r (import_map_of bytes base)
+pub tells_parts : (r : Result Maps (End MapFault)) (base : Parts) (bytes : List ℕ) (d : Data) (ms : Members) (imports scopes : Option Data) → Some d ≡ json_of bytes → Some ms ≡ as_object d
+    → imports ≡ get_member (codes "imports") ms → scopes ≡ get_member (codes "scopes") ms → Gives r (of_parts base (part_of imports) (part_of scopes)) → Gives r (import_map_of bytes base)
 tells_parts r base bytes d ms imports scopes e f g h t =
-    let P : Option Data → Type 0 = λ o. Tells r (of_json base o) in
-    let Q : Option Members → Type 0 = λ o. Tells r (of_object base o) in
-    let u : Tells r (of_parts base (part_of (get_member (codes "imports") ms)) (part_of (get_member (codes "scopes") ms))) = rw (sym g, sym h) t in
+    let P : Option Data → Type 0 = λ o. Gives r (of_json base o) in
+    let Q : Option Members → Type 0 = λ o. Gives r (of_object base o) in
+    let u : Gives r (of_parts base (part_of (get_member (codes "imports") ms)) (part_of (get_member (codes "scopes") ms))) = rw (sym g, sym h) t in
     subst P e (subst Q f u)

@@ -1,26 +1,26 @@
 -- What a text says as an import map: a fault, the first that applies, or its two finite maps.
-use Rattle.std.specs.Prelude.{ℕ, List, [], ◌∷◌, codes, length, drop, nat_le, Bool, true, not, ◌&&◌, ◌||◌, ◌==◌, ⊤, ◌≡◌, Option, None, Some, is_some, unwrap_or, option_map, option_and_then, Result, Ok, Err, if◌then◌else◌}
+use Rattle.std.specs.Prelude.{ℕ, List, [], ◌∷◌, codes, length, drop, nat_le, Bool, true, not, ◌&&◌, ◌||◌, ◌==◌, Option, None, Some, is_some, unwrap_or, option_map, option_and_then, Result, Ok, Err, if◌then◌else◌}
 use Rattle.std.specs.Str.{is_utf8}
 use Rattle.serde_json.specs.Data.{Data, Members, no_members, member}
 use Rattle.serde_json.specs.Find.{as_object, as_str, get_member}
 use Rattle.serde_json.specs.Read.{read}
 use Rattle.url.specs.Parts.{Parts, serialize}
+use Rattle.esm_base.specs.declared.limits.TheConstants.{MAX_FILE_BYTES}
+use Rattle.esm_base.specs.Urls.{url_of}
 use Rattle.esm_import_map.specs.ImportMap.{SpecifierMap, Maps}
-use Rattle.esm_import_map.specs.Specifier.{url_of, url_like, begins_with, ends_in_slash}
+use Rattle.esm_import_map.specs.Specifier.{url_like, begins_with, ends_in_slash}
 use Rattle.esm_import_map.specs.TextMap.{Entries, with_new}
 use Rattle.esm_import_map.specs.declared.fault.MapFault.{MapFault}
 use Rattle.esm_import_map.specs.declared.fault.MapFault.TheVariants.{M1, M2, M3, M4}
-use Rattle.esm_import_map.specs.declared.fault.MapReadEnd.{MapReadEnd}
-use Rattle.esm_import_map.specs.declared.fault.MapReadEnd.TheVariants as end
 
 -- the text without a byte order mark at its front
 abbrev pub without_mark : List ℕ → List ℕ
 without_mark bytes = if begins_with bytes (239 ∷ 187 ∷ 191 ∷ []) then drop 3 bytes else bytes
 
--- HTML, parse an import map string: the JSON value, if the bytes are a JSON text of at most 1,048,576 bytes
+-- HTML, parse an import map string: the JSON value, if the bytes are a JSON text of at most MAX_FILE_BYTES
 abbrev pub json_of : List ℕ → Option Data
 json_of bytes =
-    if nat_le (length bytes) 1048576 && is_utf8 (without_mark bytes) then read (without_mark bytes) else None
+    if nat_le (length bytes) MAX_FILE_BYTES && is_utf8 (without_mark bytes) then read (without_mark bytes) else None
 
 -- HTML, normalize a specifier key: an empty key is dropped, a URL-like one becomes its URL's text
 abbrev pub normalized_key : Parts → List ℕ → Option (List ℕ)
@@ -102,9 +102,3 @@ of_json base (Some value) = of_object base (as_object value)
 -- HTML, parse an import map string
 abbrev pub import_map_of : List ℕ → Parts → Result Maps MapFault
 import_map_of bytes base = of_json base (json_of bytes)
-
--- a reader's answer is what the text says, unless memory ran out
-abbrev pub Tells : Result Maps MapReadEnd → Result Maps MapFault → Type 0
-Tells (Ok maps) said = said ≡ Ok maps
-Tells (Err (end.Fault fault)) said = said ≡ Err fault
-Tells (Err end.Memory) said = ⊤

@@ -1,13 +1,8 @@
 -- The URL that a specifier is.
 use Rattle.std.specs.Prelude.{ℕ, List, codes, Bool, ◌||◌, Option, Some, None, nat_eq, if◌then◌else◌}
 use Rattle.std.specs.List.{starts_with, ends_with}
-use Rattle.std.specs.Result.{result_ok}
-use Rattle.url.specs.Parser.{parse_url}
 use Rattle.url.specs.Parts.{Parts}
-
--- URL Standard, URL parser: the URL that a text is, against a base where there is one
-abbrev pub url_of : Option Parts → List ℕ → Option Parts
-url_of base text = result_ok (parse_url base text)
+use Rattle.esm_base.specs.Urls.{url_of}
 
 -- the text begins with another
 abbrev pub begins_with : List ℕ → List ℕ → Bool

@@ -1,10 +1,10 @@
 // Why a text is no import map.
-use esm_base::Memory;
+use esm_base::End;
 
 /// Why a text is no import map. The numbers are part of the printed message.
 #[derive(Clone, Copy, Debug, PartialEq, Eq)]
 pub enum MapFault {
-    /// Longer than 1,048,576 bytes, or no JSON text.
+    /// Longer than `MAX_FILE_BYTES`, or no JSON text.
     M1,
     /// The value isn't an object.
     M2,
@@ -15,21 +15,4 @@ pub enum MapFault {
 }
 
 /// Why an import map wasn't read.
-#[derive(Clone, Copy, Debug, PartialEq, Eq)]
-pub enum MapReadEnd {
-    /// The text is no import map.
-    Fault(MapFault),
-    /// Memory ran out.
-    Memory,
-}
-
-impl From<Memory> for MapReadEnd {
-    ghost use Rattle.std.specs.Prelude.{◌≡◌};
-    ghost use Rattle.esm_import_map.specs.declared.fault.MapReadEnd.TheVariants.{Memory};
-
-    ghost from_gives = { λ _ e. e ≡ Memory };
-
-    fn from(_: Memory) -> Self {
-        MapReadEnd::Memory
-    }
-}
+pub type MapReadEnd = End<MapFault>;

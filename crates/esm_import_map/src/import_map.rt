@@ -1,7 +1,8 @@
 // Import maps.
 ghost use Rattle.std.specs.Prelude.{◌≡◌};
 ghost use Rattle.esm_import_map.specs.ImportMap.{no_maps};
-ghost use Rattle.esm_import_map.specs.Reading.{Tells, import_map_of};
+ghost use Rattle.esm_base.specs.Ends.{Gives};
+ghost use Rattle.esm_import_map.specs.Reading.{import_map_of};
 
 use crate::fault::MapReadEnd;
 use crate::reading::read_text;
@@ -53,7 +54,7 @@ impl ImportMap {
     ///
     /// HTML, parse an import map string.
     pub fn read(alloc: Global, bytes: &[u8], base: &Url) -> Result<ImportMap, MapReadEnd>
-        ensures { Tells result (import_map_of bytes.now base.now) }
+        ensures { Gives result (import_map_of bytes.now base.now) }
     {
         read_text(alloc, bytes, base)
     }

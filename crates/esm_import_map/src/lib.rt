@@ -9,7 +9,7 @@ mod text_map;
 
 pub use fault::{MapFault, MapReadEnd};
 pub use import_map::{ImportMap, SpecifierMap};
-pub use specifier::{absolute, against, ends_in_slash, is_relative, url_like};
+pub use specifier::{ends_in_slash, is_relative, url_like};
 pub use text_map::TextMap;
 
 #[cfg(test)]

@@ -2,19 +2,17 @@
 ghost use Rattle.std.specs.Prelude.{◌≡◌, [], Some, None, IfOk, option_map, string_bytes, if◌then◌else◌};
 ghost use Rattle.serde_json.specs.View.{view, members_view};
 ghost use Rattle.esm_import_map.specs.Reading as spec;
-ghost use Rattle.esm_import_map.specs.Specifier.{url_of};
+ghost use Rattle.esm_base.specs.Ends.{Gives};
+ghost use Rattle.esm_base.specs.Urls.{url_of};
 
 use crate::fault::{MapFault, MapReadEnd};
 use crate::import_map::{ImportMap, SpecifierMap};
-use crate::specifier::{against, ends_in_slash, url_like};
+use crate::specifier::{ends_in_slash, url_like};
 use crate::text_map::TextMap;
-use esm_base::Memory;
+use esm_base::{MAX_FILE_BYTES, Memory, parse_against};
 use serde_json::{Category, Map, Value};
 use std::alloc::Global;
 use url::Url;
-
-// The longest text of an import map, in bytes, counted with a byte order mark.
-const LONGEST: usize = 1_048_576;
 
 // The text without a byte order mark at its front.
 fn without_mark(bytes: &[u8]) -> &[u8]
@@ -32,7 +30,7 @@ fn without_mark(bytes: &[u8]) -> &[u8]
 fn json_of(alloc: Global, bytes: &[u8]) -> Result<Option<Value>, Memory>
     ensures { IfOk result (λ value. option_map view value ≡ spec.json_of bytes.now) }
 {
-    if bytes.len() > LONGEST {
+    if bytes.len() > MAX_FILE_BYTES {
         return Ok(None);
     }
     match Value::from_slice(alloc, without_mark(bytes)) {
@@ -127,7 +125,7 @@ fn enter_scope(
 ) -> Result<bool, Memory>
     ensures { IfOk result (λ fresh. spec.with_scope (url_of (Some base.now) prefix.now) (spec.normalized base.now (spec.members_in (view value.now)) []) scopes.old ≡ (if fresh then Some scopes.new else None)) }
 {
-    let Some(url) = against(base, prefix)? else {
+    let Some(url) = parse_against(base, prefix)? else {
         return Ok(true);
     };
     let Some(map) = read_scope(alloc, base, value)? else {
@@ -187,7 +185,7 @@ fn read_parts(
     imports: Option<&Value>,
     scopes: Option<&Value>,
 ) -> Result<ImportMap, MapReadEnd>
-    ensures { spec.Tells result (spec.of_parts base.now (spec.part_of (option_map (λ v. view v.now) imports.entry)) (spec.part_of (option_map (λ v. view v.now) scopes.entry))) }
+    ensures { Gives result (spec.of_parts base.now (spec.part_of (option_map (λ v. view v.now) imports.entry)) (spec.part_of (option_map (λ v. view v.now) scopes.entry))) }
 {
     let none = Map::new(alloc);
     let Some(imports) = part_of(imports, &none) else {
@@ -210,7 +208,7 @@ fn read_parts(
 
 /// Reads the text of an import map.
 pub fn read_text(alloc: Global, bytes: &[u8], base: &Url) -> Result<ImportMap, MapReadEnd>
-    ensures { spec.Tells result (spec.import_map_of bytes.now base.now) }
+    ensures { Gives result (spec.import_map_of bytes.now base.now) }
 {
     let Some(value) = json_of(alloc, bytes)? else {
         return Err(MapReadEnd::Fault(MapFault::M1));

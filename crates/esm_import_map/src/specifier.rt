@@ -1,32 +1,10 @@
 // The URL that a specifier is.
-ghost use Rattle.std.specs.Prelude.{◌≡◌, IfOk, Some, None};
+ghost use Rattle.std.specs.Prelude.{◌≡◌, IfOk};
 ghost use Rattle.esm_import_map.specs.Specifier as spec;
 
-use esm_base::Memory;
+use esm_base::{Memory, parse_absolute, parse_against};
 use std::alloc::Global;
-use url::{ParseError, Url};
-
-/// Reads an absolute URL: the URL Standard's URL parser without a base.
-pub fn absolute(alloc: Global, text: &str) -> Result<Option<Url>, Memory>
-    ensures { IfOk result (λ url. url ≡ spec.url_of None text.now) }
-{
-    match Url::parse(alloc, text) {
-        Ok(url) => Ok(Some(url)),
-        Err(ParseError::OutOfMemory | ParseError::Overflow) => Err(Memory),
-        Err(_) => Ok(None),
-    }
-}
-
-/// Reads a URL against a base: the URL Standard's URL parser.
-pub fn against(base: &Url, text: &str) -> Result<Option<Url>, Memory>
-    ensures { IfOk result (λ url. url ≡ spec.url_of (Some base.now) text.now) }
-{
-    match base.join(text) {
-        Ok(url) => Ok(Some(url)),
-        Err(ParseError::OutOfMemory | ParseError::Overflow) => Err(Memory),
-        Err(_) => Ok(None),
-    }
-}
+use url::Url;
 
 /// Whether a text begins with `/`, `./` or `../`.
 pub fn is_relative(text: &str) -> bool
@@ -48,8 +26,8 @@ pub fn url_like(alloc: Global, base: &Url, specifier: &str) -> Result<Option<Url
     ensures { IfOk result (λ url. url ≡ spec.url_like base.now specifier.now) }
 {
     if is_relative(specifier) {
-        against(base, specifier)
+        parse_against(base, specifier)
     } else {
-        absolute(alloc, specifier)
+        parse_absolute(alloc, specifier)
     }
 }

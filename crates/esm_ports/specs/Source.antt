@@ -1,6 +1,7 @@
 -- What a source is asked and what it answers.
 use Rattle.std.specs.Prelude.{◌≡◌, ℕ, List, [], ◌∷◌, ◌++◌, take, Vec, Option, None, Result, Ok, Err, IsSomeAnd}
 use Rattle.std.specs.declared.alloc.Global.{Global}
+use Rattle.esm_base.specs.declared.limits.TheConstants.{MAX_BODY_BYTES}
 use Rattle.esm_ports.specs.declared.asked.Asked.{Asked}
 use Rattle.esm_ports.specs.declared.source.FetchEnd.{FetchEnd}
 use Rattle.esm_ports.specs.declared.source.FetchEnd.TheVariants as end
@@ -19,7 +20,7 @@ asked_after asked url result = asked ++ asks_of url result
 -- the answer is that of a source with these contents: a body is the first bytes, or all, of what it
 -- holds, and nothing is held where it says so
 abbrev pub IsToldBy : (List ℕ → Option (List ℕ)) → List ℕ → Result (Vec ℕ Global) FetchEnd → Type 0
-IsToldBy contents url (Ok body) = IsSomeAnd (contents url) (λ bytes. body.items ≡ take 1048577 bytes)
+IsToldBy contents url (Ok body) = IsSomeAnd (contents url) (λ bytes. body.items ≡ take MAX_BODY_BYTES bytes)
 IsToldBy contents url (Err end.Absent) = contents url ≡ None
 IsToldBy contents url (Err end.Failed) = Unit {0}
 IsToldBy contents url (Err end.Memory) = Unit {0}

@@ -2,16 +2,15 @@
 ghost use Rattle.std.specs.Prelude.{◌≡◌, [], None, refl};
 ghost use Rattle.esm_ports.specs.Asks.{failed_count};
 
-use crate::held_files::MOST;
 use crate::{AskKind, Asks, FetchEnd, Source};
-use esm_base::{Memory, Text};
+use esm_base::{MAX_BODY_BYTES, Memory, Text, parse_absolute};
 use percent_encoding::{DecodeError, percent_decode};
 use std::alloc::Global;
 use std::io::{ErrorKind, Read};
 use std::marker::Model;
 use std::rt::Files;
 use std::{fs, io};
-use url::{ParseError, Url};
+use url::Url;
 
 /// Files below a folder, by the host and the path of a URL. What they hold is not told; contracts see what was asked.
 ///
@@ -83,10 +82,8 @@ fn add_host(alloc: Global, path: &mut String, url: &Url) -> Result<bool, Memory>
 
 // The path of the file of a URL, if it has one.
 fn path_of(alloc: Global, root: &str, url: &str) -> Result<Option<String>, Memory> {
-    let url = match Url::parse(alloc, url) {
-        Ok(url) => url,
-        Err(ParseError::OutOfMemory | ParseError::Overflow) => return Err(Memory),
-        Err(_) => return Ok(None),
+    let Some(url) = parse_absolute(alloc, url)? else {
+        return Ok(None);
     };
     let mut path = String::from_str(alloc, root)?;
     if !add_host(alloc, &mut path, &url)? {
@@ -119,7 +116,7 @@ fn read_file<R: Files>(rt: &R, alloc: Global, path: &str) -> Result<Vec<u8>, Fet
         Err(fault) => return Err(end_of(&fault)),
     };
     let mut body = Vec::new(alloc);
-    match file.take(MOST as u64).read_to_end(&mut body) {
+    match file.take(MAX_BODY_BYTES as u64).read_to_end(&mut body) {
         Ok(_) => Ok(body),
         Err(fault) => match end_of(&fault) {
             FetchEnd::Memory => Err(FetchEnd::Memory),
@@ -146,7 +143,7 @@ impl<R: Files + Drop> Source for FileSource<R> {
         match read_file(&self.rt, alloc, path.as_str()) {
             Ok(body) => {
                 let mut body = body;
-                body.truncate(MOST);
+                body.truncate(MAX_BODY_BYTES);
                 self.asked.add(copy, AskKind::Body)?;
                 Ok(body)
             }

@@ -4,11 +4,8 @@ ghost use Rattle.esm_ports.specs.Files.{contents_of};
 ghost use Rattle.esm_ports.specs.Source.{IsToldBy};
 
 use crate::FetchEnd;
-use esm_base::Text;
+use esm_base::{MAX_BODY_BYTES, Text};
 use std::alloc::Global;
-
-/// How many bytes of a file are read at the most: one more than the longest module text has.
-pub(crate) const MOST: usize = 1_048_577;
 
 // The bytes of the file with this URL.
 fn find<'a>(files: &'a [(Text, Vec<u8>)], url: &str) -> Option<&'a Vec<u8>>
@@ -25,12 +22,12 @@ fn find<'a>(files: &'a [(Text, Vec<u8>)], url: &str) -> Option<&'a Vec<u8>>
 // The first bytes, or all, of the file with this URL.
 pub(crate) fn read(alloc: Global, files: &[(Text, Vec<u8>)], url: &str) -> Result<Vec<u8>, FetchEnd>
     ensures told { IsToldBy (contents_of files.now) url.now result }
-    ensures short { IfOk result (λ body. length body.items ≤ 1048577) }
+    ensures short { IfOk result (λ body. length body.items ≤ MAX_BODY_BYTES) }
     ensures sure { result ≢ Err FetchEnd.Failed }
 {
     match find(files, url) {
         Some(bytes) => {
-            let body = Vec::from_slice(alloc, &bytes[..MOST.min(bytes.len())])?;
+            let body = Vec::from_slice(alloc, &bytes[..MAX_BODY_BYTES.min(bytes.len())])?;
             Ok(body)
         }
         None => Err(FetchEnd::Absent),

@@ -1,5 +1,6 @@
 // A source in memory that fails by a plan.
 ghost use Rattle.std.specs.Prelude.{◌≡◌, ◌≢◌, ◌+◌, ◌↔◌, Some, [], IsTrue, Contains, length, refl};
+ghost use Rattle.esm_base.specs.declared.limits.TheConstants.{MAX_BODY_BYTES};
 ghost use Rattle.esm_ports.specs.Asks.{failed_count};
 ghost use Rattle.esm_ports.specs.Files.{contents_of, HasDistinctUrls};
 
@@ -73,7 +74,7 @@ impl Source for MemSource {
     fn fetch(&mut self, alloc: Global, url: &str) -> Result<Vec<u8>, FetchEnd>
         ensures asked { self.new.asked ≡ asked_after self.old.asked url.now result }
         ensures told { IsToldBy (contents_of self.old.files) url.now result }
-        ensures short { IfOk result (λ body. length body.items ≤ 1048577) }
+        ensures short { IfOk result (λ body. length body.items ≤ MAX_BODY_BYTES) }
         ensures holds { self.new.files ≡ self.old.files }
         ensures failed { IsErrOf result FetchEnd.Failed → failed_count self.old.asked < failed_count self.new.asked }
         ensures plan { self.new.fail_at ≡ self.old.fail_at }

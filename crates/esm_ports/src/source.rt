@@ -1,5 +1,6 @@
 // Where module texts come from.
 ghost use Rattle.std.specs.Prelude.{◌≡◌, ℕ, List, Option, ◌<◌, ◌≤◌, IfOk, IfSome, IsErrOf, length};
+ghost use Rattle.esm_base.specs.declared.limits.TheConstants.{MAX_BODY_BYTES};
 ghost use Rattle.esm_ports.specs.declared.asked.Asked.{Asked};
 ghost use Rattle.esm_ports.specs.Asks.{failed_count};
 ghost use Rattle.esm_ports.specs.Source.{asked_after, IsToldBy};
@@ -65,11 +66,11 @@ pub trait Source: Drop {
     /// How often a fetch has failed.
     ghost faults: { Self → ℕ };
 
-    /// Fetches the first 1,048,577 bytes, or all, of what stands at a URL. A failure is counted.
+    /// Fetches the first `MAX_BODY_BYTES`, or all, of what stands at a URL. A failure is counted.
     fn fetch(&mut self, alloc: Global, url: &str) -> Result<Vec<u8>, FetchEnd>
         ensures asked { asked self.new ≡ asked_after (asked self.old) url.now result }
         ensures told { IfSome (holds self.old) (λ contents. IsToldBy contents url.now result) }
-        ensures short { IfOk result (λ body. length body.items ≤ 1048577) }
+        ensures short { IfOk result (λ body. length body.items ≤ MAX_BODY_BYTES) }
         ensures holds { holds self.new ≡ holds self.old }
         ensures failed { IsErrOf result FetchEnd.Failed → faults self.old < faults self.new };
 

@@ -1,7 +1,5 @@
-pub mod Urls
 pub mod Walk
 pub mod Reach
 pub mod Records
 pub mod Laws
-pub mod Usable
 pub mod Sound

@@ -1,9 +1,8 @@
 // The run of a graph of modules: a machine driven from a source.
 ghost use Rattle.std.specs.Prelude.{◌≡◌, ◌+◌, ◌++◌, [], ℕ, List, IfOk, IfSome, OnOk, is_some, MatchOption, MatchResult, true, length};
 ghost use Rattle.esm_ast.specs.Outcome.{completion_of};
-ghost use Rattle.esm_base.specs.Urls.{Url, has};
+ghost use Rattle.esm_base.specs.Urls.{Url, has, is_usable};
 ghost use Rattle.esm_load.specs.Completion.{seen};
-ghost use Rattle.esm_load.specs.Specifier.{is_usable};
 ghost use Rattle.esm_turn.specs.Run.{Shown, StandardRun};
 ghost use Rattle.esm_turn.specs.Run as runs;
 ghost use Rattle.esm_turn.specs.Stands.{Stands, StandsOn, asks_of, ending_of};

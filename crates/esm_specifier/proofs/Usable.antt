@@ -5,18 +5,13 @@ use Rattle.std.proofs.lemmas.Slice.Eq.{bytes_eq-Decides}
 use Rattle.std.proofs.lemmas.Bool.Decides.{nat_tests}
 use Rattle.url.specs.Parts.{Parts, serialize}
 use Rattle.esm_import_map.specs.ImportMap.{Maps}
-use Rattle.esm_import_map.specs.Specifier.{url_of, url_like}
-use Rattle.esm_specifier.specs.Resolution.{usable, resolution_of_specifier, resolution_against, resolved, normal_text, by_address, under, is_usable, is_canonical, IsCanonicalText, Tells}
+use Rattle.esm_base.specs.Ends.{Gives}
+use Rattle.esm_base.specs.Urls.{url_of, is_usable, IsUsable}
+use Rattle.esm_base.specs.declared.end.End.{End}
+use Rattle.esm_import_map.specs.Specifier.{url_like}
+use Rattle.esm_specifier.specs.Resolution.{usable, resolution_of_specifier, resolution_against, resolved, normal_text, by_address, under}
 use Rattle.esm_specifier.specs.declared.fault.SpecFault.{SpecFault}
 use Rattle.esm_specifier.specs.declared.fault.SpecFault.TheVariants.{S5}
-use Rattle.esm_specifier.specs.declared.fault.SpecEnd.{SpecEnd}
-
-short : (n : ℕ) → nat_le n 8192 ≡ true → n ≤ 8192
-short n e = grind (arith, nat_tests)
-
-both : (a b : Bool) → (a && b) ≡ true → (a ≡ true) × (b ≡ true)
-both true b e = (refl, e)
-both false b e = absurd (true≢false (sym e))
 
 abbrev Answer : Type 0
 Answer = Result (List ℕ) SpecFault
@@ -33,30 +28,27 @@ same_text a b e = cc
 other_end : (A : Type 0) (fault : SpecFault) (b : List ℕ) → bad fault ≡ good b → A
 other_end A fault b e = absurd (cc)
 
-usable_by : (text url : List ℕ) (b : Bool) → is_usable text ≡ b → (if b then Ok text else Err S5) ≡ Ok url → (length url ≤ 8192) × IsCanonicalText url
-usable_by text url true is e =
-    let p = both (nat_le (length text) 8192) (is_canonical text) is in
-    let P : List ℕ → Type 0 = λ t. (length t ≤ 8192) × IsCanonicalText t in
-    subst P (same_text text url e) (short (length text) p.0, p.1)
+usable_by : (text url : List ℕ) (b : Bool) → is_usable text ≡ b → (if b then Ok text else Err S5) ≡ Ok url → IsUsable url
+usable_by text url true is e = subst IsUsable (same_text text url e) is
 usable_by text url false is e = other_end _ S5 url e
 
-usable_of : (said : Result (List ℕ) SpecFault) (url : List ℕ) → usable said ≡ Ok url → (length url ≤ 8192) × IsCanonicalText url
+usable_of : (said : Result (List ℕ) SpecFault) (url : List ℕ) → usable said ≡ Ok url → IsUsable url
 usable_of (Ok text) url e = usable_by text url (is_usable text) refl e
 usable_of (Err fault) url e = other_end _ fault url e
 
 -- an answer that tells a usable one is usable
-tells_usable : (result : Result (List ℕ) SpecEnd) (said : Result (List ℕ) SpecFault) → Tells result (usable said) → IfOk result (λ url. (length url ≤ 8192) × IsCanonicalText url)
+tells_usable : (result : Result (List ℕ) (End SpecFault)) (said : Result (List ℕ) SpecFault) → Gives result (usable said) → IfOk result IsUsable
 tells_usable (Ok url) said t = usable_of said url t
 tells_usable (Err end) said t = tt
 
-resolves_usable : (result : Result (List ℕ) SpecEnd) (maps : Maps) (referrer specifier : List ℕ) (base : Option Parts) → Tells result (resolution_against maps referrer specifier base) → IfOk result (λ url. (length url ≤ 8192) × IsCanonicalText url)
+resolves_usable : (result : Result (List ℕ) (End SpecFault)) (maps : Maps) (referrer specifier : List ℕ) (base : Option Parts) → Gives result (resolution_against maps referrer specifier base) → IfOk result IsUsable
 resolves_usable (Ok url) maps referrer specifier None t = other_end _ S5 url t
 resolves_usable (Err end) maps referrer specifier None t = tt
 resolves_usable result maps referrer specifier (Some base) t =
     let url = url_like base specifier in tells_usable result (resolved maps referrer url (normal_text url specifier)) t
 
 -- what a specifier resolves to is canonical and short
-pub resolution_usable : (result : Result (List ℕ) SpecEnd) (maps : Maps) (referrer specifier : List ℕ) → Tells result (resolution_of_specifier maps referrer specifier) → IfOk result (λ url. (length url ≤ 8192) × IsCanonicalText url)
+pub resolution_usable : (result : Result (List ℕ) (End SpecFault)) (maps : Maps) (referrer specifier : List ℕ) → Gives result (resolution_of_specifier maps referrer specifier) → IfOk result IsUsable
 resolution_usable result maps referrer specifier t = resolves_usable result maps referrer specifier (url_of None referrer) t
 
 -- a key as long as the text is the text
@@ -64,9 +56,9 @@ pub whole_key : (n : ℕ) (text : List ℕ) → n ≡ length text → bytes_eq (
 whole_key n text e = (bytes_eq-Decides (take n text) text).1 (ap (λ m. take m text) e ∙ take-length text)
 
 -- a key that is the text gives its address
-pub follow_whole : (result : Result (List ℕ) SpecEnd) (normal key text : List ℕ) (o : Option Parts) (address : Parts) → o ≡ Some address → bytes_eq key normal ≡ true → text ≡ serialize address → Tells result (usable (good text)) → Tells result (usable (by_address normal key o))
+pub follow_whole : (result : Result (List ℕ) (End SpecFault)) (normal key text : List ℕ) (o : Option Parts) (address : Parts) → o ≡ Some address → bytes_eq key normal ≡ true → text ≡ serialize address → Gives result (usable (good text)) → Gives result (usable (by_address normal key o))
 follow_whole result normal key text o address is same shown t =
-    let P : Option Parts → Type 0 = λ p. Tells result (usable (by_address normal key p)) in
-    let Q : Bool → Type 0 = λ b. Tells result (usable (if b then Ok (serialize address) else under (serialize address) (url_of (Some address) (drop (length key) normal)))) in
-    let R : List ℕ → Type 0 = λ u. Tells result (usable (good u)) in
+    let P : Option Parts → Type 0 = λ p. Gives result (usable (by_address normal key p)) in
+    let Q : Bool → Type 0 = λ b. Gives result (usable (if b then Ok (serialize address) else under (serialize address) (url_of (Some address) (drop (length key) normal)))) in
+    let R : List ℕ → Type 0 = λ u. Gives result (usable (good u)) in
     subst P (sym is) (subst Q (sym same) (subst R shown t))

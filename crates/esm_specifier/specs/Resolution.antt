@@ -1,18 +1,17 @@
 -- What a specifier resolves to: a URL, or a fault.
-use Rattle.std.specs.Prelude.{◌≡◌, ℕ, List, [], ◌∷◌, length, drop, filter, nat_le, bytes_eq, Bool, true, false, ◌&&◌, ◌||◌, Option, None, Some, is_some, unwrap_or, option_map, Result, Ok, Err, ⊤, if◌then◌else◌}
+use Rattle.std.specs.Prelude.{ℕ, List, [], ◌∷◌, length, drop, filter, bytes_eq, Bool, true, false, ◌&&◌, ◌||◌, Option, None, Some, is_some, unwrap_or, option_map, Result, Ok, Err, if◌then◌else◌}
 use Rattle.std.specs.Map.{keys_of}
 use Rattle.std.specs.Option.{option_flatten}
 use Rattle.std.specs.Ordering.{is_lt}
 use Rattle.url.specs.Parts.{Parts, serialize, kind_of}
 use Rattle.url.specs.Scheme.{is_special}
 use Rattle.esm_base.specs.CodeUnits.{code_unit_order}
+use Rattle.esm_base.specs.Urls.{url_of, is_usable}
 use Rattle.esm_import_map.specs.ImportMap.{SpecifierMap, Maps}
-use Rattle.esm_import_map.specs.Specifier.{url_of, url_like, begins_with, ends_in_slash}
+use Rattle.esm_import_map.specs.Specifier.{url_like, begins_with, ends_in_slash}
 use Rattle.esm_import_map.specs.TextMap.{Entries, at}
 use Rattle.esm_specifier.specs.declared.fault.SpecFault.{SpecFault}
 use Rattle.esm_specifier.specs.declared.fault.SpecFault.TheVariants.{S1, S2, S3, S4, S5}
-use Rattle.esm_specifier.specs.declared.fault.SpecEnd.{SpecEnd}
-use Rattle.esm_specifier.specs.declared.fault.SpecEnd.TheVariants as end
 
 -- ---- the greatest of a set of texts
 
@@ -90,18 +89,7 @@ by_key url normal map (Some key) = by_address normal key (option_flatten (at key
 
 -- ---- which answers are usable
 
--- the text of a URL parses to that URL
-abbrev pub is_text_of : List ℕ → Option Parts → Bool
-is_text_of text None = false
-is_text_of text (Some url) = bytes_eq (serialize url) text
-
-abbrev pub is_canonical : List ℕ → Bool
-is_canonical text = is_text_of text (url_of None text)
-
--- own rule: a URL is canonical and at most 8,192 bytes long
-abbrev pub is_usable : List ℕ → Bool
-is_usable text = nat_le (length text) 8192 && is_canonical text
-
+-- own: an answer that can't name a module is S5
 abbrev pub usable : Result (List ℕ) SpecFault → Result (List ℕ) SpecFault
 usable (Ok text) = if is_usable text then Ok text else Err S5
 usable (Err fault) = Err fault
@@ -127,13 +115,3 @@ resolution_against maps referrer specifier (Some base) =
 abbrev pub resolution_of_specifier : Maps → List ℕ → List ℕ → Result (List ℕ) SpecFault
 resolution_of_specifier maps referrer specifier =
     resolution_against maps referrer specifier (url_of None referrer)
-
--- the referrer's text is that of a URL
-abbrev pub IsCanonicalText : List ℕ → Type 0
-IsCanonicalText text = is_canonical text ≡ true
-
--- a resolver's answer is this, unless memory ran out
-abbrev pub Tells : Result (List ℕ) SpecEnd → Result (List ℕ) SpecFault → Type 0
-Tells (Ok url) said = said ≡ Ok url
-Tells (Err (end.Fault fault)) said = said ≡ Err fault
-Tells (Err end.Memory) said = ⊤

@@ -1,5 +1,5 @@
 // Why a specifier has no URL.
-use esm_base::Memory;
+use esm_base::End;
 
 /// Why a specifier has no URL. The numbers are part of the printed message.
 #[derive(Clone, Copy, Debug, PartialEq, Eq)]
@@ -12,26 +12,9 @@ pub enum SpecFault {
     S3,
     /// Bare and not mapped.
     S4,
-    /// No usable URL: not canonical, or longer than 8,192 bytes.
+    /// No usable URL: not canonical, or longer than `MAX_URL_BYTES`.
     S5,
 }
 
 /// Why a specifier wasn't resolved.
-#[derive(Clone, Copy, Debug, PartialEq, Eq)]
-pub enum SpecEnd {
-    /// The specifier has no URL.
-    Fault(SpecFault),
-    /// Memory ran out.
-    Memory,
-}
-
-impl From<Memory> for SpecEnd {
-    ghost use Rattle.std.specs.Prelude.{◌≡◌};
-    ghost use Rattle.esm_specifier.specs.declared.fault.SpecEnd.TheVariants.{Memory};
-
-    ghost from_gives = { λ _ e. e ≡ Memory };
-
-    fn from(_: Memory) -> Self {
-        SpecEnd::Memory
-    }
-}
+pub type SpecEnd = End<SpecFault>;

@@ -6,7 +6,7 @@ mod lookup;
 mod resolving;
 
 pub use fault::{SpecEnd, SpecFault};
-pub use resolving::{is_canonical, resolve};
+pub use resolving::resolve;
 
 #[cfg(test)]
 mod tests;

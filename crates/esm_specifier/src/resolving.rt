@@ -1,33 +1,22 @@
 // Resolves a specifier.
 ghost use Rattle.std.specs.Prelude.{◌≡◌, ◌≤◌, true, take, length, IfOk, option_copied, Ok};
 ghost use Rattle.std.specs.Str.{IsCharBoundary};
+ghost use Rattle.esm_base.specs.Ends.{Gives};
+ghost use Rattle.esm_base.specs.Urls.{IsCanonical, IsUsable};
 ghost use Rattle.esm_specifier.specs.Resolution as spec;
 
 use crate::fault::{SpecEnd, SpecFault};
 use crate::lookup::find;
-use esm_base::{Memory, Text};
-use esm_import_map::{ImportMap, absolute, against, url_like};
+use esm_base::{Text, is_usable, parse_absolute, parse_against};
+use esm_import_map::{ImportMap, url_like};
 use std::alloc::Global;
 use url::Url;
 
-// The longest URL, in bytes.
-const LONGEST: usize = 8192;
-
-/// Whether a text is canonical: it parses to a URL whose text it is.
-pub fn is_canonical(alloc: Global, text: &str) -> Result<bool, Memory>
-    ensures { IfOk result (λ b. b ≡ spec.is_canonical text.now) }
-{
-    match absolute(alloc, text)? {
-        Some(url) => Ok(url.as_str() == text),
-        None => Ok(false),
-    }
-}
-
 // The answer, if it may be used.
 fn usable(alloc: Global, text: &str) -> Result<Text, SpecEnd>
-    ensures { spec.Tells result (spec.usable (Ok text.now)) }
+    ensures { Gives result (spec.usable (Ok text.now)) }
 {
-    if text.len() > LONGEST || !is_canonical(alloc, text)? {
+    if !is_usable(alloc, text)? {
         return Err(SpecEnd::Fault(SpecFault::S5));
     }
     Ok(Text::copy(alloc, text)?)
@@ -41,7 +30,7 @@ fn follow(
     address: &Option<Url>,
 ) -> Result<Text, SpecEnd>
     requires { IsCharBoundary normal.now key_len }
-    ensures { spec.Tells result (spec.usable (spec.by_address normal.now (take key_len normal.now) address.now)) }
+    ensures { Gives result (spec.usable (spec.by_address normal.now (take key_len normal.now) address.now)) }
 {
     let Some(address) = address else {
         return Err(SpecEnd::Fault(SpecFault::S1));
@@ -50,7 +39,7 @@ fn follow(
         return usable(alloc, address.as_str());
     }
     let (_, rest) = normal.split_at(key_len);
-    let Some(url) = against(address, rest)? else {
+    let Some(url) = parse_against(address, rest)? else {
         return Err(SpecEnd::Fault(SpecFault::S2));
     };
     let (text, front) = (url.as_str().as_bytes(), address.as_str().as_bytes());
@@ -62,7 +51,7 @@ fn follow(
 
 // What a specifier without a match resolves to.
 fn by_itself(alloc: Global, url: Option<&Url>) -> Result<Text, SpecEnd>
-    ensures { spec.Tells result (spec.usable (spec.by_itself (option_copied url.entry))) }
+    ensures { Gives result (spec.usable (spec.by_itself (option_copied url.entry))) }
 {
     match url {
         Some(url) => usable(alloc, url.as_str()),
@@ -78,7 +67,7 @@ fn resolve_normal(
     url: Option<&Url>,
     normal: &str,
 ) -> Result<Text, SpecEnd>
-    ensures { spec.Tells result (spec.usable (spec.resolved map.now referrer.now (option_copied url.entry) normal.now)) }
+    ensures { Gives result (spec.usable (spec.resolved map.now referrer.now (option_copied url.entry) normal.now)) }
 {
     let prefixes = match url {
         Some(url) => url.is_special(),
@@ -97,10 +86,10 @@ fn find_url(
     referrer: &str,
     specifier: &str,
 ) -> Result<Text, SpecEnd>
-    requires { spec.IsCanonicalText referrer.now }
-    ensures { spec.Tells result (spec.resolution_of_specifier map.now referrer.now specifier.now) }
+    requires { IsCanonical referrer.now }
+    ensures { Gives result (spec.resolution_of_specifier map.now referrer.now specifier.now) }
 {
-    let Some(base) = absolute(alloc, referrer)? else {
+    let Some(base) = parse_absolute(alloc, referrer)? else {
         unreachable!()
     };
     match url_like(alloc, &base, specifier)? {
@@ -112,16 +101,16 @@ fn find_url(
 /// The URL to which a specifier resolves in the module at `referrer`: HTML's "resolve a module specifier". It is
 /// refused with S1 to S5 exactly where `resolution_of_specifier` says so.
 ///
-/// The answer is canonical and at most 8,192 bytes long.
+/// The answer is canonical and at most `MAX_URL_BYTES` long. It answers `Memory` where memory runs out.
 pub fn resolve(
     alloc: Global,
     map: &ImportMap,
     referrer: &str,
     specifier: &str,
 ) -> Result<Text, SpecEnd>
-    requires { spec.IsCanonicalText referrer.now }
-    ensures told { spec.Tells result (spec.resolution_of_specifier map.now referrer.now specifier.now) }
-    ensures usable { IfOk result (λ url. (length url ≤ 8192) × spec.IsCanonicalText url) }
+    requires { IsCanonical referrer.now }
+    ensures told { Gives result (spec.resolution_of_specifier map.now referrer.now specifier.now) }
+    ensures usable { IfOk result IsUsable }
 {
     find_url(alloc, map, referrer, specifier)
 }

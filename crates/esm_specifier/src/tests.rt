@@ -1,5 +1,6 @@
 // What specifiers resolve to, by the rules of the HTML Standard and the URL Standard.
-use crate::{SpecEnd, SpecFault, is_canonical, resolve};
+use crate::{SpecEnd, SpecFault, resolve};
+use esm_base::is_canonical;
 use esm_import_map::{ImportMap, MapFault, MapReadEnd};
 use std::alloc::Global;
 use std::test::Fail;

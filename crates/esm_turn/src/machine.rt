@@ -1,13 +1,14 @@
 // The machine: an entry, and the deliveries that it has taken.
 ghost use Rattle.std.specs.Prelude.{◌≡◌, List, [], ◌∷◌, ◌++◌, true, IfOk, IfErr, OnOk, Some, None, Err, is_some, option_map, slice_get, codes, IsSome, ◌↔◌};
 ghost use Rattle.esm_ast.specs.Outcome.{completion_of};
+ghost use Rattle.esm_base.specs.Limits.{limit_name};
 ghost use Rattle.esm_base.specs.Urls.{Url, is_usable};
 ghost use Rattle.esm_realm.specs.Sound.{RecordParts};
 ghost use Rattle.esm_load.specs.Completion.{seen};
 ghost use Rattle.esm_load.specs.Loading.{Loading};
 ghost use Rattle.esm_load.specs.Arrival.{open_asks};
 ghost use Rattle.esm_load.specs.LoadsView.{AreOne, loading_of};
-ghost use Rattle.esm_turn.specs.Run.{Delivery, Shown, StandardRun, ending_by, last_line_by, limit_name, status_of};
+ghost use Rattle.esm_turn.specs.Run.{Delivery, Shown, StandardRun, ending_by, last_line_by, status_of};
 ghost use Rattle.esm_turn.specs.Stands.{IsEnded, MayTake, Stands, StoppedAs, Took, asks_of, ending_by_stop, ending_of};
 ghost use Rattle.esm_turn.specs.declared.turn_end.TurnEnd.{TurnEnd as EndOf};
 
@@ -62,19 +63,6 @@ fn live_status(loads: &Loads) -> Option<Status>
     }
 }
 
-// The name of a limit, as it is printed.
-fn name_of(limit: Limit) -> &'static str
-    ensures { result.now ≡ limit_name limit }
-{
-    match limit {
-        Limit::L1 => "L1",
-        Limit::L2 => "L2",
-        Limit::L3 => "L3",
-        Limit::L4 => "L4",
-        Limit::L5 => "L5",
-    }
-}
-
 // The status of a run that has stopped so.
 fn stopped_status(end: TurnEnd) -> Option<Status>
     ensures { (l : Loading) → result ≡ option_map status_of (ending_by_stop (Some end) l) }
@@ -89,7 +77,7 @@ fn stopped_status(end: TurnEnd) -> Option<Status>
 fn limit_line(alloc: Global, limit: Limit) -> Result<Text, Memory>
     ensures { IfOk result (λ line. line ≡ codes "Limit " ++ limit_name limit) }
 {
-    let name = name_of(limit);
+    let name = limit.name();
     let line = format!(in alloc; "Limit {name}")?;
     Ok(Text::from_string(line))
 }

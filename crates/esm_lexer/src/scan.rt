@@ -1,0 +1,316 @@
+// The tokens of a text, one after another.
+ghost use Rattle.std.specs.Prelude.{◌≡◌, ◌≢◌, ◌+◌, ◌*◌, ◌<◌, ◌≤◌, ◌||◌, ℕ, List, true, false, chars, map, length, drop, slice_index, IfOk, MatchOption, MatchResult, IsUtf8, Ok, Err};
+ghost use Rattle.std.specs.Arc.{arc_value};
+ghost use Rattle.esm_base.specs.declared.end.End.TheVariants as end;
+ghost use Rattle.esm_base.specs.declared.fault.TextFault.TheVariants as fault;
+ghost use Rattle.esm_grammar.specs.Characters as characters;
+ghost use Rattle.esm_grammar.specs.Reading.{same};
+ghost use Rattle.esm_grammar.specs.Lexes as lexes;
+ghost use Rattle.esm_grammar.specs.Lexes.{NoToken, Longest, Lexes, AreTokens};
+ghost use Rattle.esm_lexer.specs.Tokens.{IsFound, IsRefusal, AreTokensOf, token_of};
+ghost use Rattle.esm_tree.specs.declared.lexeme.Lexeme.{Lexeme};
+
+use crate::characters::{are, continues, either, is_quote, starts};
+use crate::gaps::{gap, line_len};
+use crate::literal::{literal, text_of};
+use crate::signs::sign;
+use crate::words::word_terminal;
+use esm_base::{Memory, ReadEnd, Text, TextFault};
+use esm_tree::{Lexeme, Terminal, Token, TokenKind};
+use std::alloc::Global;
+
+// A token that was found at the front of a text.
+#[derive(Drop)]
+struct Found {
+    kind: TokenKind,
+    terminal: Terminal,
+    text: Text,
+    len: usize,
+}
+
+// How many characters from the first on continue a word.
+fn run_len(text: &[char]) -> usize
+    ensures within { result ≤ length text.now }
+    ensures before { (k : ℕ) → k < result → characters.continues (slice_index text.now k) ≡ true }
+    ensures stop { result < length text.now → characters.continues (slice_index text.now result) ≡ false }
+{
+    for (i, c) in text.iter().enumerate() {
+        if !continues(*c) {
+            return i;
+        }
+    }
+    text.len()
+}
+
+fn word_at(alloc: Global, text: &[char]) -> Result<Found, Memory>
+    requires there { 0 < length text.now }
+    requires word { characters.starts (slice_index text.now 0) ≡ true }
+    ensures { IfOk result (λ found. IsFound text.now found.kind found.terminal found.text found.len) }
+{
+    let len = run_len(&text[1..]) + 1;
+    let spelled = text_of(alloc, &text[..len])?;
+    let terminal = word_terminal(spelled.as_str());
+    Ok(Found {
+        kind: TokenKind::Word,
+        terminal,
+        text: spelled,
+        len,
+    })
+}
+
+fn literal_at(alloc: Global, text: &[char]) -> Result<Option<Found>, Memory>
+    requires there { 0 < length text.now }
+    requires no_word { characters.starts (slice_index text.now 0) ≡ false }
+    requires quote { characters.is_quote (slice_index text.now 0) ≡ true }
+    ensures { IfOk result (λ r. MatchOption r (NoToken text.now) (λ found. IsFound text.now found.kind found.terminal found.text found.len)) }
+{
+    match literal(alloc, text)? {
+        Some((value, len)) => Ok(Some(Found {
+            kind: TokenKind::Literal,
+            terminal: Terminal::Literal,
+            text: value,
+            len,
+        })),
+        None => Ok(None),
+    }
+}
+
+fn sign_at(alloc: Global, text: &[char]) -> Result<Option<Found>, Memory>
+    requires there { 0 < length text.now }
+    requires no_word { characters.starts (slice_index text.now 0) ≡ false }
+    requires no_quote { characters.is_quote (slice_index text.now 0) ≡ false }
+    ensures { IfOk result (λ r. MatchOption r (NoToken text.now) (λ found. IsFound text.now found.kind found.terminal found.text found.len)) }
+{
+    match sign(text) {
+        Some((terminal, len)) => Ok(Some(Found {
+            kind: TokenKind::Sign,
+            terminal,
+            text: text_of(alloc, &[])?,
+            len,
+        })),
+        None => Ok(None),
+    }
+}
+
+// The longest token at the front.
+fn token_at(alloc: Global, text: &[char]) -> Result<Option<Found>, Memory>
+    requires { 0 < length text.now }
+    ensures { IfOk result (λ r. MatchOption r (NoToken text.now) (λ found. IsFound text.now found.kind found.terminal found.text found.len)) }
+{
+    if starts(text[0]) {
+        let found = word_at(alloc, text)?;
+        return Ok(Some(found));
+    }
+    if is_quote(text[0]) {
+        literal_at(alloc, text)
+    } else {
+        sign_at(alloc, text)
+    }
+}
+
+// How many bytes the characters take.
+fn width(text: &[char]) -> usize
+    ensures { result ≡ lexes.widths text.now }
+{
+    let mut n = 0;
+    for c in text {
+        n += c.len_utf8();
+    }
+    n
+}
+
+// The tokens of characters at the end of a text of so many bytes, and whether all was read.
+fn scan(alloc: Global, total: usize, text: &[char]) -> Result<(Vec<Lexeme>, bool), Memory>
+    ensures { IfOk result (λ r. Lexes total false text.now r.0.items r.1) }
+{
+    let mut found: Vec<Lexeme> = Vec::new(alloc);
+    let mut at = 0;
+    let mut left = width(text);
+    let mut newline = false;
+    while at < text.len() {
+        let rest = &text[at..];
+        match gap(rest) {
+            Some((n, ends_line)) => {
+                left -= width(&rest[..n]);
+                at += n;
+                newline = either(newline, ends_line);
+            }
+            None => match token_at(alloc, rest)? {
+                Some(token) => {
+                    let behind = left - width(&rest[..token.len]);
+                    found.push(Lexeme {
+                        terminal: token.terminal,
+                        text: token.text,
+                        token: Token {
+                            kind: token.kind,
+                            from: total.saturating_sub(left),
+                            to: total.saturating_sub(behind),
+                            newline_before: newline,
+                        },
+                    })?;
+                    left = behind;
+                    at += token.len;
+                    newline = false;
+                }
+                None => return Ok((found, false)),
+            },
+        }
+    }
+    Ok((found, true))
+}
+
+fn hashbang_len(text: &[char]) -> usize
+    ensures value { result ≡ lexes.hashbang_len text.now }
+    ensures within { result ≤ length text.now }
+{
+    if text.len() < 2 {
+        return 0;
+    }
+    if are(text[0], text[1], '#', '!') {
+        line_len(&text[2..]) + 2
+    } else {
+        0
+    }
+}
+
+fn chars_of(alloc: Global, text: &str) -> Result<Vec<char>, Memory>
+    ensures { IfOk result (λ cs. cs.items ≡ chars text.now) }
+{
+    let characters = text.chars().collect(alloc)?;
+    Ok(characters)
+}
+
+fn without_mark(bytes: &[u8]) -> &[u8]
+    ensures { result.now ≡ lexes.without_mark bytes.now }
+{
+    if bytes.len() < 3 {
+        return bytes;
+    }
+    if bytes[0] == 0xef && bytes[1] == 0xbb && bytes[2] == 0xbf {
+        &bytes[3..]
+    } else {
+        bytes
+    }
+}
+
+fn lexemes_of(alloc: Global, total: usize, text: &str) -> Result<(Vec<Lexeme>, bool), Memory>
+    ensures { IfOk result (λ r. Lexes total false (drop (lexes.hashbang_len (chars text.now)) (chars text.now)) r.0.items r.1) }
+{
+    let characters = chars_of(alloc, text)?;
+    let begin = hashbang_len(&characters);
+    scan(alloc, total, &characters[begin..])
+}
+
+/// The tokens of a text as the grammar sees them, up to the end, or up to a place where no token can be read (false).
+/// The fault is P1, exactly where the bytes aren't UTF-8.
+pub fn lexemes(alloc: Global, bytes: &[u8]) -> Result<(Vec<Lexeme>, bool), ReadEnd>
+    ensures { MatchResult result (λ r. AreTokens bytes.now r.0.items r.1) (IsRefusal bytes.now) }
+{
+    match str::from_utf8(without_mark(bytes)) {
+        Ok(text) => match lexemes_of(alloc, bytes.len(), text) {
+            Ok(found) => Ok(found),
+            Err(_) => Err(ReadEnd::Memory),
+        },
+        Err(_) => Err(ReadEnd::Fault(TextFault::P1)),
+    }
+}
+
+fn is_terminal(terminal: Terminal, other: Terminal) -> bool
+    ensures { result ≡ same terminal other }
+{
+    terminal == other
+}
+
+#[tactic(auto, unfolding(esm_grammar::specs::Lexes::opens))]
+fn opens(terminal: Terminal) -> bool
+    ensures { result ≡ lexes.opens terminal }
+{
+    either(
+        is_terminal(terminal, Terminal::Open),
+        is_terminal(terminal, Terminal::BraceOpen),
+    )
+}
+
+#[tactic(auto, unfolding(esm_grammar::specs::Lexes::shuts))]
+fn shuts(terminal: Terminal) -> bool
+    ensures { result ≡ lexes.shuts terminal }
+{
+    either(
+        is_terminal(terminal, Terminal::Close),
+        is_terminal(terminal, Terminal::BraceClose),
+    )
+}
+
+fn depth_behind(depth: u32, terminal: Terminal) -> u32
+    requires { depth ≤ 64 }
+    ensures { result ≡ lexes.depth_behind depth terminal }
+{
+    if opens(terminal) {
+        return depth + 1;
+    }
+    if shuts(terminal) {
+        depth.saturating_sub(1)
+    } else {
+        depth
+    }
+}
+
+fn nots_behind(nots: u32, terminal: Terminal) -> u32
+    requires { nots ≤ 64 }
+    ensures { result ≡ lexes.nots_behind nots terminal }
+{
+    if is_terminal(terminal, Terminal::Not) {
+        nots + 1
+    } else {
+        0
+    }
+}
+
+/// Whether more than 64 brackets are open somewhere, or more than 64 signs `!` stand one after another.
+pub fn nests_too_deep(lexemes: &[Lexeme]) -> bool
+    ensures { result ≡ lexes.too_deep 0 0 lexemes.now }
+{
+    let mut depth = 0;
+    let mut nots = 0;
+    for lexeme in lexemes {
+        let terminal = lexeme.terminal;
+        depth = depth_behind(depth, terminal);
+        nots = nots_behind(nots, terminal);
+        if depth > 64 {
+            return true;
+        }
+        if nots > 64 {
+            return true;
+        }
+    }
+    false
+}
+
+fn tokens_of(alloc: Global, lexemes: &[Lexeme]) -> Result<Vec<Token>, Memory>
+    ensures { IfOk result (λ ts. ts.items ≡ map token_of lexemes.now) }
+{
+    let mut found = Vec::new(alloc);
+    for lexeme in lexemes {
+        found.push(lexeme.token)?;
+    }
+    Ok(found)
+}
+
+/// The tokens of a text. P1 comes exactly where the bytes aren't UTF-8. P4 comes exactly where they are, and in the
+/// tokens before the first place where no token can be read the nesting limit is passed. P2 comes exactly where neither
+/// does and there is such a place.
+pub fn tokens(alloc: Global, bytes: &[u8]) -> Result<Vec<Token>, ReadEnd>
+    ensures { AreTokensOf bytes.now result }
+{
+    let (found, whole) = lexemes(alloc, bytes)?;
+    if nests_too_deep(&found) {
+        return Err(ReadEnd::Fault(TextFault::P4));
+    }
+    if !whole {
+        return Err(ReadEnd::Fault(TextFault::P2));
+    }
+    match tokens_of(alloc, &found) {
+        Ok(tokens) => Ok(tokens),
+        Err(_) => Err(ReadEnd::Memory),
+    }
+}
