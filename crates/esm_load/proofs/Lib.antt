@@ -28,6 +28,7 @@ pub mod Finishing
 pub mod Requests
 pub mod Roots
 pub mod Places
+pub mod OpenPlaces
 pub mod Lists
 pub mod Clean
 pub mod Grows

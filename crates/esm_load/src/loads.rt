@@ -1,9 +1,9 @@
 // Loading the entry and all that it reaches.
-ghost use Rattle.std.specs.Prelude.{◌≡◌, ◌<◌, true, false, [], ◌∷◌, List, map, Ok, Err, Some, None, OnOk, cond, option_copied, slice_get};
+ghost use Rattle.std.specs.Prelude.{◌≡◌, ◌<◌, All, true, false, [], ◌∷◌, List, map, Ok, Err, Some, None, OnOk, cond, option_copied, slice_get};
 ghost use Rattle.std.specs.Arc.{arc_value};
 ghost use Rattle.esm_ast.specs.Outcome.{completion_of};
 ghost use Rattle.esm_base.specs.declared.limits.Limit.{Limit as StopBy};
-ghost use Rattle.esm_base.specs.Urls.{has, is_usable};
+ghost use Rattle.esm_base.specs.Urls.{has, is_usable, IsUsable};
 ghost use Rattle.esm_realm.specs.Sound.{Sound, RecordParts, records_of};
 ghost use Rattle.esm_load.specs.Completion.{seen};
 ghost use Rattle.esm_load.specs.Loading.{Loading, opening_loading};
@@ -16,7 +16,7 @@ use crate::answering::answer_next;
 use crate::arriving::arrive;
 use crate::table::{Loaded, Stage, Table, ask_first};
 use esm_ast::{Outcome, Tree};
-use esm_base::{ModuleId, Text};
+use esm_base::{Memory, ModuleId, Text};
 use esm_realm::Realm;
 use std::alloc::Global;
 use std::marker::Model;
@@ -57,7 +57,8 @@ impl Loads {
         }
     }
 
-    /// Asks for the entry.
+    /// Asks for the entry, whose URL is canonical and at most 8,192 bytes long. This is the first call of a run: nothing
+    /// was asked for before, and the realm has no records.
     pub fn ask_entry(&mut self, realm: &mut Realm, url: &Text) -> Result<(), LoadEnd>
         requires fresh { self.old ≡ no_loads }
         requires empty { records_of realm.old ≡ [] }
@@ -70,14 +71,15 @@ impl Loads {
         let _ = realm;
         match ask_first(&mut self.table, self.alloc, url) {
             Ok(()) => Ok(()),
-            Err(end) => {
+            Err(Memory) => {
                 self.table = Table::new(self.alloc);
-                Err(end)
+                Err(LoadEnd::Memory)
             }
         }
     }
 
     /// Takes what the fetch of an open ask has come to. Those who waited for it are then answered by `step`.
+    /// One delivery is worked off before the next comes: `step` has answered false since the last call.
     /// The bytes are counted first: limit L2 comes exactly where more than 16,777,216 were delivered.
     pub fn arrive(
         &mut self,
@@ -126,11 +128,13 @@ impl Loads {
         }
     }
 
-    /// The URLs that are asked and not settled, in order of asking. It takes no memory.
+    /// The URLs that are asked and not settled, in order of asking. Each is canonical and at most 8,192 bytes long.
+    /// It takes no memory.
     pub fn asks(&self) -> &[Text]
-        ensures { (records : List RecordParts) → AreOne self.now records → result.now ≡ open_asks (loading_of self.now records) }
+        ensures usable { All IsUsable result.now }
+        ensures asks { (records : List RecordParts) → AreOne self.now records → result.now ≡ open_asks (loading_of self.now records) }
     {
-        self.table.asks.as_slice()
+        self.table.asks.urls.as_slice()
     }
 
     /// How the entry's load has ended; none exactly where it hasn't. It takes no memory.
@@ -188,6 +192,29 @@ mod tests {
         assert!(rt; loads.ended().is_none());
         assert!(rt; loads.module_at(&url).is_none());
         assert!(rt; loads.trees().is_empty());
+        assert!(rt; !loads.take_job());
+        Ok(())
+    }
+
+    #[test]
+    fn an_absent_entry_is_answered_once(rt: HostRuntime) -> Result<(), Fail> {
+        let alloc = rt.alloc();
+        let mut realm = Realm::new(alloc);
+        let mut loads = Loads::new(alloc);
+        let url = Text::copy(alloc, "https://a.test/main.js")?;
+        loads.ask_entry(&mut realm, &url)?;
+        loads.arrive(&mut realm, &url, &Outcome::Absent)?;
+        assert!(rt; loads.asks().is_empty());
+        assert!(rt; loads.ended().is_none());
+        assert!(rt; loads.step(&mut realm)?);
+        assert!(rt; !loads.step(&mut realm)?);
+        match loads.ended() {
+            Some(Loaded::Thrown(text)) => assert!(rt;
+                text.is("TypeError: cannot fetch https://a.test/main.js")
+            ),
+            _ => assert!(rt; false),
+        }
+        assert!(rt; loads.take_job());
         assert!(rt; !loads.take_job());
         Ok(())
     }

@@ -1,8 +1,8 @@
 // The machine: an entry, and the deliveries that it has taken.
-ghost use Rattle.std.specs.Prelude.{◌≡◌, List, [], ◌∷◌, ◌++◌, true, IfOk, IfErr, OnOk, Some, None, Err, is_some, option_map, slice_get, codes, IsSome, ◌↔◌};
+ghost use Rattle.std.specs.Prelude.{◌≡◌, All, List, [], ◌∷◌, ◌++◌, true, IfOk, IfErr, OnOk, Some, None, Err, is_some, option_map, slice_get, codes, IsSome, ◌↔◌};
 ghost use Rattle.esm_ast.specs.Outcome.{completion_of};
 ghost use Rattle.esm_base.specs.Limits.{limit_name};
-ghost use Rattle.esm_base.specs.Urls.{Url, is_usable};
+ghost use Rattle.esm_base.specs.Urls.{Url, is_usable, IsUsable};
 ghost use Rattle.esm_realm.specs.Sound.{RecordParts};
 ghost use Rattle.esm_load.specs.Completion.{seen};
 ghost use Rattle.esm_load.specs.Loading.{Loading};
@@ -135,8 +135,9 @@ impl Machine {
     }
 
     /// The URLs that are asked for and not delivered, in order of asking; none where the machine has stopped.
-    /// It takes no memory.
+    /// Each is canonical and at most 8,192 bytes long. It takes no memory.
     pub fn asks(&self) -> &[Text]
+        ensures usable { All IsUsable result.now }
         ensures open { result.now ≡ asks_of self.now }
         ensures standard { (entry : Url) (deliveries : List Delivery) (what : Shown) → Stands entry self.now deliveries → StandardRun entry deliveries what → result.now ≡ what.asks }
     {
