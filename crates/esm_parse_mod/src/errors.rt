@@ -3,7 +3,7 @@ ghost use Rattle.std.specs.Prelude.{◌≡◌, ◌<◌, ◌≤◌, ◌++◌, ◌
 ghost use Rattle.std.specs.List.{list_any};
 ghost use Rattle.esm_tree.specs.Syntax.{Stmt};
 ghost use Rattle.esm_tree.specs.Flat.{stmt_part, stmt_parts, AllStmtsBelow, item_of, item_need, items_of, items_need, AllAtMost};
-ghost use Rattle.esm_grammar.specs.Entries.{declared_names};
+ghost use Rattle.esm_grammar.specs.Names.{declared_names};
 ghost use Rattle.esm_grammar.specs.EarlyErrors as early;
 ghost use Rattle.esm_grammar.specs.EarlyErrors.{block_names, scopes_of, stmt_scopes, item_scopes};
 ghost use Rattle.esm_parse_mod.specs.Names.{texts, binding_names, given, any_clashes, held, IsSetOf, is_unlisted, any_item_wrong};

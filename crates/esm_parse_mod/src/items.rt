@@ -54,7 +54,7 @@ fn import_form(
     if sees(tokens, at + 1, Terminal::Literal) {
         let specifier = text(alloc, tokens, at + 1)?;
         let behind = end(tokens, at + 2, false)?;
-        return Ok((ItemNode::Import(specifier, Vec::new(alloc)), behind));
+        return Ok((ItemNode::ImportEffect(specifier), behind));
     }
     let (found, behind) = clause(alloc, tokens, turns, at + 1)?;
     let (specifier, behind) = from(alloc, tokens, behind)?;
