@@ -1,3 +1,4 @@
+// Whole expressions.
 ghost use Rattle.std.specs.Prelude.{ℕ, ◌≡◌, ◌≢◌, ◌<◌, OnOk, ◌++◌, ◌∷◌, [], length, IfOk, OnErr, MatchResult, Some};
 ghost use Rattle.esm_tree.specs.Syntax.{Parts, Expr};
 ghost use Rattle.esm_tree.specs.Flat.{IsBelow, expr_of, part};
@@ -11,9 +12,12 @@ use esm_base::Memory;
 use esm_tree::{ExprId, ExprNode, Lexeme, Tree};
 use std::alloc::{AllocError, AllocFailed, Global};
 
+/// Why nothing is read.
 #[derive(Clone, Copy, Debug, Drop, PartialEq, Eq)]
 pub enum Stop {
+    /// The tokens aren't in the grammar there.
     Fault,
+    /// Memory ran out.
     Memory,
 }
 
@@ -41,8 +45,10 @@ impl<T: Drop> From<AllocFailed<T>> for Stop {
     }
 }
 
+/// Reads expressions; those in brackets by a function of its own.
 #[derive(Clone, Copy)]
 pub struct Reader<F> {
+    /// Makes the texts and lists of the nodes.
     pub alloc: Global,
     /// How many turns a list or a nested expression may take.
     pub room: usize,
@@ -65,7 +71,13 @@ pub fn done(tree: &mut Tree, node: ExprNode, behind: usize) -> Result<(ExprId, u
 }
 
 impl<F: Fn(Global, &[Lexeme], &mut Tree, usize, usize) -> Result<(ExprId, usize), Stop>> Reader<F> {
-    pub fn whole(&self, tokens: &[Lexeme], tree: &mut Tree, at: usize) -> Result<(ExprId, usize), Stop>
+    /// An expression in brackets.
+    pub fn whole(
+        &self,
+        tokens: &[Lexeme],
+        tree: &mut Tree,
+        at: usize,
+    ) -> Result<(ExprId, usize), Stop>
         requires { Nests self.now.room (F.pre self.now.whole) (F.post self.now.whole) }
         ensures { ReadsExpr tree.old tree.new result (read.expr tokens.now self.now.room at) }
     {
@@ -73,7 +85,8 @@ impl<F: Fn(Global, &[Lexeme], &mut Tree, usize, usize) -> Result<(ExprId, usize)
     }
 }
 
-/// The expression at a place, as far as so many turns allow.
+/// The expression at a place, as far as so many turns allow. After a refusal the tree may have more expressions than
+/// before, and nothing else has changed.
 pub fn expr(
     alloc: Global,
     tokens: &[Lexeme],
@@ -94,7 +107,8 @@ pub fn expr(
     .either(tokens, tree, at)
 }
 
-/// The operand of a sign or of `await` at a place, as far as so many turns allow.
+/// The operand of `await` at a place, as far as so many turns allow. ECMA-262, UnaryExpression. After a refusal the tree
+/// may have more expressions than before, and nothing else has changed.
 pub fn operand(
     alloc: Global,
     tokens: &[Lexeme],
@@ -102,7 +116,8 @@ pub fn operand(
     room: usize,
     at: usize,
 ) -> Result<(ExprId, usize), Stop>
-    ensures { ReadsExpr tree.old tree.new result (read.unary tokens.now (read.expr tokens.now room) room room at) }
+    ensures { ReadsExpr tree.old tree.new result
+        (read.unary tokens.now (read.expr tokens.now room) room room at) }
 {
     Reader {
         alloc,
@@ -121,7 +136,8 @@ pub fn read_expr(
 ) -> Result<(ExprId, usize), Stop>
     // What is read is an expression of the grammar, and added to the tree.
     ensures grows { OnOk result (Grows tree.old tree.new) }
-    ensures found { IfOk result (λ p. (p.0.0 < length tree.new.exprs) × Reads tokens.now ors at (part tree.new.exprs p.0) p.1) }
+    ensures found { IfOk result (λ p. (p.0.0 < length tree.new.exprs) ×
+        Reads tokens.now ors at (part tree.new.exprs p.0) p.1) }
 
     // It is refused exactly where none begins.
     ensures none { result ≡ Err Stop.Fault → (e : Expr) (j : ℕ) → Reads tokens.now ors at e j → ⊥ }

@@ -80,7 +80,8 @@ fn one_binding(
     constant: bool,
     at: usize,
 ) -> Result<(LexicalBinding, usize), Stop>
-    ensures { ReadsBinding tree.old tree.new result (read.one_binding tokens.now room.turns room.inside constant at) }
+    ensures { ReadsBinding tree.old tree.new result
+        (read.one_binding tokens.now room.turns room.inside constant at) }
 {
     if !is_name_at(tokens, at) {
         return Err(Stop::Fault);
@@ -106,7 +107,8 @@ fn step(
     constant: bool,
     at: usize,
 ) -> Result<(Option<LexicalBinding>, usize), Stop>
-    ensures { ReadsBindingStep tree.old tree.new result (read.binding_step tokens.now room.turns room.inside constant at) }
+    ensures { ReadsBindingStep tree.old tree.new result
+        (read.binding_step tokens.now room.turns room.inside constant at) }
 {
     if !sees(tokens, at, Terminal::Comma) {
         return Ok((None, at));
@@ -123,7 +125,8 @@ fn bindings(
     constant: bool,
     at: usize,
 ) -> Result<(Vec<LexicalBinding>, usize), Stop>
-    ensures { ReadsBindings tree.old tree.new result (read.bindings tokens.now room.turns room.inside constant at) }
+    ensures { ReadsBindings tree.old tree.new result
+        (read.bindings tokens.now room.turns room.inside constant at) }
 {
     let (first, behind) = one_binding(alloc, tokens, tree, room, constant, at)?;
     let mut found = Vec::new(alloc);
@@ -150,7 +153,8 @@ pub(crate) fn declaration(
     at: usize,
 ) -> Result<(Vec<LexicalBinding>, usize), Stop>
     requires { at < length tokens.now }
-    ensures { ReadsDeclaration tokens.now tree.old tree.new result (read.bindings tokens.now room.turns room.inside constant (at + 1)) }
+    ensures { ReadsDeclaration tokens.now tree.old tree.new result
+        (read.bindings tokens.now room.turns room.inside constant (at + 1)) }
 {
     let (found, behind) = bindings(alloc, tokens, tree, room, constant, at + 1)?;
     let behind = end(tokens, behind, false)?;

@@ -73,7 +73,8 @@ fn add_texts<'a>(names: &mut Vec<&'a str>, added: &'a [Text]) -> Result<(), Memo
 // The names that a statement declares.
 fn add_declared<'a>(names: &mut Vec<&'a str>, tree: &'a Tree, id: StmtId) -> Result<(), Memory>
     requires { id.0 < length tree.now.stmts }
-    ensures { OnOk result (texts names.new.items ≡ texts names.old.items ++ declared_names (stmt_part tree.now.stmts id)) }
+    ensures { OnOk result (texts names.new.items
+        ≡ texts names.old.items ++ declared_names (stmt_part tree.now.stmts id)) }
 {
     match tree.stmt(id) {
         StmtNode::Const(bindings) => add_bindings(names, bindings),
@@ -84,7 +85,8 @@ fn add_declared<'a>(names: &mut Vec<&'a str>, tree: &'a Tree, id: StmtId) -> Res
 
 fn add_all<'a>(names: &mut Vec<&'a str>, tree: &'a Tree, ids: &[StmtId]) -> Result<(), Memory>
     requires { AllStmtsBelow (length tree.now.stmts) ids.now }
-    ensures { OnOk result (texts names.new.items ≡ texts names.old.items ++ block_names (stmt_parts tree.now.stmts ids.now)) }
+    ensures { OnOk result (texts names.new.items
+        ≡ texts names.old.items ++ block_names (stmt_parts tree.now.stmts ids.now)) }
 {
     for id in ids {
         add_declared(names, tree, *id)?;
@@ -106,7 +108,8 @@ fn names_with<'a>(alloc: Global, with: Option<&'a str>) -> Result<Vec<&'a str>, 
     }
 }
 
-// Whether a name is declared twice in a block, or in one inside it, the name that is given with it among them. The statements of the block are numbered below a bound.
+// Whether a name is declared twice in a block, or in one inside it, the name that is given with it among them. The
+// statements of the block are numbered below a bound.
 #[cycle(blocks)]
 fn block_errs<'a>(
     alloc: Global,
@@ -117,7 +120,8 @@ fn block_errs<'a>(
 ) -> Result<bool, Memory>
     requires bound { below ≤ length tree.now.stmts }
     requires below { AllStmtsBelow below ids.now }
-    ensures { IfOk result (λ b. b ≡ any_clashes (scopes_of (given with.entry) (stmt_parts tree.now.stmts ids.now))) }
+    ensures { IfOk result (λ b. b ≡ any_clashes
+        (scopes_of (given with.entry) (stmt_parts tree.now.stmts ids.now))) }
 {
     let mut names = names_with(alloc, with)?;
     add_all(&mut names, tree, ids)?;
@@ -147,7 +151,9 @@ fn blocks_err<'a>(
     requires bound { below ≤ length tree.now.stmts }
     requires below { AllStmtsBelow below ids.now }
     requires others_below { AllStmtsBelow below others.now }
-    ensures { IfOk result (λ b. b ≡ any_clashes (scopes_of [] (stmt_parts tree.now.stmts ids.now) ++ scopes_of (given with.entry) (stmt_parts tree.now.stmts others.now))) }
+    ensures { IfOk result (λ b. b ≡ any_clashes
+        (scopes_of [] (stmt_parts tree.now.stmts ids.now)
+        ++ scopes_of (given with.entry) (stmt_parts tree.now.stmts others.now))) }
 {
     let clashing = block_errs(alloc, tree, below, ids, None)?;
     if clashing {
@@ -186,7 +192,8 @@ fn function_errs(
     ids: &[StmtId],
 ) -> Result<bool, Memory>
     requires { AllStmtsBelow (length tree.now.stmts) ids.now }
-    ensures { IfOk result (λ b. b ≡ any_clashes (scopes_of parameters.now (stmt_parts tree.now.stmts ids.now))) }
+    ensures { IfOk result (λ b. b ≡ any_clashes
+        (scopes_of parameters.now (stmt_parts tree.now.stmts ids.now))) }
 {
     let mut names = Vec::new(alloc);
     add_texts(&mut names, parameters)?;
@@ -221,7 +228,8 @@ fn item_errs(alloc: Global, tree: &Tree, item: &ItemNode) -> Result<bool, Memory
 }
 
 fn add_locals<'a>(names: &mut Vec<&'a str>, bindings: &'a [ImportBinding]) -> Result<(), Memory>
-    ensures { OnOk result (texts names.new.items ≡ texts names.old.items ++ map (λ b. b.local) bindings.now) }
+    ensures { OnOk result (texts names.new.items
+        ≡ texts names.old.items ++ map (λ b. b.local) bindings.now) }
 {
     for binding in bindings {
         names.push(binding.local.as_str())?;
@@ -230,7 +238,8 @@ fn add_locals<'a>(names: &mut Vec<&'a str>, bindings: &'a [ImportBinding]) -> Re
 }
 
 fn add_listed<'a>(names: &mut Vec<&'a str>, specifiers: &'a [ExportSpecifier]) -> Result<(), Memory>
-    ensures { OnOk result (texts names.new.items ≡ texts names.old.items ++ map (λ e. e.exported) specifiers.now) }
+    ensures { OnOk result (texts names.new.items
+        ≡ texts names.old.items ++ map (λ e. e.exported) specifiers.now) }
 {
     for specifier in specifiers {
         names.push(specifier.exported.as_str())?;
@@ -254,7 +263,8 @@ fn add_item_names<'a>(
     item: &'a ItemNode,
 ) -> Result<(), Memory>
     requires { item_need item.now ≤ length tree.now.stmts }
-    ensures { OnOk result (texts names.new.items ≡ texts names.old.items ++ early.declared_of (item_of tree.now.stmts item.now)) }
+    ensures { OnOk result (texts names.new.items
+        ≡ texts names.old.items ++ early.declared_of (item_of tree.now.stmts item.now)) }
 {
     match item {
         ItemNode::Import(_, bindings) => add_locals(names, bindings),
@@ -270,7 +280,8 @@ fn add_item_names<'a>(
 // What `export` before a declaration, or `export default` before a value, exports.
 fn add_statement<'a>(names: &mut Vec<&'a str>, tree: &'a Tree, id: StmtId) -> Result<(), Memory>
     requires { id.0 < length tree.now.stmts }
-    ensures { OnOk result (texts names.new.items ≡ texts names.old.items ++ early.statement_exported (stmt_part tree.now.stmts id)) }
+    ensures { OnOk result (texts names.new.items
+        ≡ texts names.old.items ++ early.statement_exported (stmt_part tree.now.stmts id)) }
 {
     match tree.stmt(id) {
         StmtNode::Default(_) => add_one(names, "default"),
@@ -285,7 +296,8 @@ fn add_exported<'a>(
     item: &'a ItemNode,
 ) -> Result<(), Memory>
     requires { item_need item.now ≤ length tree.now.stmts }
-    ensures { OnOk result (texts names.new.items ≡ texts names.old.items ++ early.exported_of (item_of tree.now.stmts item.now)) }
+    ensures { OnOk result (texts names.new.items
+        ≡ texts names.old.items ++ early.exported_of (item_of tree.now.stmts item.now)) }
 {
     match item {
         ItemNode::ExportAllAs(name, _) => add_one(names, name.as_str()),
@@ -305,7 +317,8 @@ fn all_exported<'a>(
     items: &'a [ItemNode],
 ) -> Result<Vec<&'a str>, Memory>
     requires { AllAtMost (length tree.now.stmts) (items_need items.now) }
-    ensures { IfOk result (λ names. texts names.items ≡ early.exported_names (items_of tree.now.stmts items.now)) }
+    ensures { IfOk result (λ names. texts names.items
+        ≡ early.exported_names (items_of tree.now.stmts items.now)) }
 {
     let mut names = Vec::new(alloc);
     for item in items {
@@ -321,7 +334,8 @@ fn all_declared<'a>(
     items: &'a [ItemNode],
 ) -> Result<Vec<&'a str>, Memory>
     requires { AllAtMost (length tree.now.stmts) (items_need items.now) }
-    ensures { IfOk result (λ names. texts names.items ≡ early.module_names (items_of tree.now.stmts items.now)) }
+    ensures { IfOk result (λ names. texts names.items
+        ≡ early.module_names (items_of tree.now.stmts items.now)) }
 {
     let mut names = Vec::new(alloc);
     for item in items {
@@ -347,7 +361,8 @@ fn any_undeclared<'a>(declared: &BTreeSet<&'a str>, specifiers: &'a [ExportSpeci
 
 // Whether an export list without `from` names what is no name, or isn't declared.
 fn lists_wrong<'a>(declared: &BTreeSet<&'a str>, item: &'a ItemNode) -> bool
-    ensures { (stmts : List Stmt) → result ≡ list_any (is_unlisted (held declared.now)) (early.listed_of (item_of stmts item.now)) }
+    ensures { (stmts : List Stmt) → result
+        ≡ list_any (is_unlisted (held declared.now)) (early.listed_of (item_of stmts item.now)) }
 {
     match item {
         ItemNode::ExportList(specifiers) => any_undeclared(declared, specifiers),
@@ -363,7 +378,8 @@ fn any_wrong<'a>(
     items: &'a [ItemNode],
 ) -> Result<bool, Memory>
     requires { AllAtMost (length tree.now.stmts) (items_need items.now) }
-    ensures { IfOk result (λ b. b ≡ any_item_wrong (held declared.now) (items_of tree.now.stmts items.now)) }
+    ensures { IfOk result (λ b. b ≡ any_item_wrong (held declared.now)
+        (items_of tree.now.stmts items.now)) }
 {
     for item in items {
         if lists_wrong(declared, item) {

@@ -89,7 +89,8 @@ fn function(
     at: usize,
 ) -> Result<(ItemNode, usize), Stop>
     requires { at < length tokens.now }
-    ensures { ReadsItem tree.old tree.new result (read.function_form tokens.now turns (function_of exported) at) }
+    ensures { ReadsItem tree.old tree.new result
+        (read.function_form tokens.now turns (function_of exported) at) }
 {
     if !is_name_at(tokens, at + 1) {
         return Err(Stop::Fault);
@@ -146,7 +147,8 @@ fn default_function(
     name: Option<Text>,
     at: usize,
 ) -> Result<(ItemNode, usize), Stop>
-    ensures { ReadsItem tree.old tree.new result (read.rest tokens.now turns (ExportDefaultFunction name) at) }
+    ensures { ReadsItem tree.old tree.new result
+        (read.rest tokens.now turns (ExportDefaultFunction name) at) }
 {
     let (parts, behind) = rest(alloc, tokens, tree, turns, at)?;
     let (found, body) = parts;

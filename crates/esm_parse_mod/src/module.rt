@@ -35,7 +35,8 @@ fn items(alloc: Global, tokens: &[Lexeme]) -> Result<Tree, Stop>
 
 // Reads the tree that the tokens of a text derive, which are whole or end at a place where no token can be read.
 fn tree_of(alloc: Global, tokens: &[Lexeme], whole: bool) -> Result<Tree, ReadEnd>
-    ensures { (bytes : List ℕ) → length bytes ≤ 1048576 → AreTokens bytes tokens.now whole → MatchResult result (λ tree. Derives bytes tree.items) (IsRefusedFor bytes) }
+    ensures { (bytes : List ℕ) → length bytes ≤ 1048576 → AreTokens bytes tokens.now whole →
+        MatchResult result (λ tree. Derives bytes tree.items) (IsRefusedFor bytes) }
 {
     if nests_too_deep(tokens) {
         return Err(ReadEnd::Fault(TextFault::P4));

@@ -71,7 +71,8 @@ pub(crate) fn parameters(
     turns: usize,
     at: usize,
 ) -> Result<(Vec<Text>, usize), Stop>
-    ensures { ReadsList result (read.listed tokens.now (read.parameter tokens.now) Terminal.Close turns at) }
+    ensures { ReadsList result (read.listed tokens.now
+        (read.parameter tokens.now) Terminal.Close turns at) }
 {
     let mut found = Vec::new(alloc);
     let mut next = at;
@@ -114,7 +115,8 @@ fn imported_step(
     tokens: &[Lexeme],
     at: usize,
 ) -> Result<(Option<ImportBinding>, usize), Stop>
-    ensures { ReadsSame result (read.listed_step tokens.now (read.imported_name tokens.now) Terminal.BraceClose at) }
+    ensures { ReadsSame result (read.listed_step tokens.now
+        (read.imported_name tokens.now) Terminal.BraceClose at) }
 {
     if sees(tokens, at, Terminal::BraceClose) {
         return Ok((None, at + 1));
@@ -132,7 +134,8 @@ fn imported_names(
     at: usize,
     before: Vec<ImportBinding>,
 ) -> Result<(Vec<ImportBinding>, usize), Stop>
-    ensures { ReadsList result (ahead before.items (read.listed tokens.now (read.imported_name tokens.now) Terminal.BraceClose turns at)) }
+    ensures { ReadsList result (ahead before.items
+        (read.listed tokens.now (read.imported_name tokens.now) Terminal.BraceClose turns at)) }
 {
     let mut found = before;
     let mut next = at;
@@ -185,7 +188,8 @@ fn exported_step(
     tokens: &[Lexeme],
     at: usize,
 ) -> Result<(Option<ExportSpecifier>, usize), Stop>
-    ensures { ReadsSame result (read.listed_step tokens.now (read.exported_name tokens.now) Terminal.BraceClose at) }
+    ensures { ReadsSame result (read.listed_step tokens.now
+        (read.exported_name tokens.now) Terminal.BraceClose at) }
 {
     if sees(tokens, at, Terminal::BraceClose) {
         return Ok((None, at + 1));
@@ -202,7 +206,8 @@ pub(crate) fn exported_names(
     turns: usize,
     at: usize,
 ) -> Result<(Vec<ExportSpecifier>, usize), Stop>
-    ensures { ReadsList result (read.listed tokens.now (read.exported_name tokens.now) Terminal.BraceClose turns at) }
+    ensures { ReadsList result (read.listed tokens.now
+        (read.exported_name tokens.now) Terminal.BraceClose turns at) }
 {
     let mut found = Vec::new(alloc);
     let mut next = at;

@@ -25,7 +25,8 @@ pub struct Room {
 pub(crate) fn add(tree: &mut Tree, node: StmtNode, behind: usize) -> Result<(StmtId, usize), Stop>
     requires exprs_there { need_of node ≤ length tree.old.exprs }
     requires below { IsStmtBelow (length tree.old.stmts) node }
-    ensures { ReadsStmt tree.old tree.new result (Some (stmt_of tree.old.exprs tree.old.stmts node, behind)) }
+    ensures { ReadsStmt tree.old tree.new result
+        (Some (stmt_of tree.old.exprs tree.old.stmts node, behind)) }
 {
     if tree.mark().stmts >= u32::MAX {
         return Err(Stop::Memory);
@@ -128,7 +129,8 @@ fn await_statement(
     at: usize,
 ) -> Result<(StmtId, usize), Stop>
     requires { at < length tokens.now }
-    ensures { ReadsStmt tree.old tree.new result (read.await_statement tokens.now room.turns room.inside at) }
+    ensures { ReadsStmt tree.old tree.new result
+        (read.await_statement tokens.now room.turns room.inside at) }
 {
     if room.inside {
         return Err(Stop::Fault);
@@ -198,7 +200,8 @@ impl<
         at: usize,
     ) -> Result<(Vec<StmtId>, usize), Stop>
         requires { Nests self.now.room self.now.depth (F.pre self.now.block) (F.post self.now.block) }
-        ensures { ReadsStmts tree.old tree.new result (read.block tokens.now self.now.room.turns self.now.room.inside self.now.depth at) }
+        ensures { ReadsStmts tree.old tree.new result
+            (read.block tokens.now self.now.room.turns self.now.room.inside self.now.depth at) }
     {
         (self.block)(self.alloc, tokens, tree, self.room, self.depth, at)
     }
@@ -206,7 +209,9 @@ impl<
     fn choice(&self, tokens: &[Lexeme], tree: &mut Tree, at: usize) -> Result<(StmtId, usize), Stop>
         requires nests { Nests self.now.room self.now.depth (F.pre self.now.block) (F.post self.now.block) }
         requires there { at < length tokens.now }
-        ensures { ReadsStmt tree.old tree.new result (read.choice tokens.now self.now.room.turns self.now.room.inside (read.block tokens.now self.now.room.turns self.now.room.inside self.now.depth) at) }
+        ensures { ReadsStmt tree.old tree.new result
+            (read.choice tokens.now self.now.room.turns self.now.room.inside
+            (read.block tokens.now self.now.room.turns self.now.room.inside self.now.depth) at) }
     {
         if !sees(tokens, at + 1, Terminal::Open) {
             return Err(Stop::Fault);
@@ -226,7 +231,9 @@ impl<
     fn tried(&self, tokens: &[Lexeme], tree: &mut Tree, at: usize) -> Result<(StmtId, usize), Stop>
         requires nests { Nests self.now.room self.now.depth (F.pre self.now.block) (F.post self.now.block) }
         requires there { at < length tokens.now }
-        ensures { ReadsStmt tree.old tree.new result (read.tried tokens.now self.now.room.turns self.now.room.inside (read.block tokens.now self.now.room.turns self.now.room.inside self.now.depth) at) }
+        ensures { ReadsStmt tree.old tree.new result
+            (read.tried tokens.now self.now.room.turns self.now.room.inside
+            (read.block tokens.now self.now.room.turns self.now.room.inside self.now.depth) at) }
     {
         let (body, behind) = self.block(tokens, tree, at + 1)?;
         if !sees(tokens, behind, Terminal::Catch) {
@@ -254,7 +261,9 @@ impl<
         at: usize,
     ) -> Result<(StmtId, usize), Stop>
         requires { Nests self.now.room self.now.depth (F.pre self.now.block) (F.post self.now.block) }
-        ensures { ReadsStmt tree.old tree.new result (read.stmt_with tokens.now self.now.room.turns self.now.room.inside (read.block tokens.now self.now.room.turns self.now.room.inside self.now.depth) at) }
+        ensures { ReadsStmt tree.old tree.new result
+            (read.stmt_with tokens.now self.now.room.turns self.now.room.inside
+            (read.block tokens.now self.now.room.turns self.now.room.inside self.now.depth) at) }
     {
         match terminal(tokens, at) {
             Terminal::BraceOpen => {
@@ -287,7 +296,9 @@ impl<
         at: usize,
     ) -> Result<(Option<StmtId>, usize), Stop>
         requires { Nests self.now.room self.now.depth (F.pre self.now.block) (F.post self.now.block) }
-        ensures { ReadsStmtStep tree.old tree.new result (read.stmt_step tokens.now self.now.room.turns self.now.room.inside (read.block tokens.now self.now.room.turns self.now.room.inside self.now.depth) at) }
+        ensures { ReadsStmtStep tree.old tree.new result
+            (read.stmt_step tokens.now self.now.room.turns self.now.room.inside
+            (read.block tokens.now self.now.room.turns self.now.room.inside self.now.depth) at) }
     {
         if sees(tokens, at, Terminal::BraceClose) {
             return Ok((None, at + 1));
@@ -303,7 +314,10 @@ impl<
         at: usize,
     ) -> Result<(Vec<StmtId>, usize), Stop>
         requires { Nests self.now.room self.now.depth (F.pre self.now.block) (F.post self.now.block) }
-        ensures { ReadsStmts tree.old tree.new result (many nothing first (read.stmt_step tokens.now self.now.room.turns self.now.room.inside (read.block tokens.now self.now.room.turns self.now.room.inside self.now.depth)) self.now.room.turns at) }
+        ensures { ReadsStmts tree.old tree.new result
+            (many nothing first (read.stmt_step tokens.now self.now.room.turns
+            self.now.room.inside (read.block tokens.now self.now.room.turns self.now.room.inside
+            self.now.depth)) self.now.room.turns at) }
     {
         let mut found = Vec::new(self.alloc);
         let mut next = at;

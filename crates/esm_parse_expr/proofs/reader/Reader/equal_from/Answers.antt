@@ -55,8 +55,8 @@ turns-preserved g c =
       first = omega (arith, l.invariant.first, longer_now);
       below = below_push _ _ l.others.items c.in-Some.is_same c.in_ok-id.id longer_now l.invariant.below one.gives.0;
       same = turn ∙ comparisons_one ts operand e d _ l.next c.in-Some.is_same _ _ c.in-Some.ensures.some one.gives.1
-        ∙ ap (λ x. gathered x (append d (compared c.in-Some.is_same (part c.sum.new.tree.exprs c.in_ok-id.id) last)) (read.comparisons ts operand (room - (l._turn + 1)) c.in_ok-id.after)) (sym stays)
-        ∙ ap (λ x. gathered (part c.sum.new.tree.exprs first) x (read.comparisons ts operand (room - (l._turn + 1)) c.in_ok-id.after)) (sym same);
+          ∙ ap (λ x. gathered x (append d (compared c.in-Some.is_same (part c.sum.new.tree.exprs c.in_ok-id.id) last)) (read.comparisons ts operand (room - (l._turn + 1)) c.in_ok-id.after)) (sym stays)
+          ∙ ap (λ x. gathered (part c.sum.new.tree.exprs first) x (read.comparisons ts operand (room - (l._turn + 1)) c.in_ok-id.after)) (sym same);
     })
 
 pub returns : goal.returns

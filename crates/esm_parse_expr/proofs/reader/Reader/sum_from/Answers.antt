@@ -55,8 +55,8 @@ turns-preserved g c =
       first = omega (arith, l.invariant.first, longer_now);
       below = pushed_below _ _ l.others.items c.in_ok-id.id one.grows l.invariant.below one.gives.0;
       same = turn ∙ further_one ts t.Plus Sum operand e d _ l.next _ _ c.if-not-sees.ensures.value one.gives.1
-        ∙ ap (λ x. gathered Sum x (append d (more (part c.unary.new.tree.exprs c.in_ok-id.id) none)) (read.further ts t.Plus operand (room - (l._turn + 1)) c.in_ok-id.after)) (sym stays)
-        ∙ ap (λ x. gathered Sum (part c.unary.new.tree.exprs first) x (read.further ts t.Plus operand (room - (l._turn + 1)) c.in_ok-id.after)) (sym same);
+          ∙ ap (λ x. gathered Sum x (append d (more (part c.unary.new.tree.exprs c.in_ok-id.id) none)) (read.further ts t.Plus operand (room - (l._turn + 1)) c.in_ok-id.after)) (sym stays)
+          ∙ ap (λ x. gathered Sum (part c.unary.new.tree.exprs first) x (read.further ts t.Plus operand (room - (l._turn + 1)) c.in_ok-id.after)) (sym same);
     })
 
 pub returns : goal.returns
