@@ -5,11 +5,11 @@ use std::alloc::{AllocError, Global};
 use std::test::Fail;
 
 // A heading begins with `# `. A row is the number of the text's items, or its fault; `|`; and the text. In a text
-// ⏎ is U+000A, ␍ U+000D, ␌ U+000C, ␠ U+00A0, ␅ U+0085, ⇩ U+2028, ⇟ U+2029, ◆ the bytes EF BB BF, ☒ the byte FF;
+// ⏎ is U+000A, ␍ U+000D, ␉ U+0009, ␌ U+000C, ␠ U+00A0, ␅ U+0085, ⇩ U+2028, ⇟ U+2029, ◆ the bytes EF BB BF, ☒ the byte FF;
 // what stands between ⟦ and ⟧ stands there 64 times; ⌘ is as many spaces as make the text 1,048,576 bytes long up to it.
 const ROWS: &str = r#"# Characters, comments and white space
 0|
-0| 	␠␌
+0| ␉␠␌
 1|#!a⏎;
 0|#! import "a"
 1|#!a⇩;
@@ -436,6 +436,7 @@ fn add(alloc: Global, bytes: &mut Vec<u8>, c: char) -> Result<(), AllocError> {
     let spelled: &[u8] = match c {
         '⏎' => b"\n",
         '␍' => b"\r",
+        '␉' => b"\t",
         '␌' => b"\x0c",
         '␠' => b"\xc2\xa0",
         '␅' => b"\xc2\x85",
