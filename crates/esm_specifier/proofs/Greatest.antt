@@ -11,7 +11,7 @@ use Rattle.std.specs.Bool.{⊤}
 use Rattle.esm_base.specs.CodeUnits.{code_unit_order}
 use Rattle.std.specs.Str.{IsUtf8}
 use Rattle.esm_base.proofs.CodeUnits.{code_unit_order_total, code_unit_order_same}
-use Rattle.esm_import_map.specs.TextMap.{Entries, at}
+use Rattle.esm_base.specs.TextMap.{TextMapView, at}
 use Rattle.esm_specifier.specs.Resolution.{greater, greatest}
 use Rattle.esm_specifier.proofs.Prefixes.{IsFront, front_order}
 
@@ -22,12 +22,12 @@ abbrev pub IsIn : List ℕ → List (List ℕ) → Type 0
 IsIn text [] = ⊥
 IsIn text (other ∷ texts) = (text ≡ other) ⊎ IsIn text texts
 
-in_by : {A : Type 0} (k : List ℕ) (e : List ℕ × A) (es : Entries A) (b : Bool) → is_eq (slice_cmp nat_cmp k e.0) ≡ b → is_some (cond b (Some e.1) (at k es)) ≡ true → (is_some (at k es) ≡ true → IsIn k (keys_of es)) → IsIn k (keys_of (e ∷ es))
+in_by : {A : Type 0} (k : List ℕ) (e : List ℕ × A) (es : TextMapView A) (b : Bool) → is_eq (slice_cmp nat_cmp k e.0) ≡ b → is_some (cond b (Some e.1) (at k es)) ≡ true → (is_some (at k es) ≡ true → IsIn k (keys_of es)) → IsIn k (keys_of (e ∷ es))
 in_by k e es true is h more = inl ((bytes_eq-Decides k e.0).0 (sym (is_eq-slice_cmp k e.0) ∙ is))
 in_by k e es false is h more = inr (more h)
 
 -- what a look-up finds stands among the keys
-pub in_keys : {A : Type 0} (k : List ℕ) (es : Entries A) → is_some (at k es) ≡ true → IsIn k (keys_of es)
+pub in_keys : {A : Type 0} (k : List ℕ) (es : TextMapView A) → is_some (at k es) ≡ true → IsIn k (keys_of es)
 in_keys k [] h = let P : Bool → Type 0 = λ b. cond b ⊥ ⊤ in subst P h tt
 in_keys k (e ∷ es) h = in_by k e es (is_eq (slice_cmp nat_cmp k e.0)) refl h (in_keys k es)
 
@@ -35,11 +35,11 @@ found_later : {A : Type 0} (b : Bool) (v : A) (o : Option A) → is_some o ≡ t
 found_later true v o h = refl
 found_later false v o h = h
 
-found_first : {A : Type 0} (e : List ℕ × A) (es : Entries A) → is_some (at e.0 (e ∷ es)) ≡ true
+found_first : {A : Type 0} (e : List ℕ × A) (es : TextMapView A) → is_some (at e.0 (e ∷ es)) ≡ true
 found_first e es = rw (tied_itself nat_list_cmp_total e.0) refl
 
 -- what holds of each text that a look-up finds holds of each key
-pub all_keys : {A : Type 0} (P : List ℕ → Type 0) (es : Entries A) → ((k : List ℕ) → is_some (at k es) ≡ true → P k) → AllByRecursion P (keys_of es)
+pub all_keys : {A : Type 0} (P : List ℕ → Type 0) (es : TextMapView A) → ((k : List ℕ) → is_some (at k es) ≡ true → P k) → AllByRecursion P (keys_of es)
 all_keys P [] h = tt
 all_keys P (e ∷ es) h = (h e.0 (found_first e es), all_keys P es (λ k f. h k (found_later (is_eq (slice_cmp nat_cmp k e.0)) e.1 (at k es) f)))
 
