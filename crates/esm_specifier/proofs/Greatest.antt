@@ -129,7 +129,7 @@ not_less_by x m u Greater Equal a b e f = refl
 not_less_by x m u Greater Greater a b e f = refl
 
 -- a member than which none is greater
-pub record IsGreatest (texts : List (List ℕ)) (text : List ℕ) : Type 0 where
+pub record IsGreatestIn (texts : List (List ℕ)) (text : List ℕ) : Type 0 where
   pub member : IsIn text texts
   pub none_greater : (other : List ℕ) → IsIn other texts → is_lt (code_unit_order text other) ≡ false
 
@@ -140,11 +140,11 @@ alone : (x other : List ℕ) → (other ≡ x) ⊎ ⊥ → is_lt (code_unit_orde
 alone x other (inl same) = ap (λ t. is_lt (code_unit_order x t)) same ∙ itself x
 alone x other (inr none) = absurd none
 
-keeps_later : (x m : List ℕ) (xs : List (List ℕ)) → code_unit_order x m ≡ Less → IsGreatest xs m → (other : List ℕ) → (other ≡ x) ⊎ IsIn other xs → is_lt (code_unit_order m other) ≡ false
+keeps_later : (x m : List ℕ) (xs : List (List ℕ)) → code_unit_order x m ≡ Less → IsGreatestIn xs m → (other : List ℕ) → (other ≡ x) ⊎ IsIn other xs → is_lt (code_unit_order m other) ≡ false
 keeps_later x m xs less g other (inl same) = ap (λ t. is_lt (code_unit_order m t)) same ∙ ap is_lt (code_unit_order_total.antisymm m x ∙ ap ordering_reverse less)
 keeps_later x m xs less g other (inr more) = g.none_greater other more
 
-keeps_first : (x m : List ℕ) (xs : List (List ℕ)) → is_lt (code_unit_order x m) ≡ false → IsGreatest xs m → (other : List ℕ) → (other ≡ x) ⊎ IsIn other xs → is_lt (code_unit_order x other) ≡ false
+keeps_first : (x m : List ℕ) (xs : List (List ℕ)) → is_lt (code_unit_order x m) ≡ false → IsGreatestIn xs m → (other : List ℕ) → (other ≡ x) ⊎ IsIn other xs → is_lt (code_unit_order x other) ≡ false
 keeps_first x m xs e g other (inl same) = alone x other (inl same)
 keeps_first x m xs e g other (inr more) = not_less_by x m other (code_unit_order x m) (code_unit_order x other) refl refl e (g.none_greater other more)
 
@@ -153,17 +153,17 @@ is_less Less e = refl
 is_less Equal e = absurd (true≢false (sym e))
 is_less Greater e = absurd (true≢false (sym e))
 
-greatest_by : (x m : List ℕ) (xs : List (List ℕ)) (b : Bool) → is_lt (code_unit_order x m) ≡ b → IsGreatest xs m → IsGreatest (x ∷ xs) (cond b m x)
+greatest_by : (x m : List ℕ) (xs : List (List ℕ)) (b : Bool) → is_lt (code_unit_order x m) ≡ b → IsGreatestIn xs m → IsGreatestIn (x ∷ xs) (cond b m x)
 greatest_by x m xs true e g = record { member = inr g.member; none_greater = keeps_later x m xs (is_less (code_unit_order x m) e) g }
 greatest_by x m xs false e g = record { member = inl refl; none_greater = keeps_first x m xs e g }
 
 -- what `greatest` finds is a member than which none is greater
-pub greatest_is : (text : List ℕ) (texts : List (List ℕ)) → IsGreatest (text ∷ texts) (greater text (greatest texts))
+pub greatest_is : (text : List ℕ) (texts : List (List ℕ)) → IsGreatestIn (text ∷ texts) (greater text (greatest texts))
 greatest_is text [] = record { member = inl refl; none_greater = alone text }
 greatest_is text (other ∷ texts) = greatest_by text (greater other (greatest texts)) (other ∷ texts) (is_lt (code_unit_order text (greater other (greatest texts)))) refl (greatest_is other texts)
 
 -- and of two such members of which each is text, one is the other
-pub greatest_only : (texts : List (List ℕ)) (a b : List ℕ) → IsUtf8 a → IsUtf8 b → IsGreatest texts a → IsGreatest texts b → a ≡ b
+pub greatest_only : (texts : List (List ℕ)) (a b : List ℕ) → IsUtf8 a → IsUtf8 b → IsGreatestIn texts a → IsGreatestIn texts b → a ≡ b
 greatest_only texts a b u v f g = same_by a b u v (code_unit_order a b) refl (f.none_greater b g.member) (g.none_greater a f.member) where
   same_by : (a b : List ℕ) → IsUtf8 a → IsUtf8 b → (o : Ordering) → code_unit_order a b ≡ o → is_lt (code_unit_order a b) ≡ false → is_lt (code_unit_order b a) ≡ false → a ≡ b
   same_by a b u v Less is e f = absurd (true≢false (sym (ap is_lt is) ∙ e))
