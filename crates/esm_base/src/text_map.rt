@@ -1,8 +1,8 @@
 // Finite maps from texts.
-ghost use Rattle.std.specs.Prelude.{◌≡◌, [], IfOk, Some, None, option_copied, string_bytes, if◌then◌else◌};
-ghost use Rattle.esm_import_map.specs.TextMap.{at, with_new};
+ghost use Rattle.std.specs.Prelude.{◌≡◌, [], Ok, IfOk, OnErr, Some, None, false, option_copied, string_bytes, if◌then◌else◌};
+ghost use Rattle.esm_base.specs.TextMap.{at, with_new};
 
-use esm_base::Memory;
+use crate::Memory;
 use std::alloc::Global;
 use std::collections::BTreeMap;
 use std::marker::Model;
@@ -40,11 +40,13 @@ impl<V> TextMap<V> {
 }
 
 impl<V: Drop> TextMap<V> {
-    /// Puts a new key in. `false` where the map has the key already: then it stays as it was, as it does where
-    /// memory runs out.
+    /// Puts a new key in. It answers `false` where the map has the key already, and `Memory` where memory runs out;
+    /// after both the map is as before.
     pub fn insert_new(&mut self, key: String, value: V) -> Result<bool, Memory>
-        ensures { IfOk result (λ fresh. with_new (string_bytes key) value self.old
+        ensures inserted { IfOk result (λ fresh. with_new (string_bytes key) value self.old
             ≡ (if fresh then Some self.new else None)) }
+        ensures known { result ≡ Ok false → self.new ≡ self.old }
+        ensures refused { OnErr result (self.new ≡ self.old) }
     {
         if self.tree.contains_key(key.as_str()) {
             return Ok(false);
