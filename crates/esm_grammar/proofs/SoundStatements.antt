@@ -3,7 +3,7 @@ use Rattle.std.proofs.Common.{◌≡◌, ◌≢◌, ℕ, zero, suc, ◌+◌, ◌
 use Rattle.esm_tree.specs.Syntax.{Expr, Init, absent, plain, awaited, Bindings, no_more, binding, Stmt, Empty, Expression, Assign, Block, If, IfElse, Try, TryCatch, Throw, Return, ReturnValue, Await, PrintAwait, Const, Let, Stmts, nothing, first}
 use Rattle.esm_tree.specs.declared.lexeme.Terminal.{Terminal}
 use Rattle.esm_tree.specs.declared.lexeme.Terminal.TheVariants as t
-use Rattle.esm_tree.specs.declared.lexeme.Lexeme.{Lexeme}
+use Rattle.esm_tree.specs.Lexeme.{Lexeme}
 use Rattle.esm_grammar.specs.Lexeme.{terminal_at, text_at, newline_at, is_name}
 use Rattle.esm_grammar.specs.Grammar.{Reads, ors, unaries}
 use Rattle.esm_grammar.specs.Reading.{Read, ◌>>=◌, pick, sees, same, expr}

@@ -10,12 +10,12 @@ use Rattle.esm_tree.specs.declared.token.TokenKind.{TokenKind}
 use Rattle.esm_tree.specs.declared.token.TokenKind.TheVariants as kind
 use Rattle.esm_tree.specs.declared.lexeme.Terminal.{Terminal}
 use Rattle.esm_tree.specs.declared.lexeme.Terminal.TheVariants as t
-use Rattle.esm_tree.specs.declared.lexeme.Lexeme.{Lexeme}
+use Rattle.esm_tree.specs.Lexeme.{Lexeme, lexeme}
 use Rattle.esm_grammar.specs.Characters.{starts, continues, is_quote}
 use Rattle.esm_grammar.specs.Reading.{pick}
 use Rattle.esm_grammar.specs.Strings.{Body, closed, more, piece, is_plain}
 use Rattle.esm_grammar.specs.Terminals.{word_terminal, single_sign, double_sign, triple_sign, sign_terminal}
-use Rattle.esm_grammar.specs.Lexes.{is_word_text, IsToken, a_word, a_literal, a_sign, Longest, NoToken, gap, Gap, widths, lexeme, Lexes, all_read, stuck, blank, token}
+use Rattle.esm_grammar.specs.Lexes.{is_word_text, IsToken, a_word, a_literal, a_sign, Longest, NoToken, gap, Gap, widths, Lexes, all_read, stuck, blank, token}
 
 -- ---- what tells the kinds apart
 

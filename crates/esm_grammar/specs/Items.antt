@@ -6,7 +6,7 @@ use Rattle.esm_tree.specs.declared.node.ExportSpecifier.{ExportSpecifier}
 use Rattle.esm_tree.specs.Syntax.{Init, Stmt, Default, Stmts, Item, ImportEffect, ImportFrom, ExportAll, ExportAllAs, ExportFrom, ExportList, ExportStatement, ExportFunction, ExportDefaultFunction, Function, Statement}
 use Rattle.esm_tree.specs.declared.lexeme.Terminal.{Terminal}
 use Rattle.esm_tree.specs.declared.lexeme.Terminal.TheVariants as t
-use Rattle.esm_tree.specs.declared.lexeme.Lexeme.{Lexeme}
+use Rattle.esm_tree.specs.Lexeme.{Lexeme}
 use Rattle.esm_grammar.specs.Lexeme.{terminal_at, text_at, is_word, is_name}
 use Rattle.esm_grammar.specs.Reading.{sees}
 use Rattle.esm_grammar.specs.Statements.{Ends, InitAt, StmtAt, BlockAt}

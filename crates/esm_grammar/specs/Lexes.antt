@@ -7,7 +7,7 @@ use Rattle.esm_tree.specs.declared.token.TokenKind.TheVariants as kind
 use Rattle.esm_tree.specs.declared.token.Token.{Token}
 use Rattle.esm_tree.specs.declared.lexeme.Terminal.{Terminal}
 use Rattle.esm_tree.specs.declared.lexeme.Terminal.TheVariants as t
-use Rattle.esm_tree.specs.declared.lexeme.Lexeme.{Lexeme}
+use Rattle.esm_tree.specs.Lexeme.{Lexeme, lexeme}
 use Rattle.esm_grammar.specs.Characters.{is_line_terminator, is_white_space, starts, continues, is_quote}
 use Rattle.esm_grammar.specs.Reading.{◌>>=◌, pick, same}
 use Rattle.esm_grammar.specs.Strings.{Body}
@@ -72,9 +72,6 @@ gap (c ∷ cs) =
 -- how many bytes characters take
 abbrev pub widths : List ℕ → ℕ
 widths = sum_by (λ c. length (encode_utf8 c))
-
-abbrev pub lexeme : TokenKind → ℕ → ℕ → Bool → Terminal → List ℕ → Lexeme
-lexeme kind from to newline terminal text = record { terminal = terminal; text = text; token = record { kind = kind; from = from; to = to; newline_before = newline } }
 
 -- The tokens of what is left of a text of so many bytes, up to the end (true) or a place where no token can be read (false).
 -- A place in the bytes is told by what is left. The flag before the characters tells that a line terminator stands before.

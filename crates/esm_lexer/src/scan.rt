@@ -1,6 +1,5 @@
 // The tokens of a text, one after another.
-ghost use Rattle.std.specs.Prelude.{◌≡◌, ◌≢◌, ◌+◌, ◌*◌, ◌<◌, ◌≤◌, ◌||◌, ℕ, List, true, false, chars, map, length, drop, slice_index, IfOk, MatchOption, MatchResult, IsUtf8, Ok, Err};
-ghost use Rattle.std.specs.Arc.{arc_value};
+ghost use Rattle.std.specs.Prelude.{◌≡◌, ◌≢◌, ◌+◌, ◌*◌, ◌<◌, ◌≤◌, ◌||◌, ℕ, List, true, false, chars, map, length, drop, slice_index, encode_utf8_all, IfOk, MatchOption, MatchResult, IsUtf8, Ok, Err};
 ghost use Rattle.esm_base.specs.declared.end.End.TheVariants as end;
 ghost use Rattle.esm_base.specs.declared.fault.TextFault.TheVariants as fault;
 ghost use Rattle.esm_grammar.specs.Characters as characters;
@@ -8,23 +7,25 @@ ghost use Rattle.esm_grammar.specs.Reading.{same};
 ghost use Rattle.esm_grammar.specs.Lexes as lexes;
 ghost use Rattle.esm_grammar.specs.Lexes.{NoToken, Longest, Lexes, AreTokens};
 ghost use Rattle.esm_lexer.specs.Tokens.{IsFound, IsRefusal, AreTokensOf, token_of};
-ghost use Rattle.esm_tree.specs.declared.lexeme.Lexeme.{Lexeme};
+ghost use Rattle.esm_tree.specs.Lexeme.{Lexeme};
 
 use crate::characters::{are, continues, either, is_quote, starts};
+use crate::front::front;
 use crate::gaps::{gap, line_len};
-use crate::literal::{literal, text_of};
+use crate::literal::literal;
 use crate::signs::sign;
 use crate::words::word_terminal;
-use esm_base::{Memory, ReadEnd, Text, TextFault};
+use bumpalo::Bump;
+use esm_base::{Memory, ReadEnd, TextFault};
 use esm_tree::{Lexeme, Terminal, Token, TokenKind};
 use std::alloc::Global;
 
 // A token that was found at the front of a text.
-#[derive(Drop)]
-struct Found {
+#[derive(Clone, Copy)]
+struct Found<'a> {
     kind: TokenKind,
     terminal: Terminal,
-    text: Text,
+    text: &'a str,
     len: usize,
 }
 
@@ -42,29 +43,35 @@ fn run_len(text: &[char]) -> usize
     text.len()
 }
 
-fn word_at(alloc: Global, text: &[char]) -> Result<Found, Memory>
+fn word_at<'a>(source: &'a str, text: &[char]) -> Found<'a>
     requires there { 0 < length text.now }
     requires word { characters.starts (slice_index text.now 0) ≡ true }
-    ensures { IfOk result (λ found. IsFound text.now found.kind found.terminal found.text found.len) }
+    requires source { source.now ≡ encode_utf8_all text.now }
+    ensures { IsFound text.now result.kind result.terminal result.text.now result.len }
 {
     let len = run_len(&text[1..]) + 1;
-    let spelled = text_of(alloc, &text[..len])?;
-    let terminal = word_terminal(spelled.as_str());
-    Ok(Found {
+    let (spelled, _) = front(source, text, len);
+    Found {
         kind: TokenKind::Word,
-        terminal,
+        terminal: word_terminal(spelled),
         text: spelled,
         len,
-    })
+    }
 }
 
-fn literal_at(alloc: Global, text: &[char]) -> Result<Option<Found>, Memory>
+fn literal_at<'a>(
+    alloc: Global,
+    arena: &'a Bump,
+    source: &'a str,
+    text: &[char],
+) -> Result<Option<Found<'a>>, Memory>
     requires there { 0 < length text.now }
     requires no_word { characters.starts (slice_index text.now 0) ≡ false }
     requires quote { characters.is_quote (slice_index text.now 0) ≡ true }
-    ensures { IfOk result (λ r. MatchOption r (NoToken text.now) (λ found. IsFound text.now found.kind found.terminal found.text found.len)) }
+    requires source { source.now ≡ encode_utf8_all text.now }
+    ensures { IfOk result (λ r. MatchOption r (NoToken text.now) (λ found. IsFound text.now found.kind found.terminal found.text.now found.len)) }
 {
-    match literal(alloc, text)? {
+    match literal(alloc, arena, source, text)? {
         Some((value, len)) => Ok(Some(Found {
             kind: TokenKind::Literal,
             terminal: Terminal::Literal,
@@ -75,79 +82,79 @@ fn literal_at(alloc: Global, text: &[char]) -> Result<Option<Found>, Memory>
     }
 }
 
-fn sign_at(alloc: Global, text: &[char]) -> Result<Option<Found>, Memory>
+fn sign_at<'a>(text: &[char]) -> Option<Found<'a>>
     requires there { 0 < length text.now }
     requires no_word { characters.starts (slice_index text.now 0) ≡ false }
     requires no_quote { characters.is_quote (slice_index text.now 0) ≡ false }
-    ensures { IfOk result (λ r. MatchOption r (NoToken text.now) (λ found. IsFound text.now found.kind found.terminal found.text found.len)) }
+    ensures { MatchOption result (NoToken text.now) (λ found. IsFound text.now found.kind found.terminal found.text.now found.len) }
 {
     match sign(text) {
-        Some((terminal, len)) => Ok(Some(Found {
+        Some((terminal, len)) => Some(Found {
             kind: TokenKind::Sign,
             terminal,
-            text: text_of(alloc, &[])?,
+            text: "",
             len,
-        })),
-        None => Ok(None),
+        }),
+        None => None,
     }
 }
 
 // The longest token at the front.
-fn token_at(alloc: Global, text: &[char]) -> Result<Option<Found>, Memory>
-    requires { 0 < length text.now }
-    ensures { IfOk result (λ r. MatchOption r (NoToken text.now) (λ found. IsFound text.now found.kind found.terminal found.text found.len)) }
+fn token_at<'a>(
+    alloc: Global,
+    arena: &'a Bump,
+    source: &'a str,
+    text: &[char],
+) -> Result<Option<Found<'a>>, Memory>
+    requires there { 0 < length text.now }
+    requires source { source.now ≡ encode_utf8_all text.now }
+    ensures { IfOk result (λ r. MatchOption r (NoToken text.now) (λ found. IsFound text.now found.kind found.terminal found.text.now found.len)) }
 {
     if starts(text[0]) {
-        let found = word_at(alloc, text)?;
-        return Ok(Some(found));
+        return Ok(Some(word_at(source, text)));
     }
     if is_quote(text[0]) {
-        literal_at(alloc, text)
+        literal_at(alloc, arena, source, text)
     } else {
-        sign_at(alloc, text)
+        Ok(sign_at(text))
     }
-}
-
-// How many bytes the characters take.
-fn width(text: &[char]) -> usize
-    ensures { result ≡ lexes.widths text.now }
-{
-    let mut n = 0;
-    for c in text {
-        n += c.len_utf8();
-    }
-    n
 }
 
 // The tokens of characters at the end of a text of so many bytes, and whether all was read.
-fn scan(alloc: Global, total: usize, text: &[char]) -> Result<(Vec<Lexeme>, bool), Memory>
+fn scan<'a>(
+    alloc: Global,
+    arena: &'a Bump,
+    total: usize,
+    source: &'a str,
+    text: &[char],
+) -> Result<(Vec<Lexeme<'a>>, bool), Memory>
+    requires short { total < 4294967296 }
+    requires source { source.now ≡ encode_utf8_all text.now }
     ensures { IfOk result (λ r. Lexes total false text.now r.0.items r.1) }
 {
-    let mut found: Vec<Lexeme> = Vec::new(alloc);
+    let mut found: Vec<Lexeme<'a>> = Vec::new(alloc);
     let mut at = 0;
-    let mut left = width(text);
+    let mut left = source;
     let mut newline = false;
     while at < text.len() {
         let rest = &text[at..];
         match gap(rest) {
             Some((n, ends_line)) => {
-                left -= width(&rest[..n]);
+                let (_, behind) = front(left, rest, n);
+                left = behind;
                 at += n;
                 newline = either(newline, ends_line);
             }
-            None => match token_at(alloc, rest)? {
+            None => match token_at(alloc, arena, left, rest)? {
                 Some(token) => {
-                    let behind = left - width(&rest[..token.len]);
-                    found.push(Lexeme {
-                        terminal: token.terminal,
-                        text: token.text,
-                        token: Token {
-                            kind: token.kind,
-                            from: total.saturating_sub(left),
-                            to: total.saturating_sub(behind),
-                            newline_before: newline,
-                        },
-                    })?;
+                    let (_, behind) = front(left, rest, token.len);
+                    let place = Token {
+                        kind: token.kind,
+                        from: total.saturating_sub(left.len()),
+                        to: total.saturating_sub(behind.len()),
+                        newline_before: newline,
+                    };
+                    found.push(Lexeme::new(token.terminal, token.text, place))?;
                     left = behind;
                     at += token.len;
                     newline = false;
@@ -193,21 +200,35 @@ fn without_mark(bytes: &[u8]) -> &[u8]
     }
 }
 
-fn lexemes_of(alloc: Global, total: usize, text: &str) -> Result<(Vec<Lexeme>, bool), Memory>
+fn lexemes_of<'a>(
+    alloc: Global,
+    arena: &'a Bump,
+    total: usize,
+    text: &'a str,
+) -> Result<(Vec<Lexeme<'a>>, bool), Memory>
+    requires { total < 4294967296 }
     ensures { IfOk result (λ r. Lexes total false (drop (lexes.hashbang_len (chars text.now)) (chars text.now)) r.0.items r.1) }
 {
     let characters = chars_of(alloc, text)?;
     let begin = hashbang_len(&characters);
-    scan(alloc, total, &characters[begin..])
+    let (_, source) = front(text, &characters, begin);
+    scan(alloc, arena, total, source, &characters[begin..])
 }
 
 /// The tokens of a text as the grammar sees them, up to the end, or up to a place where no token can be read (false).
 /// The fault is P1, exactly where the bytes aren't UTF-8.
-pub fn lexemes(alloc: Global, bytes: &[u8]) -> Result<(Vec<Lexeme>, bool), ReadEnd>
+///
+/// What a token spells is a slice of the bytes; what a string literal with escapes stands for is put into the arena.
+pub fn lexemes<'a>(
+    alloc: Global,
+    arena: &'a Bump,
+    bytes: &'a [u8],
+) -> Result<(Vec<Lexeme<'a>>, bool), ReadEnd>
+    requires { length bytes.now < 4294967296 }
     ensures { MatchResult result (λ r. AreTokens bytes.now r.0.items r.1) (IsRefusal bytes.now) }
 {
     match str::from_utf8(without_mark(bytes)) {
-        Ok(text) => match lexemes_of(alloc, bytes.len(), text) {
+        Ok(text) => match lexemes_of(alloc, arena, bytes.len(), text) {
             Ok(found) => Ok(found),
             Err(_) => Err(ReadEnd::Memory),
         },
@@ -273,7 +294,7 @@ pub fn nests_too_deep(lexemes: &[Lexeme]) -> bool
     let mut depth = 0;
     let mut nots = 0;
     for lexeme in lexemes {
-        let terminal = lexeme.terminal;
+        let terminal = lexeme.terminal();
         depth = depth_behind(depth, terminal);
         nots = nots_behind(nots, terminal);
         if depth > 64 {
@@ -291,26 +312,42 @@ fn tokens_of(alloc: Global, lexemes: &[Lexeme]) -> Result<Vec<Token>, Memory>
 {
     let mut found = Vec::new(alloc);
     for lexeme in lexemes {
-        found.push(lexeme.token)?;
+        found.push(lexeme.token())?;
     }
     Ok(found)
 }
 
+// The tokens of a text whose places are below 4 GiB.
+fn short_tokens(alloc: Global, bytes: &[u8]) -> Result<Vec<Token>, ReadEnd>
+    requires { length bytes.now < 4294967296 }
+    ensures { AreTokensOf bytes.now result }
+{
+    let arena = Bump::new(alloc);
+    match lexemes(alloc, &arena, bytes) {
+        Ok((found, whole)) => {
+            if nests_too_deep(&found) {
+                return Err(ReadEnd::Fault(TextFault::P4));
+            }
+            if !whole {
+                return Err(ReadEnd::Fault(TextFault::P2));
+            }
+            match tokens_of(alloc, &found) {
+                Ok(tokens) => Ok(tokens),
+                Err(_) => Err(ReadEnd::Memory),
+            }
+        }
+        Err(end) => Err(end),
+    }
+}
+
 /// The tokens of a text. P1 comes exactly where the bytes aren't UTF-8. P4 comes exactly where they are, and in the
 /// tokens before the first place where no token can be read the nesting limit is passed. P2 comes exactly where neither
-/// does and there is such a place.
+/// does and there is such a place. A text of 4 GiB or more is refused for want of memory.
 pub fn tokens(alloc: Global, bytes: &[u8]) -> Result<Vec<Token>, ReadEnd>
     ensures { AreTokensOf bytes.now result }
 {
-    let (found, whole) = lexemes(alloc, bytes)?;
-    if nests_too_deep(&found) {
-        return Err(ReadEnd::Fault(TextFault::P4));
+    if bytes.len() > u32::MAX as usize {
+        return Err(ReadEnd::Memory);
     }
-    if !whole {
-        return Err(ReadEnd::Fault(TextFault::P2));
-    }
-    match tokens_of(alloc, &found) {
-        Ok(tokens) => Ok(tokens),
-        Err(_) => Err(ReadEnd::Memory),
-    }
+    short_tokens(alloc, bytes)
 }
