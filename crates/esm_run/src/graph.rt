@@ -1,5 +1,6 @@
 // The run of a graph of modules: a machine driven from a source.
 ghost use Rattle.std.specs.Prelude.{◌≡◌, ◌+◌, ◌++◌, [], ℕ, List, IfOk, IfSome, OnOk, is_some, MatchOption, MatchResult, true, length};
+ghost use Rattle.esm_import_map.specs.ImportMap.{no_maps};
 ghost use Rattle.esm_ast.specs.Outcome.{completion_of};
 ghost use Rattle.esm_base.specs.Urls.{Url, has, is_usable};
 ghost use Rattle.esm_load.specs.Completion.{seen};
@@ -14,9 +15,11 @@ use crate::fetch::fetch_outcome;
 use crate::report::Delivery;
 use esm_ast::Outcome;
 use esm_base::{Memory, Status, Text};
+use esm_import_map::ImportMap;
 use esm_ports::Source;
 use esm_turn::{Machine, TurnEnd, laws};
 use std::alloc::Global;
+use std::sync::Arc;
 
 // How a run ends, and what it writes.
 #[derive(Drop)]
@@ -28,9 +31,10 @@ pub(crate) struct Ending {
 // A machine that has asked for the entry.
 fn new_machine(alloc: Global, entry: &Text) -> Result<Machine, Memory>
     requires { is_usable entry.now ≡ true }
-    ensures { IfOk result (λ m. Stands entry.now m []) }
+    ensures { IfOk result (λ m. Stands no_maps entry.now m []) }
 {
-    Machine::new(alloc, entry.clone()?)
+    let map = Arc::new(alloc, ImportMap::empty(alloc))?;
+    Machine::new(alloc, map, entry.clone()?)
 }
 
 // The first open ask, if there is one.
@@ -130,7 +134,7 @@ fn with_last_line(text: Vec<u8>, line: &Text) -> Result<Vec<u8>, Memory>
 // The status and the text of a machine's run that has ended.
 pub(crate) fn ending_of_run(alloc: Global, machine: &Machine) -> Result<Ending, Memory>
     requires { is_some (ending_of machine.now) ≡ true }
-    ensures { (entry : Url) (deliveries : List runs.Delivery) (what : Shown) → Stands entry machine.now deliveries → StandardRun entry deliveries what → IfOk result (IsEndingOf what) }
+    ensures { (entry : Url) (deliveries : List runs.Delivery) (what : Shown) → Stands no_maps entry machine.now deliveries → StandardRun no_maps entry deliveries what → IfOk result (IsEndingOf what) }
 {
     let Some(status) = machine.end() else {
         unreachable!();

@@ -11,7 +11,6 @@ use Rattle.esm_realm.specs.Walk.Mark.{Enter, Pass, Leave}
 use Rattle.esm_realm.proofs.Urls.{same_text, or_true, or_left, or_cases, has_own}
 use Rattle.esm_realm.proofs.WalkBy.{walk_found}
 use Rattle.esm_load.specs.Completion.{Spelled}
-use Rattle.esm_load.specs.Specifier.{resolution_of_specifier}
 use Rattle.esm_load.specs.Table.{targets_of}
 use Rattle.esm_turn.specs.Bodies.{run_bodies, opening_bodies}
 use Rattle.esm_turn.specs.Direct.{Closure, IsClean, DirectRun, MeetsNoLimit, file_targets, file_body}
