@@ -7,7 +7,7 @@ mod lookup;
 mod resolving;
 
 pub use fault::{SpecEnd, SpecFault};
-pub use resolving::resolve;
+pub use resolving::{resolve, resolve_against};
 
 #[cfg(test)]
 mod tests;
