@@ -32,8 +32,7 @@ pub struct Hlock<T: Story + Drop> {
     ghost sized: { (table.shared.table_id.words ≡ 3) × (table.shared.table_id.slots ≡ 1) },
 }
 
-/// A lock was closed while a `Held` was out: the tickets from `serving` up to `ticket` were drawn,
-/// and their turns haven't ended.
+/// A lock was closed while a `Held` was out. The two words differ, and `serving` is the lesser.
 #[derive(Clone, Copy, Debug, PartialEq, Eq)]
 pub struct Busy {
     /// The next ticket.
@@ -145,9 +144,12 @@ impl<T: Story + Drop> Hlock<T> {
         PassOf { seat }
     }
 
-    /// Ends the lock, and gives the state back exactly where the served ticket is the next one. Else
-    /// a `Held` wasn't left, and what the lock still has is dropped. A pass with all shares always
-    /// gets the state. It takes no memory.
+    /// Ends the lock, and gives the state back where the served ticket is the next one. Else a `Held`
+    /// wasn't left, and what the lock still has is dropped. A pass with all shares always gets the
+    /// state. It takes no memory.
+    ///
+    /// The clause `exact` says that some table which keeps the rule has these two words and this
+    /// pass; that it is this lock's table is read off the code.
     pub fn close(self, pass: Pass<T>) -> Result<T, Busy>
         requires { IsPassOf self pass }
         ensures seen { IfOk result (λ state. Continues T.maker (T.story state) (knows pass).seen (knows pass).number) }
