@@ -1,29 +1,20 @@
-// The run of a graph of modules: a machine driven from a source.
-ghost use Rattle.std.specs.Prelude.{◌≡◌, ◌+◌, ◌++◌, [], ℕ, List, IfOk, IfSome, OnOk, is_some, MatchOption, MatchResult, true, length};
+// Drives a machine from a source.
+ghost use Rattle.std.specs.Prelude.{◌≡◌, ◌+◌, [], true, IfOk, IfSome, OnOk, length, slice_get};
 ghost use Rattle.esm_ast.specs.Outcome.{completion_of};
-ghost use Rattle.esm_base.specs.Urls.{Url, has, is_usable};
+ghost use Rattle.esm_realm.specs.Urls.{Url, has};
 ghost use Rattle.esm_load.specs.Completion.{seen};
-ghost use Rattle.esm_turn.specs.Run.{Shown, StandardRun};
-ghost use Rattle.esm_turn.specs.Run as runs;
-ghost use Rattle.esm_turn.specs.Stands.{Stands, StandsOn, asks_of, ending_of};
+ghost use Rattle.esm_load.specs.Specifier.{is_usable};
+ghost use Rattle.esm_turn.specs.Stands.{Stands, StandsOn, asks_of};
 ghost use Rattle.esm_run.specs.Taken.{arrivals_of};
-ghost use Rattle.esm_run.specs.Written.{last_text};
-ghost use Rattle.esm_run.specs.Driving.{IsOpenAsk, IsDriven, IsShort, DrivesOn, IsEndingOf};
+ghost use Rattle.esm_run.specs.Inner.Driving.{IsAmong, IsOpenAsk, Drives, DrivesOn, IsDriven};
 
 use crate::fetch::fetch_outcome;
 use crate::report::Delivery;
 use esm_ast::Outcome;
-use esm_base::{Memory, Status, Text};
+use esm_base::{Memory, Text};
 use esm_ports::Source;
 use esm_turn::{Machine, TurnEnd, laws};
 use std::alloc::Global;
-
-// How a run ends, and what it writes.
-#[derive(Drop)]
-pub(crate) struct Ending {
-    pub status: Status,
-    pub text: Vec<u8>,
-}
 
 // A machine that has asked for the entry.
 fn new_machine(alloc: Global, entry: &Text) -> Result<Machine, Memory>
@@ -35,7 +26,8 @@ fn new_machine(alloc: Global, entry: &Text) -> Result<Machine, Memory>
 
 // The first open ask, if there is one.
 fn first_ask(alloc: Global, machine: &Machine) -> Result<Option<Text>, Memory>
-    ensures found { IfOk result (λ found. MatchOption found (asks_of machine.now ≡ []) (λ url. has (asks_of machine.now) url ≡ true)) }
+    ensures first { IfOk result (λ found. found ≡ slice_get (asks_of machine.now) 0) }
+    ensures found { IfOk result (IsAmong (asks_of machine.now)) }
     ensures open { IfOk result (λ found. IfSome found (IsOpenAsk machine.now)) }
 {
     match machine.asks() {
@@ -44,10 +36,11 @@ fn first_ask(alloc: Global, machine: &Machine) -> Result<Option<Text>, Memory>
     }
 }
 
-// Has the machine take what came of an open ask. A limit that it passes stops it.
+// Delivers one completed fetch to the machine. A limit that is reached stops the machine and is no error here.
 fn hand_over(machine: &mut Machine, url: &Text, outcome: &Outcome) -> Result<(), Memory>
     requires { has (asks_of machine.old) url.now ≡ true }
-    ensures { OnOk result (StandsOn machine.old url.now (seen (completion_of outcome.now)) machine.new) }
+    ensures { OnOk result
+        (StandsOn machine.old url.now (seen (completion_of outcome.now)) machine.new) }
 {
     match machine.deliver(url, outcome) {
         Ok(()) => Ok(()),
@@ -56,7 +49,7 @@ fn hand_over(machine: &mut Machine, url: &Text, outcome: &Outcome) -> Result<(),
     }
 }
 
-// Fetches an open ask from the source, and has the machine take what came.
+// Fetches an open ask from the source, and delivers what came to the machine.
 fn take_delivery<S: Source>(
     alloc: Global,
     source: &mut S,
@@ -66,7 +59,11 @@ fn take_delivery<S: Source>(
 ) -> Result<(), Memory>
     requires found { has (asks_of machine.old) url ≡ true }
     requires open { IsOpenAsk machine.old url }
-    ensures drives { (entry : Url) → IsDriven entry (S.holds source.old) (S.asked source.old) machine.old (arrivals_of taken.old.items) → DrivesOn entry (S.holds source.old) result (S.asked source.new) machine.new (arrivals_of taken.new.items) }
+    ensures drives { (entry : Url)
+        → IsDriven entry (S.holds source.old) (S.asked source.old) machine.old
+            (arrivals_of taken.old.items)
+        → DrivesOn entry (S.holds source.old) result (S.asked source.new) machine.new
+            (arrivals_of taken.new.items) }
     ensures holds { S.holds source.new ≡ S.holds source.old }
     ensures more { OnOk result (length taken.new.items ≡ length taken.old.items + 1) }
 {
@@ -92,7 +89,8 @@ pub(crate) fn drive<S: Source>(
     requires usable { is_usable entry.now ≡ true }
     requires fresh { S.asked source.old ≡ [] }
     requires nothing { taken.old.items ≡ [] }
-    ensures drives { MatchResult result (λ m. IsDriven entry.now (S.holds source.old) (S.asked source.new) m (arrivals_of taken.new.items) × (asks_of m ≡ [])) (λ _. IsShort entry.now (S.holds source.old) (S.asked source.new) (arrivals_of taken.new.items)) }
+    ensures drives { Drives entry.now (S.holds source.old) (S.asked source.new)
+        (arrivals_of taken.new.items) result }
     ensures holds { S.holds source.new ≡ S.holds source.old }
 {
     laws::deliveries();
@@ -110,33 +108,4 @@ pub(crate) fn drive<S: Source>(
             return Err(Memory);
         };
     }
-}
-
-// The text with the last line and its line feed behind it; an empty line adds nothing.
-fn with_last_line(text: Vec<u8>, line: &Text) -> Result<Vec<u8>, Memory>
-    ensures { IfOk result (λ whole. whole.items ≡ text.items ++ last_text line.now) }
-{
-    let mut text = text;
-    match line.as_str().as_bytes() {
-        [] => Ok(text),
-        bytes => {
-            text.extend_from_slice(bytes)?;
-            text.push(b'\n')?;
-            Ok(text)
-        }
-    }
-}
-
-// The status and the text of a machine's run that has ended.
-pub(crate) fn ending_of_run(alloc: Global, machine: &Machine) -> Result<Ending, Memory>
-    requires { is_some (ending_of machine.now) ≡ true }
-    ensures { (entry : Url) (deliveries : List runs.Delivery) (what : Shown) → Stands entry machine.now deliveries → StandardRun entry deliveries what → IfOk result (IsEndingOf what) }
-{
-    let Some(status) = machine.end() else {
-        unreachable!();
-    };
-    let log = Vec::from_slice(alloc, machine.log())?;
-    let last = machine.last_line()?;
-    let text = with_last_line(log, &last)?;
-    Ok(Ending { status, text })
 }
