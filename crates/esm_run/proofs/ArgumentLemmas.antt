@@ -1,6 +1,6 @@
 -- Reading the command-line arguments.
 use Rattle.std.proofs.Common.{◌≡◌, ◌≢◌, ap, subst, refl, List, [], ◌∷◌, length, map, arith}
-use Rattle.std.specs.Prelude.{codes, Option, Some, None, Bool, true, false, not, ◌&&◌, bytes_eq, string_bytes, String, if◌then◌else◌}
+use Rattle.std.specs.Prelude.{codes, Option, Some, None, Bool, true, false, ◌&&◌, bytes_eq, string_bytes, String, if◌then◌else◌}
 use Rattle.url.specs.Parts.{Parts, serialize}
 use Rattle.esm_realm.specs.Urls.{Text}
 use Rattle.esm_realm.specs.Usable.{is_usable}

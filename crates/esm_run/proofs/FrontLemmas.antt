@@ -8,7 +8,7 @@ use Rattle.std.proofs.Math.Seq.{take-suc, drop-append_seam}
 use lib.Pointwise.{pointwise}
 use Rattle.esm_ast.specs.declared.item.Item.{Item}
 use Rattle.esm_ast.specs.declared.item.Item.TheVariants.{Print, Import}
-use Rattle.esm_ast.specs.ModuleText.{IsPlain, quoted, item_bytes, end_bytes, BeginsWith, IsItem}
+use Rattle.esm_ast.specs.ModuleText.{IsPlain, item_bytes, end_bytes, IsItem}
 use Rattle.esm_ast.specs.Laws.{BeginWithOneItem}
 use Rattle.esm_run.specs.SmallReader.{BeginsWithQuote, IsBetween, HasNoneBetween, IsFront, HasNoFront, HasNoEnd, IsEnded, HasNoItem}
 

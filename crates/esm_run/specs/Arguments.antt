@@ -1,5 +1,5 @@
 -- The command that command-line arguments are.
-use Rattle.std.specs.Prelude.{ℕ, List, [], ◌∷◌, codes, nat_eq, bytes_eq, Bool, not, ◌&&◌, ◌||◌, Option, None, Some, if◌then◌else◌}
+use Rattle.std.specs.Prelude.{List, [], ◌∷◌, codes, nat_eq, bytes_eq, Bool, not, ◌&&◌, ◌||◌, Option, None, Some, if◌then◌else◌}
 use Rattle.std.specs.List.{starts_with}
 use Rattle.url.specs.Parts.{Parts, serialize}
 use Rattle.esm_realm.specs.Urls.{Text}

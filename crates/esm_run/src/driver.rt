@@ -61,9 +61,9 @@ fn take_delivery<S: Source>(
     requires open { IsOpenAsk machine.old url }
     ensures drives { (entry : Url)
         → IsDriven entry (S.holds source.old) (S.asked source.old) machine.old
-            (arrivals_of taken.old.items)
+        (arrivals_of taken.old.items)
         → DrivesOn entry (S.holds source.old) result (S.asked source.new) machine.new
-            (arrivals_of taken.new.items) }
+        (arrivals_of taken.new.items) }
     ensures holds { S.holds source.new ≡ S.holds source.old }
     ensures more { OnOk result (length taken.new.items ≡ length taken.old.items + 1) }
 {

@@ -82,15 +82,13 @@ pub fn add_named(
     )
 }
 
-// The files of a site: `NAME=BODY`, with `|` between them.
-pub fn site(alloc: Global, text: &str) -> Result<Vec<(Text, Vec<u8>)>, Memory>
+// The files of a site below `https://a.test/`: the name of each, and its text.
+pub fn site(alloc: Global, named: &[(&str, &str)]) -> Result<Vec<(Text, Vec<u8>)>, Memory>
     ensures { IfOk result (λ files. HasDistinctUrls files.items) }
 {
     let mut files = Vec::new(alloc);
-    for file in text.split('|') {
-        if let Some((name, body)) = file.split_once('=') {
-            add_named(alloc, &mut files, name, body)?;
-        }
+    for (name, text) in named {
+        add_named(alloc, &mut files, name, text)?;
     }
     Ok(files)
 }

@@ -11,9 +11,13 @@ mod graphs;
 #[cfg(test)]
 mod helpers;
 #[cfg(test)]
+mod orders;
+#[cfg(test)]
 mod ports;
 #[cfg(test)]
 mod runs;
+#[cfg(test)]
+mod sites;
 
 use esm_ports::{SureSink, SureSource};
 use esm_run::{RunReport, run};

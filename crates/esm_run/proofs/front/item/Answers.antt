@@ -1,4 +1,4 @@
-use Rattle.esm_run.proofs.FrontLemmas.{item_of_parts, no_item, no_item_of_front}
+use Rattle.esm_run.proofs.FrontLemmas.{item_of_parts, no_item}
 use Rattle.esm_run.proofs.front.item.Goals as goal
 
 pub returns-in-Some-behind_end : goal.returns-in-Some-behind_end
