@@ -2,10 +2,9 @@
 use Rattle.std.proofs.Common.{◌≡◌, ◌≢◌, ap, subst, refl, List, [], ◌∷◌, length, map, arith}
 use Rattle.std.specs.Prelude.{codes, Option, Some, None, Bool, true, false, ◌&&◌, bytes_eq, string_bytes, String, if◌then◌else◌}
 use Rattle.url.specs.Parts.{Parts, serialize}
-use Rattle.esm_realm.specs.Urls.{Text}
-use Rattle.esm_realm.specs.Usable.{is_usable}
+use Rattle.esm_base.specs.Urls.{Text, is_usable, url_of}
 use Rattle.esm_run.specs.declared.arguments.Command.{Command}
-use Rattle.esm_run.specs.Arguments.{url_of, is_position, usable_text, command_with, command_on, command_of}
+use Rattle.esm_run.specs.Arguments.{is_position, usable_text, command_with, command_on, command_of}
 
 -- another number of words than three is no command
 pub other_words : {Z : Type 0} (words : List (String Z)) → length words ≢ 3 → None ≡ command_of (map string_bytes words)

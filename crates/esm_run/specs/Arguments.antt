@@ -2,13 +2,8 @@
 use Rattle.std.specs.Prelude.{List, [], ◌∷◌, codes, nat_eq, bytes_eq, Bool, not, ◌&&◌, ◌||◌, Option, None, Some, if◌then◌else◌}
 use Rattle.std.specs.List.{starts_with}
 use Rattle.url.specs.Parts.{Parts, serialize}
-use Rattle.esm_realm.specs.Urls.{Text}
-use Rattle.esm_realm.specs.Usable.{is_usable, parsed}
-use Rattle.url.specs.Parser.{parse_url}
+use Rattle.esm_base.specs.Urls.{Text, is_usable, url_of}
 use Rattle.esm_run.specs.declared.arguments.Command.{Command}
-
-abbrev pub url_of : Option Parts → Text → Option Parts
-url_of base text = parsed (parse_url base text)
 
 -- own: a word that isn't empty, and doesn't begin with `-` unless it is `-` alone
 abbrev pub is_position : Text → Bool
@@ -33,5 +28,6 @@ command_on (Some base) entry =
 -- own: `run BASE ENTRY`, where BASE is an absolute URL and ENTRY a URL against it, and both are usable
 abbrev pub command_of : List Text → Option Command
 command_of (first ∷ base ∷ entry ∷ []) =
-    if bytes_eq first (codes "run") && is_position base && is_position entry then command_on (url_of None base) entry else None
+    if bytes_eq first (codes "run") && is_position base && is_position entry
+    then command_on (url_of None base) entry else None
 command_of _ = None

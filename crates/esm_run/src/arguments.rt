@@ -1,14 +1,11 @@
 // Reads the command-line arguments.
-ghost use Rattle.std.specs.Prelude.{◌≡◌, ◌&&◌, None, Some, IfOk, map, string_bytes, codes, bytes_eq};
-ghost use Rattle.url.specs.Parser.{parse_url};
-ghost use Rattle.esm_realm.specs.Usable.{is_usable as usable, parsed};
+ghost use Rattle.std.specs.Prelude.{◌≡◌, ◌&&◌, None, IfOk, map, string_bytes, codes, bytes_eq};
+ghost use Rattle.esm_base.specs.Urls.{url_of};
 ghost use Rattle.esm_run.specs.Arguments as spec;
 
-use esm_base::{Memory, Text};
+use esm_base::{Memory, Text, is_usable, parse_absolute, parse_against};
 use std::alloc::Global;
-use url::{ParseError, Url};
-
-const LONGEST: usize = 8192;
+use url::Url;
 
 /// What is to be run.
 #[derive(Drop)]
@@ -17,41 +14,6 @@ pub struct Command {
     pub base: Url,
     /// The URL of the entry.
     pub entry: Text,
-}
-
-// Reads an absolute URL.
-fn parse_absolute(alloc: Global, text: &str) -> Result<Option<Url>, Memory>
-    ensures { IfOk result (λ url. url ≡ spec.url_of None text.now) }
-{
-    match Url::parse(alloc, text) {
-        Ok(url) => Ok(Some(url)),
-        Err(ParseError::OutOfMemory | ParseError::Overflow) => Err(Memory),
-        Err(_) => Ok(None),
-    }
-}
-
-// Reads a URL against a base.
-fn parse_against(base: &Url, text: &str) -> Result<Option<Url>, Memory>
-    ensures { IfOk result (λ url. url ≡ spec.url_of (Some base.now) text.now) }
-{
-    match base.join(text) {
-        Ok(url) => Ok(Some(url)),
-        Err(ParseError::OutOfMemory | ParseError::Overflow) => Err(Memory),
-        Err(_) => Ok(None),
-    }
-}
-
-// Whether a text is canonical and short enough.
-fn is_usable(alloc: Global, text: &str) -> Result<bool, Memory>
-    ensures { IfOk result (λ b. b ≡ usable text.now) }
-{
-    if text.len() > LONGEST {
-        return Ok(false);
-    }
-    match parse_absolute(alloc, text)? {
-        Some(url) => Ok(url.as_str() == text),
-        None => Ok(false),
-    }
 }
 
 // Whether a word may stand as a position.
@@ -80,7 +42,8 @@ fn read_positions(
     base_word: &str,
     entry_word: &str,
 ) -> Result<Option<Command>, Memory>
-    ensures { IfOk result (λ found. found ≡ spec.command_on (spec.url_of None base_word.now) entry_word.now) }
+    ensures { IfOk result (λ found.
+        found ≡ spec.command_on (url_of None base_word.now) entry_word.now) }
 {
     let Some(base) = parse_absolute(alloc, base_word)? else {
         return Ok(None);

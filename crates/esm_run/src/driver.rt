@@ -1,9 +1,8 @@
 // Drives a machine from a source.
 ghost use Rattle.std.specs.Prelude.{◌≡◌, ◌+◌, [], true, IfOk, IfSome, OnOk, length, slice_get};
 ghost use Rattle.esm_ast.specs.Outcome.{completion_of};
-ghost use Rattle.esm_realm.specs.Urls.{Url, has};
+ghost use Rattle.esm_base.specs.Urls.{Url, has, is_usable};
 ghost use Rattle.esm_load.specs.Completion.{seen};
-ghost use Rattle.esm_load.specs.Specifier.{is_usable};
 ghost use Rattle.esm_turn.specs.Stands.{Stands, StandsOn, asks_of};
 ghost use Rattle.esm_run.specs.Taken.{arrivals_of};
 ghost use Rattle.esm_run.specs.Inner.Driving.{IsAmong, IsOpenAsk, Drives, DrivesOn, IsDriven};

@@ -1,6 +1,6 @@
 // How a run ends: its status, its text, and writing it.
 ghost use Rattle.std.specs.Prelude.{◌≡◌, ◌≢◌, ◌<◌, ◌-◌, ◌^◌, ◌++◌, List, IfOk, Some, is_some, true};
-ghost use Rattle.esm_realm.specs.Urls.{Url};
+ghost use Rattle.esm_base.specs.Urls.{Url};
 ghost use Rattle.esm_turn.specs.Run.{Shown, StandardRun};
 ghost use Rattle.esm_turn.specs.Run as runs;
 ghost use Rattle.esm_turn.specs.Stands.{Stands, ending_of};
