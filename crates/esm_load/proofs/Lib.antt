@@ -36,3 +36,4 @@ pub mod NoLimit
 pub mod Arrived
 pub mod Settled
 pub mod Stored
+pub mod HasLoad

@@ -33,10 +33,11 @@ fn outcome_at(taken: &[Delivery], url: &Text) -> Result<Outcome, Memory> {
 fn ask_at(machine: &Machine, place: usize) -> Result<Option<Text>, Memory>
     ensures { IfOk result (λ found. IfSome found (MayTake machine.now)) }
 {
-    match machine.asks().get(place) {
-        Some(url) => Ok(Some(url.clone()?)),
-        None => Ok(None),
+    let asks = machine.asks();
+    if place >= asks.len() {
+        return Ok(None);
     }
+    Ok(Some(asks[place].clone()?))
 }
 
 // Delivers the open ask at a place. `false` where there is none.
