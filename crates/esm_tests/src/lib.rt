@@ -11,6 +11,8 @@ mod graphs;
 #[cfg(test)]
 mod helpers;
 #[cfg(test)]
+mod maps;
+#[cfg(test)]
 mod orders;
 #[cfg(test)]
 mod ports;
