@@ -4,6 +4,8 @@ ghost use Rattle.esm_ast.specs.Outcome.{completion_of};
 ghost use Rattle.esm_base.specs.Limits.{limit_name};
 ghost use Rattle.esm_base.specs.Urls.{Url, is_usable, IsUsable};
 ghost use Rattle.esm_realm.specs.Sound.{RecordParts};
+ghost use Rattle.std.specs.Arc.{arc_value};
+ghost use Rattle.esm_import_map.specs.ImportMap.{Maps};
 ghost use Rattle.esm_load.specs.Completion.{seen};
 ghost use Rattle.esm_load.specs.Loading.{Loading};
 ghost use Rattle.esm_load.specs.Arrival.{open_asks};
@@ -17,10 +19,12 @@ use crate::engine::Engine;
 use crate::turn::{Parts, run_turn};
 use esm_ast::Outcome;
 use esm_base::{Limit, Memory, Status, Text};
+use esm_import_map::ImportMap;
 use esm_load::{LoadEnd, Loaded, Loads};
 use esm_realm::Realm;
 use std::alloc::Global;
 use std::marker::Model;
+use std::sync::Arc;
 
 /// An entry, and the deliveries that were taken. Contracts see what it holds of loading, its log, its steps and how
 /// it has stopped; `Stands` says for which lists of deliveries it stands.
@@ -40,7 +44,9 @@ impl Model for Machine {
 
     ghost Value = { State };
 
-    ghost coded = { Prim.hlevel (codes, maps.code) };
+    ghost use Rattle.esm_import_map.specs.ImportMap.{maps_code};
+
+    ghost coded = { Prim.hlevel (codes, maps.code, maps_code) };
 
     ghost use Rattle.esm_turn.specs.Parts.{AreKept, loading_in};
 
@@ -112,14 +118,15 @@ fn live_line(alloc: Global, loads: &Loads) -> Result<Text, Memory>
 }
 
 impl Machine {
-    /// The machine that has asked for the entry, whose URL is canonical and at most 8,192 bytes long.
-    pub fn new(alloc: Global, entry: Text) -> Result<Machine, Memory>
+    /// The machine that has asked for the entry, whose URL is canonical and at most 8,192 bytes long. Its specifiers
+    /// resolve by this import map.
+    pub fn new(alloc: Global, map: Arc<ImportMap>, entry: Text) -> Result<Machine, Memory>
         requires { is_usable entry ≡ true }
-        ensures stands { IfOk result (λ m. Stands entry m []) }
+        ensures stands { IfOk result (λ m. Stands (arc_value map) entry m []) }
         ensures live { IfOk result (λ m. m.stopped ≡ None) }
     {
         let mut realm = Realm::new(alloc);
-        let mut loads = Loads::new(alloc);
+        let mut loads = Loads::new(alloc, map);
         match loads.ask_entry(&mut realm, &entry) {
             Ok(()) => Ok(Machine {
                 parts: Parts {
@@ -139,7 +146,7 @@ impl Machine {
     pub fn asks(&self) -> &[Text]
         ensures usable { All IsUsable result.now }
         ensures open { result.now ≡ asks_of self.now }
-        ensures standard { (entry : Url) (deliveries : List Delivery) (what : Shown) → Stands entry self.now deliveries → StandardRun entry deliveries what → result.now ≡ what.asks }
+        ensures standard { (maps : Maps) (entry : Url) (deliveries : List Delivery) (what : Shown) → Stands maps entry self.now deliveries → StandardRun maps entry deliveries what → result.now ≡ what.asks }
     {
         let asks = self.parts.loads.asks();
         match self.stopped {
@@ -175,7 +182,7 @@ impl Machine {
     /// How the machine has stopped, if it has. It takes no memory.
     pub fn stopped(&self) -> Option<TurnEnd>
         ensures state { result ≡ self.now.stopped }
-        ensures standard { (entry : Url) (deliveries : List Delivery) (what : Shown) → Stands entry self.now deliveries → StandardRun entry deliveries what → StoppedAs result what }
+        ensures standard { (maps : Maps) (entry : Url) (deliveries : List Delivery) (what : Shown) → Stands maps entry self.now deliveries → StandardRun maps entry deliveries what → StoppedAs result what }
     {
         self.stopped
     }
@@ -183,7 +190,7 @@ impl Machine {
     /// What the bodies have written, without the last line. It takes no memory.
     pub fn log(&self) -> &[u8]
         ensures state { result.now ≡ self.now.log }
-        ensures standard { (entry : Url) (deliveries : List Delivery) (what : Shown) → Stands entry self.now deliveries → StandardRun entry deliveries what → result.now ≡ what.log }
+        ensures standard { (maps : Maps) (entry : Url) (deliveries : List Delivery) (what : Shown) → Stands maps entry self.now deliveries → StandardRun maps entry deliveries what → result.now ≡ what.log }
     {
         self.parts.engine.log()
     }
@@ -194,8 +201,8 @@ impl Machine {
         ensures known { is_some result ≡ is_some (ending_of self.now) }
         ensures exactly { IsSome result ↔ IsEnded self.now }
         ensures memory { self.now.stopped ≡ Some TurnEnd.Memory → result ≡ None }
-        ensures standard { (entry : Url) (deliveries : List Delivery) (what : Shown) → Stands entry self.now deliveries → StandardRun entry deliveries what → result ≡ what.status }
-        ensures ended { (entry : Url) (deliveries : List Delivery) (what : Shown) → Stands entry self.now deliveries → StandardRun entry deliveries what → is_some result ≡ what.ended }
+        ensures standard { (maps : Maps) (entry : Url) (deliveries : List Delivery) (what : Shown) → Stands maps entry self.now deliveries → StandardRun maps entry deliveries what → result ≡ what.status }
+        ensures ended { (maps : Maps) (entry : Url) (deliveries : List Delivery) (what : Shown) → Stands maps entry self.now deliveries → StandardRun maps entry deliveries what → is_some result ≡ what.ended }
     {
         match self.stopped {
             Some(end) => stopped_status(end),
@@ -207,7 +214,7 @@ impl Machine {
     pub fn last_line(&self) -> Result<Text, Memory>
         requires { is_some (ending_of self.now) ≡ true }
         ensures state { IfOk result (λ line. line ≡ last_line_by (ending_of self.now)) }
-        ensures standard { (entry : Url) (deliveries : List Delivery) (what : Shown) → Stands entry self.now deliveries → StandardRun entry deliveries what → IfOk result (λ line. line ≡ what.last_line) }
+        ensures standard { (maps : Maps) (entry : Url) (deliveries : List Delivery) (what : Shown) → Stands maps entry self.now deliveries → StandardRun maps entry deliveries what → IfOk result (λ line. line ≡ what.last_line) }
     {
         let alloc = self.parts.alloc;
         match self.stopped {
