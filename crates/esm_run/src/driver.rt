@@ -4,8 +4,7 @@ ghost use Rattle.esm_ast.specs.Outcome.{completion_of};
 ghost use Rattle.esm_base.specs.Urls.{Url, has, is_usable};
 ghost use Rattle.esm_load.specs.Completion.{seen};
 ghost use Rattle.esm_import_map.specs.ImportMap.{Maps};
-ghost use Rattle.esm_turn.specs.Stands.{StandsOn, asks_of};
-ghost use Rattle.esm_run.specs.Mapped.{Stands};
+ghost use Rattle.esm_turn.specs.Stands.{StandsOn, asks_of, Stands};
 ghost use Rattle.esm_run.specs.Taken.{arrivals_of};
 ghost use Rattle.esm_run.specs.Inner.Driving.{IsAmong, IsOpenAsk, Drives, DrivesOn, IsDriven};
 
@@ -17,14 +16,15 @@ use esm_import_map::ImportMap;
 use esm_ports::Source;
 use esm_turn::{Machine, TurnEnd, laws};
 use std::alloc::Global;
+use std::sync::Arc;
 
 // A machine under this import map that has asked for the entry.
 fn new_machine(alloc: Global, map: ImportMap, entry: &Text) -> Result<Machine, Memory>
     requires { is_usable entry.now ≡ true }
     ensures { IfOk result (λ m. Stands map entry.now m []) }
 {
-    let _ = map;
-    Machine::new(alloc, entry.clone()?)
+    let map = Arc::new(alloc, map)?;
+    Machine::new(alloc, map, entry.clone()?)
 }
 
 // The first open ask, if there is one.

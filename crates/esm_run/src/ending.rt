@@ -2,10 +2,9 @@
 ghost use Rattle.std.specs.Prelude.{◌≡◌, ◌≢◌, ◌<◌, ◌-◌, ◌^◌, ◌++◌, List, IfOk, Some, is_some, true};
 ghost use Rattle.esm_base.specs.Urls.{Url};
 ghost use Rattle.esm_import_map.specs.ImportMap.{Maps};
-ghost use Rattle.esm_turn.specs.Run.{Shown};
-ghost use Rattle.esm_run.specs.Mapped.{StandardRun, Stands};
+ghost use Rattle.esm_turn.specs.Run.{Shown, StandardRun};
+ghost use Rattle.esm_turn.specs.Stands.{Stands, ending_of};
 ghost use Rattle.esm_turn.specs.Run as runs;
-ghost use Rattle.esm_turn.specs.Stands.{ending_of};
 ghost use Rattle.esm_base.specs.declared.status.Status.TheVariants as statuses;
 ghost use Rattle.esm_run.specs.Written.{EndsWith, change_of, last_text};
 ghost use Rattle.esm_run.specs.Inner.Driving.{IsEndingOf};
