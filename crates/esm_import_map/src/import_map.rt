@@ -6,7 +6,7 @@ ghost use Rattle.esm_import_map.specs.Reading.{import_map_of};
 
 use crate::fault::MapReadEnd;
 use crate::reading::read_text;
-use crate::text_map::TextMap;
+use esm_base::TextMap;
 use std::alloc::Global;
 use std::marker::Model;
 use url::Url;

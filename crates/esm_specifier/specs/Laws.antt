@@ -1,12 +1,23 @@
 -- The laws of resolving, and worked examples.
-use Rattle.std.specs.Prelude.{◌≡◌, true, false, None, Some, Result, Ok, Err, codes}
+use Rattle.std.specs.Prelude.{◌≡◌, ℕ, true, false, List, [], All, Contains, MatchOption, None, Some, Result, Ok, Err, codes}
+use Rattle.std.specs.Ordering.{is_lt}
 use Rattle.url.specs.Parts.{Parts, serialize}
+use Rattle.esm_base.specs.CodeUnits.{code_unit_order}
 use Rattle.esm_base.specs.Urls.{Text, Url, url_of, is_usable, IsUsable}
 use Rattle.esm_import_map.specs.ImportMap.{Maps, no_maps}
 use Rattle.esm_import_map.specs.Specifier.{url_like}
-use Rattle.esm_specifier.specs.Resolution.{resolution_of_specifier}
+use Rattle.esm_specifier.specs.Resolution.{greatest, resolution_of_specifier}
 use Rattle.esm_specifier.specs.declared.fault.SpecFault.{SpecFault}
 use Rattle.esm_specifier.specs.declared.fault.SpecFault.TheVariants.{S4, S5}
+
+-- a member of these texts than which none is greater in code unit order
+pub record IsGreatest (texts : List (List ℕ)) (text : List ℕ) : Type 0 where
+  pub member : Contains texts text
+  pub none_greater : All (λ other. is_lt (code_unit_order text other) ≡ false) texts
+
+-- the greatest of some texts is one of them than which none is greater; of no texts there is none
+abbrev pub GreatestIs : Type 0
+GreatestIs = (texts : List (List ℕ)) → MatchOption (greatest texts) (texts ≡ []) (IsGreatest texts)
 
 -- whatever the import map, what a specifier resolves to may name a module
 abbrev pub ResolvesToUsable : Type 0

@@ -1,5 +1,10 @@
 // Laws of the definitions, as functions without effect.
-ghost use Rattle.esm_specifier.specs.Laws.{ResolvesAsTheStandard, ResolvesByItself, ResolvesToUsable};
+ghost use Rattle.esm_specifier.specs.Laws.{GreatestIs, ResolvesAsTheStandard, ResolvesByItself, ResolvesToUsable};
+
+/// The key that decides of those that match: a member than which none is greater in code unit order.
+pub fn greatest_is()
+    ensures { GreatestIs }
+{}
 
 /// Whatever the import map, what a specifier resolves to is canonical and at most `MAX_URL_BYTES` long.
 pub fn resolves_to_usable()

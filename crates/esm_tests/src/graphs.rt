@@ -1,6 +1,5 @@
 // Whole runs over graphs of modules.
 ghost use Rattle.std.specs.Prelude.{◌≡◌, ◌<◌, ◌-◌, ◌^◌, [], All, IfOk};
-ghost use Rattle.esm_ports.specs.Files.{HasDistinctUrls};
 
 use crate::helpers::{COMMAND, add_named, site, sure, words};
 use crate::sites::{FAILING, SITES};
@@ -18,13 +17,11 @@ pub fn run_over<R: Threads + Wait + Sync>(
     alloc: Global,
     files: Vec<(Text, Vec<u8>)>,
     out: &mut SureSink,
-) -> Result<RunReport<SureSource>, Memory>
-    requires { HasDistinctUrls files.items }
-{
+) -> Result<RunReport<SureSource>, Memory> {
     let words = words(alloc, COMMAND)?;
     let mut desk = sure(alloc, None)?;
     let mut sources = Vec::new(alloc);
-    sources.push(SureSource::new(alloc, files))?;
+    sources.push(SureSource::new(alloc, files)?)?;
     Ok(run(rt, alloc, &words, &mut desk, sources, out))
 }
 

@@ -1,11 +1,9 @@
-//! Tests that cross crates: whole runs over sources and sinks in memory, and the edges over real files and output.
+//! Tests that cross crates: whole runs over sources and sinks in memory.
 #![tactic(auto)]
 
 ghost use Rattle.std.specs.Prelude.{◌≡◌, ◌≢◌, ◌<◌, [], All, vec_len};
 ghost use Rattle.esm_base.specs.declared.status.Status.TheVariants.{WriteFault};
 
-#[cfg(test)]
-mod edges;
 #[cfg(test)]
 mod graphs;
 #[cfg(test)]
@@ -14,8 +12,6 @@ mod helpers;
 mod maps;
 #[cfg(test)]
 mod orders;
-#[cfg(test)]
-mod ports;
 #[cfg(test)]
 mod runs;
 #[cfg(test)]

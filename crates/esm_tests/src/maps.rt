@@ -173,9 +173,9 @@ fn the_map_that_the_desk_answers_decides(rt: HostRuntime) -> Result<(), Memory> 
             Some(map) => Some(map.as_bytes()),
             None => None,
         };
-        let mut desk = SureSource::new(alloc, files(alloc, MAP, map)?);
+        let mut desk = SureSource::new(alloc, files(alloc, MAP, map)?)?;
         let mut sources = Vec::new(alloc);
-        sources.push(SureSource::new(alloc, site(alloc, row.files)?))?;
+        sources.push(SureSource::new(alloc, site(alloc, row.files)?)?)?;
         let mut out = SureSink::new(alloc);
         let report = run(&rt, alloc, &words, &mut desk, sources, &mut out);
         assert_eq!(rt; report.status, row.status, "{}", row.name);
