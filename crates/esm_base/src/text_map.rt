@@ -22,7 +22,7 @@ impl<V> Model for TextMap<V> {
 }
 
 impl<V> TextMap<V> {
-    /// The map without entries. It takes no memory.
+    /// The map without entries. It doesn't allocate.
     pub fn empty(alloc: Global) -> TextMap<V>
         ensures { result ≡ [] }
     {

@@ -32,7 +32,7 @@ impl Model for ImportMap {
 }
 
 impl ImportMap {
-    /// The map that maps nothing. It takes no memory.
+    /// The map that maps nothing. It doesn't allocate.
     pub fn empty(alloc: Global) -> ImportMap
         ensures { result ≡ no_maps }
     {
