@@ -80,17 +80,11 @@ fn fault_text(fault: MapFault) -> &'static str
 }
 
 /// The line that says why there is no import map.
-pub(crate) fn refusal_text(
-    alloc: Global,
-    url: &Text,
-    refusal: MapRefusal,
-) -> Result<Text, Memory>
+pub(crate) fn refusal_text(alloc: Global, url: &Text, refusal: MapRefusal) -> Result<Text, Memory>
     ensures { IfOk result (λ line. line ≡ spec.refusal_text url.now refusal) }
 {
     let line = match refusal {
-        MapRefusal::NotFetched => {
-            format!(in alloc; "import map refused: cannot fetch {url}\n")?
-        }
+        MapRefusal::NotFetched => { format!(in alloc; "import map refused: cannot fetch {url}\n")? }
         MapRefusal::NotRead(fault) => {
             let reason = fault_text(fault);
             format!(in alloc; "import map refused: {reason}\n")?

@@ -25,7 +25,8 @@ const NAMED: &str = "run https://a.test/ main.js --map map.json";
 
 const USAGE: &str = "esm: these words are no command\n";
 
-const SCOPED: &str = r#"{"imports":{"lib/":"/v1/","lib/x/":"/v2/","bad":7},"scopes":{"/old/":{"lib/":"/v0/"}}}"#;
+const SCOPED: &str =
+    r#"{"imports":{"lib/":"/v1/","lib/x/":"/v2/","bad":7},"scopes":{"/old/":{"lib/":"/v0/"}}}"#;
 
 const HI: &[(&str, &str)] = &[("main.js", "print(\"hi\")")];
 
@@ -80,7 +81,10 @@ const ROWS: &[Row] = &[
         words: NAMED,
         map: Some(SCOPED),
         files: &[
-            ("main.js", "import \"lib/x/a.js\";import \"./old/m.js\";import \"lib/b.js\";print(\"main\")"),
+            (
+                "main.js",
+                "import \"lib/x/a.js\";import \"./old/m.js\";import \"lib/b.js\";print(\"main\")",
+            ),
             ("old/m.js", "import \"lib/x/a.js\";print(\"old\")"),
             ("v2/a.js", "print(\"v2/a\")"),
             ("v1/b.js", "print(\"v1/b\")"),
@@ -196,7 +200,9 @@ fn a_desk_that_fails_has_no_map(rt: HostRuntime) -> Result<(), Memory> {
     let mut out = SureSink::new(alloc);
     let report = run(&rt, alloc, &words, &mut desk, sources, &mut out);
     assert_eq!(rt; report.status, Status::MapRefused);
-    assert!(rt; out.written() == b"import map refused: cannot fetch https://a.test/map.json\n".as_slice());
+    assert!(rt;
+        out.written() == b"import map refused: cannot fetch https://a.test/map.json\n".as_slice()
+    );
     assert_eq!(rt; desk.faults(), 1);
     assert_eq!(rt; report.taken.len(), 0);
     Ok(())
