@@ -1,6 +1,6 @@
 -- What a module imports and exports is of its own requests.
 use Rattle.std.proofs.Common.{◌≡◌, ℕ, zero, suc, ◌+◌, ◌<◌, ◌≤◌, Bool, true, false, cond, List, [], ◌∷◌, ◌++◌, length, map, Option, Some, None, refl, sym, ap, subst, ◌∙◌, arith, length-append}
-use Rattle.std.specs.Prelude.{All, codes, bytes_eq, ◌||◌}
+use Rattle.std.specs.Prelude.{All, codes, bytes_eq, not, ◌||◌}
 use Rattle.std.specs.List.{list_any}
 use Rattle.std.proofs.lemmas.List.Elements.{All-nil, All-cons, All-append, All-map}
 use Rattle.std.proofs.lemmas.Slice.Eq.{bytes_eq-Decides}
@@ -9,12 +9,15 @@ use Rattle.esm_tree.specs.declared.node.Wanted.TheVariants.{Named, Whole}
 use Rattle.esm_tree.specs.declared.node.ImportBinding.{ImportBinding}
 use Rattle.esm_tree.specs.declared.node.ExportSpecifier.{ExportSpecifier}
 use Rattle.esm_tree.specs.Syntax.{Stmt, Default, Item, ImportEffect, ImportFrom, ExportAll, ExportAllAs, ExportFrom, ExportList, ExportStatement, ExportFunction, ExportDefaultFunction, Function, Statement}
-use Rattle.esm_grammar.specs.Names.{Text, has_text, declared_names}
+use Rattle.esm_grammar.specs.Names.{Text, declared_names}
 use Rattle.esm_ast.specs.declared.entries.ImportEntry.{ImportEntry}
 use Rattle.esm_ast.specs.declared.entries.IndirectExport.{IndirectExport}
 use Rattle.esm_ast.specs.Entries.{EntryLists, NamesRequests, request_of, with_text, add_request, requests_after, requests_of, place_of, import_entry, imports_of, all_imports, import_named, Export, Local, Indirect, own_export, passed_on, listed_by, listed_by_wanted, listed, statement_exports, or_star_default, exports_of, all_exports, locals_of, indirects_of, stars_of, entries_with, entries_of}
 
 -- ---- every request of an item is among the requests
+
+abbrev has : List Text → Text → Bool
+has texts s = list_any (bytes_eq s) texts
 
 or_true : (a : Bool) → (a || true) ≡ true
 or_true true = refl
@@ -28,61 +31,58 @@ or_left false false c h = absurd (let e : false ≡ true = h in cc)
 own_text : (s : Text) → bytes_eq s s ≡ true
 own_text s = (bytes_eq-Decides s s).1 refl
 
-has_more : (xs ys : List Text) (s : Text) → has_text xs s ≡ true → has_text (xs ++ ys) s ≡ true
-unfolding has_text
+has_more : (xs ys : List Text) (s : Text) → has xs s ≡ true → has (xs ++ ys) s ≡ true
 has_more [] ys s h = absurd (let e : false ≡ true = h in cc)
-has_more (x ∷ xs) ys s h = more (bytes_eq x s) h (has_more xs ys s)
+has_more (x ∷ xs) ys s h = more (bytes_eq s x) h (has_more xs ys s)
   where
-    more : (b : Bool) → (b || has_text xs s) ≡ true → (has_text xs s ≡ true → has_text (xs ++ ys) s ≡ true) → (b || has_text (xs ++ ys) s) ≡ true
+    more : (b : Bool) → (b || has xs s) ≡ true → (has xs s ≡ true → has (xs ++ ys) s ≡ true) → (b || has (xs ++ ys) s) ≡ true
     more true h f = refl
     more false h f = f h
 
-has_last : (xs : List Text) (s : Text) → has_text (xs ++ s ∷ []) s ≡ true
-unfolding has_text
+has_last : (xs : List Text) (s : Text) → has (xs ++ s ∷ []) s ≡ true
 has_last [] s = ap (λ b. b || false) (own_text s)
-has_last (x ∷ xs) s = ap (λ b. bytes_eq x s || b) (has_last xs s) ∙ or_true (bytes_eq x s)
+has_last (x ∷ xs) s = ap (λ b. bytes_eq s x || b) (has_last xs s) ∙ or_true (bytes_eq s x)
 
-has_with : (b : Bool) (xs : List Text) (s : Text) → has_text xs s ≡ b → has_text (cond b xs (xs ++ s ∷ [])) s ≡ true
+has_with : (b : Bool) (xs : List Text) (s : Text) → has xs s ≡ b → has (cond b xs (xs ++ s ∷ [])) s ≡ true
 has_with true xs s h = h
 has_with false xs s h = has_last xs s
 
-keeps_with : (b : Bool) (xs : List Text) (s t : Text) → has_text xs t ≡ true → has_text (cond b xs (xs ++ s ∷ [])) t ≡ true
+keeps_with : (b : Bool) (xs : List Text) (s t : Text) → has xs t ≡ true → has (cond b xs (xs ++ s ∷ [])) t ≡ true
 keeps_with true xs s t h = h
 keeps_with false xs s t h = has_more xs (s ∷ []) t h
 
-keeps_request : (o : Option Text) (xs : List Text) (t : Text) → has_text xs t ≡ true → has_text (add_request xs o) t ≡ true
+keeps_request : (o : Option Text) (xs : List Text) (t : Text) → has xs t ≡ true → has (add_request xs o) t ≡ true
 unfolding add_request with_text
 keeps_request None xs t h = h
-keeps_request (Some s) xs t h = keeps_with (has_text xs s) xs s t h
+keeps_request (Some s) xs t h = keeps_with (has xs s) xs s t h
 
-has_request : (o : Option Text) (xs : List Text) (t : Text) → o ≡ Some t → has_text (add_request xs o) t ≡ true
+has_request : (o : Option Text) (xs : List Text) (t : Text) → o ≡ Some t → has (add_request xs o) t ≡ true
 unfolding add_request with_text
 has_request None xs t e = absurd (cc)
-has_request (Some s) xs t e = let same : s ≡ t = cc in subst (λ u. has_text (with_text xs s) u ≡ true) same (has_with (has_text xs s) xs s refl)
+has_request (Some s) xs t e = let same : s ≡ t = cc in subst (λ u. has (with_text xs s) u ≡ true) same (has_with (has xs s) xs s refl)
 
-keeps_all : (xs : List Item) (found : List Text) (t : Text) → has_text found t ≡ true → has_text (requests_after found xs) t ≡ true
+keeps_all : (xs : List Item) (found : List Text) (t : Text) → has found t ≡ true → has (requests_after found xs) t ≡ true
 unfolding requests_after
 keeps_all [] found t h = h
 keeps_all (x ∷ xs) found t h = keeps_all xs (add_request found (request_of x)) t (keeps_request (request_of x) found t h)
 
 -- the items ask for these requests alone
 abbrev AsksFor : List Text → List Item → Type 0
-AsksFor requests xs = All (λ x. (s : Text) → request_of x ≡ Some s → has_text requests s ≡ true) xs
+AsksFor requests xs = All (λ x. (s : Text) → request_of x ≡ Some s → has requests s ≡ true) xs
 
 asked_after : (xs : List Item) (found : List Text) → AsksFor (requests_after found xs) xs
 unfolding requests_after
 asked_after [] found = λ k d lt. absurd (omega arith)
 asked_after (x ∷ xs) found =
     let after = requests_after (add_request found (request_of x)) xs in
-    let here : (s : Text) → request_of x ≡ Some s → has_text after s ≡ true = λ s e. keeps_all xs (add_request found (request_of x)) s (has_request (request_of x) found s e) in
-    All-cons (λ y. (s : Text) → request_of y ≡ Some s → has_text after s ≡ true) x xs here (asked_after xs (add_request found (request_of x)))
+    let here : (s : Text) → request_of x ≡ Some s → has after s ≡ true = λ s e. keeps_all xs (add_request found (request_of x)) s (has_request (request_of x) found s e) in
+    All-cons (λ y. (s : Text) → request_of y ≡ Some s → has after s ≡ true) x xs here (asked_after xs (add_request found (request_of x)))
 
-place_below : (requests : List Text) (s : Text) → has_text requests s ≡ true → place_of requests s < length requests
-unfolding has_text place_of
+place_below : (requests : List Text) (s : Text) → has requests s ≡ true → place_of requests s < length requests
 place_below [] s h = absurd (let e : false ≡ true = h in cc)
-place_below (r ∷ rs) s h = by (bytes_eq r s) h (place_below rs s)
+place_below (r ∷ rs) s h = by (bytes_eq s r) h (place_below rs s)
   where
-    by : (b : Bool) → (b || has_text rs s) ≡ true → (has_text rs s ≡ true → place_of rs s < length rs) → cond b 0 (place_of rs s + 1) < suc (length rs)
+    by : (b : Bool) → (b || has rs s) ≡ true → (has rs s ≡ true → place_of rs s < length rs) → cond (not b) (1 + place_of rs s) 0 < suc (length rs)
     by true h f = omega arith
     by false h f = let l = f h in omega (arith, l)
 
@@ -95,7 +95,7 @@ module _ (requests : List Text) where
   abbrev Below : ImportEntry → Type 0
   Below e = e.request < length requests
 
-  asked_imports : (x : Item) → ((s : Text) → request_of x ≡ Some s → has_text requests s ≡ true) → ImportsBelow (length requests) (imports_of requests x)
+  asked_imports : (x : Item) → ((s : Text) → request_of x ≡ Some s → has requests s ≡ true) → ImportsBelow (length requests) (imports_of requests x)
   unfolding imports_of request_of
   asked_imports (ImportFrom s bs) h = let l = place_below requests s (h s refl) in All-map Below (import_entry (place_of requests s)) bs (λ k d lt. l)
   asked_imports (ImportEffect s) h = All-nil Below
@@ -150,7 +150,7 @@ module _ (requests : List Text) (imports : List ImportEntry) (below : ImportsBel
   statement_below (Default v) = one _ tt
   statement_below _ = owns _
 
-  exports_below : (x : Item) → ((s : Text) → request_of x ≡ Some s → has_text requests s ≡ true) → All (ExportBelow requests) (exports_of requests imports x)
+  exports_below : (x : Item) → ((s : Text) → request_of x ≡ Some s → has requests s ≡ true) → All (ExportBelow requests) (exports_of requests imports x)
   unfolding exports_of request_of listed
   exports_below (ImportEffect s) h = All-nil (ExportBelow requests)
   exports_below (ImportFrom s bs) h = All-nil (ExportBelow requests)
@@ -180,7 +180,7 @@ unfolding stars_of request_of
 stars_below requests [] h = All-nil (λ (i : ℕ). i < length requests)
 stars_below requests (x ∷ xs) h = by x (h 0 x (omega arith)) (stars_below requests xs (λ k d lt. h (suc k) d (omega arith)))
   where
-    by : (y : Item) → ((s : Text) → request_of y ≡ Some s → has_text requests s ≡ true) → All (λ (i : ℕ). i < length requests) (stars_of requests xs) → All (λ (i : ℕ). i < length requests) (stars_of requests (y ∷ xs))
+    by : (y : Item) → ((s : Text) → request_of y ≡ Some s → has requests s ≡ true) → All (λ (i : ℕ). i < length requests) (stars_of requests xs) → All (λ (i : ℕ). i < length requests) (stars_of requests (y ∷ xs))
     by (ExportAll s) h rest = All-cons (λ (i : ℕ). i < length requests) (place_of requests s) _ (place_below requests s (h s refl)) rest
     by _ h rest = rest
 

@@ -2,7 +2,8 @@
 use Rattle.std.proofs.Common.{◌≡◌, ℕ, zero, suc, ◌+◌, ◌*◌, ◌-◌, ◌<◌, ◌≤◌, Bool, true, false, cond, List, [], ◌∷◌, ◌++◌, length, drop, Option, Some, None, ap, arith, length-append, refl, sym, ◌∙◌}
 use Rattle.std.proofs.lemmas.List.{length-drop}
 use Rattle.std.specs.Str.{chars, chars_after, continuation_len, lead_bits}
-use Rattle.std.specs.Prelude.{encode_utf8_all}
+use Rattle.std.specs.Prelude.{bytes_eq}
+use Rattle.std.specs.List.{list_any}
 use Rattle.esm_tree.specs.Syntax.{Item}
 use Rattle.esm_tree.specs.declared.lexeme.Lexeme.{Lexeme}
 use Rattle.esm_tree.specs.declared.lexeme.Terminal.{Terminal}
@@ -15,7 +16,7 @@ use Rattle.esm_grammar.specs.Lexes.Lexes.{all_read, stuck, blank, token}
 use Rattle.esm_grammar.specs.Items.{ItemAt, ItemsAt}
 use Rattle.esm_grammar.specs.Items.ItemsAt.{no_item, an_item}
 use Rattle.esm_grammar.specs.ModuleText.{Spells}
-use Rattle.esm_grammar.specs.Names.{Text, has_text}
+use Rattle.esm_grammar.specs.Names.{Text}
 use Rattle.esm_grammar.proofs.CompleteItems.{item_within}
 use Rattle.esm_ast.proofs.Shorter.{token_shorter}
 use Rattle.esm_ast.specs.Entries.{with_text, add_request, request_of, requests_after, requests_of, entries_with, entries_of}
@@ -76,7 +77,7 @@ added_few false found s = omega (arith, length-append found (s ∷ []))
 added_by : (o : Option Text) (found : List Text) → length (add_request found o) ≤ length found + 1
 unfolding add_request with_text
 added_by None found = omega arith
-added_by (Some s) found = added_few (has_text found s) found s
+added_by (Some s) found = added_few (list_any (bytes_eq s) found) found s
 
 requests_after_few : (found : List Text) (xs : List Item) → length (requests_after found xs) ≤ length found + length xs
 unfolding requests_after

@@ -1,13 +1,13 @@
 -- What a module requests, imports and exports, in order of appearance.
 -- ECMA-262, ModuleRequests, ImportEntries, ExportEntries, and the sorting of export entries in ParseModule.
-use Rattle.std.specs.Prelude.{ℕ, ◌+◌, ◌<◌, Bool, true, false, ◌||◌, List, [], ◌∷◌, ◌++◌, length, map, All, codes, bytes_eq, Option, Some, None, if◌then◌else◌}
-use Rattle.std.specs.List.{list_any}
+use Rattle.std.specs.Prelude.{ℕ, ◌<◌, Bool, true, false, ◌||◌, List, [], ◌∷◌, ◌++◌, length, map, All, codes, bytes_eq, Option, Some, None, if◌then◌else◌}
+use Rattle.std.specs.List.{list_any, position_or_len}
 use Rattle.esm_tree.specs.declared.node.Wanted.{Wanted}
 use Rattle.esm_tree.specs.declared.node.Wanted.TheVariants.{Named, Whole}
 use Rattle.esm_tree.specs.declared.node.ImportBinding.{ImportBinding}
 use Rattle.esm_tree.specs.declared.node.ExportSpecifier.{ExportSpecifier}
 use Rattle.esm_tree.specs.Syntax.{Init, awaited, Bindings, no_more, binding, Stmt, Assign, Block, If, IfElse, Try, TryCatch, Await, PrintAwait, Const, Let, Default, Stmts, nothing, first, Item, ImportEffect, ImportFrom, ExportAll, ExportAllAs, ExportFrom, ExportList, ExportStatement, ExportFunction, ExportDefaultFunction, Function, Statement}
-use Rattle.esm_grammar.specs.Names.{Text, has_text, declared_names}
+use Rattle.esm_grammar.specs.Names.{Text, declared_names}
 use Rattle.esm_ast.specs.declared.entries.ImportEntry.{ImportEntry}
 use Rattle.esm_ast.specs.declared.entries.LocalExport.{LocalExport}
 use Rattle.esm_ast.specs.declared.entries.IndirectExport.{IndirectExport}
@@ -43,7 +43,7 @@ request_of _ = None
 
 -- a list to which a text was added, unless it has it
 unfoldable pub with_text : List Text → Text → List Text
-with_text found s = if has_text found s then found else found ++ s ∷ []
+with_text found s = if list_any (bytes_eq s) found then found else found ++ s ∷ []
 
 unfoldable pub add_request : List Text → Option Text → List Text
 add_request found None = found
@@ -58,9 +58,8 @@ abbrev pub requests_of : List Item → List Text
 requests_of xs = requests_after [] xs
 
 -- the place of a text in a list, or its length
-unfoldable pub place_of : List Text → Text → ℕ
-place_of [] s = 0
-place_of (r ∷ rs) s = if bytes_eq r s then 0 else place_of rs s + 1
+abbrev pub place_of : List Text → Text → ℕ
+place_of requests s = position_or_len (bytes_eq s) requests
 
 -- ---- imports
 
@@ -116,8 +115,11 @@ passed_on request s = indirect_export s.exported request (Named s.first)
 abbrev pub own_export : Text → Export
 own_export n = local_export n n
 
+abbrev pub default_export : Text → Export
+default_export local = local_export (codes "default") local
+
 unfoldable pub statement_exports : Stmt → List Export
-statement_exports (Default v) = local_export (codes "default") star_default ∷ []
+statement_exports (Default v) = default_export star_default ∷ []
 statement_exports s = map own_export (declared_names s)
 
 unfoldable pub or_star_default : Option Text → Text
@@ -131,7 +133,7 @@ exports_of requests imports (ExportFrom es s) = map (passed_on (place_of request
 exports_of requests imports (ExportList es) = map (listed imports) es
 exports_of requests imports (ExportStatement s) = statement_exports s
 exports_of requests imports (ExportFunction n ps ss) = own_export n ∷ []
-exports_of requests imports (ExportDefaultFunction n ps ss) = local_export (codes "default") (or_star_default n) ∷ []
+exports_of requests imports (ExportDefaultFunction n ps ss) = default_export (or_star_default n) ∷ []
 exports_of requests imports _ = []
 
 unfoldable pub all_exports : List Text → List ImportEntry → List Item → List Export
