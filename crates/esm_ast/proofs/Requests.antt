@@ -1,18 +1,16 @@
 -- What a module imports and exports is of its own requests.
-use Rattle.std.proofs.Common.{◌≡◌, ℕ, zero, suc, ◌+◌, ◌<◌, ◌≤◌, Bool, true, false, cond, List, [], ◌∷◌, ◌++◌, length, map, Option, Some, None, refl, sym, ap, subst, ◌∙◌, arith, length-append}
-use Rattle.std.specs.Prelude.{All, codes, bytes_eq, not, ◌||◌}
+use Rattle.std.proofs.Common.{◌≡◌, ℕ, suc, ◌+◌, ◌<◌, Bool, true, false, cond, List, [], ◌∷◌, ◌++◌, length, map, Option, Some, None, refl, ap, subst, ◌∙◌, arith}
+use Rattle.std.specs.Prelude.{All, bytes_eq, not, ◌||◌}
 use Rattle.std.specs.List.{list_any}
 use Rattle.std.proofs.lemmas.List.Elements.{All-nil, All-cons, All-append, All-map}
 use Rattle.std.proofs.lemmas.Slice.Eq.{bytes_eq-Decides}
 use Rattle.esm_tree.specs.declared.node.Wanted.{Wanted}
 use Rattle.esm_tree.specs.declared.node.Wanted.TheVariants.{Named, Whole}
-use Rattle.esm_tree.specs.declared.node.ImportBinding.{ImportBinding}
-use Rattle.esm_tree.specs.declared.node.ExportSpecifier.{ExportSpecifier}
 use Rattle.esm_tree.specs.Syntax.{Stmt, Default, Item, ImportEffect, ImportFrom, ExportAll, ExportAllAs, ExportFrom, ExportList, ExportStatement, ExportFunction, ExportDefaultFunction, Function, Statement}
-use Rattle.esm_grammar.specs.Names.{Text, declared_names}
+use Rattle.esm_grammar.specs.Names.{Text}
 use Rattle.esm_ast.specs.declared.entries.ImportEntry.{ImportEntry}
 use Rattle.esm_ast.specs.declared.entries.IndirectExport.{IndirectExport}
-use Rattle.esm_ast.specs.Entries.{EntryLists, NamesRequests, request_of, with_text, add_request, requests_after, requests_of, place_of, import_entry, imports_of, all_imports, import_named, Export, Local, Indirect, own_export, passed_on, listed_by, listed_by_wanted, listed, statement_exports, or_star_default, exports_of, all_exports, locals_of, indirects_of, stars_of, entries_with, entries_of}
+use Rattle.esm_ast.specs.Entries.{NamesRequests, request_of, with_text, add_request, requests_after, requests_of, place_of, import_entry, imports_of, all_imports, import_named, Export, Local, Indirect, own_export, passed_on, listed_by, listed_by_wanted, listed, statement_exports, exports_of, all_exports, indirects_of, stars_of, entries_with, entries_of}
 
 -- ---- every request of an item is among the requests
 

@@ -1,14 +1,13 @@
 -- What stands behind a token is shorter than what begins with it.
-use Rattle.std.proofs.Common.{◌≡◌, ℕ, zero, suc, ◌+◌, ◌*◌, ◌-◌, ◌<◌, ◌≤◌, Bool, true, false, not, ◌||◌, List, [], ◌∷◌, ◌++◌, length, Option, Some, None, ap, subst, sym, arith, length-append, refl}
-use Rattle.std.specs.Prelude.{◌&&◌, ◌==◌, nat_le}
+use Rattle.std.proofs.Common.{◌≡◌, ℕ, suc, ◌+◌, ◌*◌, ◌<◌, ◌≤◌, Bool, true, false, List, [], ◌∷◌, length, Option, Some, None, subst, arith, refl}
+use Rattle.std.specs.Prelude.{◌==◌}
 use Rattle.std.specs.Char.{digit_value}
 use Rattle.esm_tree.specs.declared.token.TokenKind.{TokenKind}
 use Rattle.esm_tree.specs.declared.lexeme.Terminal.{Terminal}
-use Rattle.esm_grammar.specs.Characters.{is_line_terminator, is_digit, is_hex, is_high, is_low}
 use Rattle.esm_grammar.specs.Reading.{◌>>=◌, pick}
-use Rattle.esm_grammar.specs.Strings.{hex_two, hex_four, braced, second_half, four_digits, unicode, begins_digit, skip_line_feed, single, one, escape, is_plain, piece, Body}
+use Rattle.esm_grammar.specs.Strings.{hex_two, hex_four, braced, second_half, four_digits, unicode, skip_line_feed, one, escape, piece, Body}
 use Rattle.esm_grammar.specs.Strings.Body.{closed, more}
-use Rattle.esm_grammar.specs.Lexes.{IsToken, is_word_text}
+use Rattle.esm_grammar.specs.Lexes.{IsToken}
 use Rattle.esm_grammar.specs.Lexes.IsToken.{a_word, a_literal, a_sign}
 use Rattle.esm_grammar.proofs.Tokens.{lengths, true_false}
 

@@ -1,25 +1,21 @@
 -- A module text has at most as many items as bytes, and a module at most as many requests as items.
-use Rattle.std.proofs.Common.{◌≡◌, ℕ, zero, suc, ◌+◌, ◌*◌, ◌-◌, ◌<◌, ◌≤◌, Bool, true, false, cond, List, [], ◌∷◌, ◌++◌, length, drop, Option, Some, None, ap, arith, length-append, refl, sym, ◌∙◌}
+use Rattle.std.proofs.Common.{ℕ, zero, suc, ◌+◌, ◌*◌, ◌-◌, ◌≤◌, Bool, true, false, cond, List, [], ◌∷◌, ◌++◌, length, drop, Option, Some, None, arith, length-append}
 use Rattle.std.proofs.lemmas.List.{length-drop}
 use Rattle.std.specs.Str.{chars, chars_after, continuation_len, lead_bits}
 use Rattle.std.specs.Prelude.{bytes_eq}
 use Rattle.std.specs.List.{list_any}
 use Rattle.esm_tree.specs.Syntax.{Item}
 use Rattle.esm_tree.specs.declared.lexeme.Lexeme.{Lexeme}
-use Rattle.esm_tree.specs.declared.lexeme.Terminal.{Terminal}
-use Rattle.esm_tree.specs.declared.token.TokenKind.{TokenKind}
 use Rattle.esm_grammar.specs.Reading.{pick}
-use Rattle.esm_grammar.specs.Strings.{Body, piece}
-use Rattle.esm_grammar.specs.Strings.Body.{closed, more}
-use Rattle.esm_grammar.specs.Lexes.{IsToken, Lexes, is_word_text, has_mark, without_mark, hashbang_len}
+use Rattle.esm_grammar.specs.Lexes.{Lexes, has_mark, without_mark, hashbang_len}
 use Rattle.esm_grammar.specs.Lexes.Lexes.{all_read, stuck, blank, token}
-use Rattle.esm_grammar.specs.Items.{ItemAt, ItemsAt}
+use Rattle.esm_grammar.specs.Items.{ItemsAt}
 use Rattle.esm_grammar.specs.Items.ItemsAt.{no_item, an_item}
 use Rattle.esm_grammar.specs.ModuleText.{Spells}
 use Rattle.esm_grammar.specs.Names.{Text}
 use Rattle.esm_grammar.proofs.CompleteItems.{item_within}
 use Rattle.esm_ast.proofs.Shorter.{token_shorter}
-use Rattle.esm_ast.specs.Entries.{with_text, add_request, request_of, requests_after, requests_of, entries_with, entries_of}
+use Rattle.esm_ast.specs.Entries.{with_text, add_request, request_of, requests_after, entries_with, entries_of}
 
 -- ---- items and tokens
 

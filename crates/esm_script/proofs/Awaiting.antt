@@ -1,5 +1,5 @@
 -- Which statements await, one by one.
-use Rattle.std.proofs.Common.{◌≡◌, ◌≢◌, ℕ, zero, suc, ◌+◌, ◌<◌, ◌≤◌, Bool, true, false, List, [], ◌∷◌, length, drop, get_or, Vec, refl, sym, ap, ◌∙◌, arith}
+use Rattle.std.proofs.Common.{◌≡◌, ◌≢◌, ℕ, zero, suc, ◌+◌, ◌<◌, ◌≤◌, Bool, true, false, List, [], ◌∷◌, length, drop, get_or, Vec, refl, ap, ◌∙◌, arith}
 use Rattle.std.specs.Prelude.{◌||◌}
 use Rattle.std.specs.List.{list_any}
 use Rattle.std.specs.declared.alloc.Global.{Global}
@@ -11,7 +11,7 @@ use Rattle.esm_tree.specs.declared.node.StmtNode.{StmtNode}
 use Rattle.esm_tree.specs.declared.node.StmtNode.TheVariants as n
 use Rattle.esm_tree.specs.declared.node.ItemNode.{ItemNode}
 use Rattle.esm_tree.specs.declared.node.ItemNode.TheVariants as i
-use Rattle.esm_tree.specs.Syntax.{Expr, Stmt, Item}
+use Rattle.esm_tree.specs.Syntax.{Expr, Stmt}
 use Rattle.esm_tree.specs.Flat.{init_of, bindings_of, stmt_of, stmt_part, stmt_parts, AllStmtsBelow, item_of, items_of}
 use Rattle.esm_grammar.specs.Names.{Text}
 use Rattle.esm_ast.specs.Entries.{init_awaits, bindings_await, stmt_awaits, stmts_await, item_awaits}

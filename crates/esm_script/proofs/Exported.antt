@@ -1,5 +1,5 @@
 -- Exports that are gathered, and the index of imported names.
-use Rattle.std.proofs.Common.{◌≡◌, ◌≢◌, ℕ, zero, suc, ◌+◌, ◌-◌, ◌<◌, ◌≤◌, max, Bool, true, false, cond, List, [], ◌∷◌, ◌++◌, length, map, drop, get_or, Option, Some, None, Vec, refl, sym, ap, subst, ◌∙◌, arith, append_assoc, append-nil}
+use Rattle.std.proofs.Common.{◌≡◌, ◌≢◌, ℕ, zero, suc, ◌+◌, ◌-◌, ◌<◌, ◌≤◌, Bool, true, false, cond, List, [], ◌∷◌, ◌++◌, length, map, drop, get_or, Option, Some, None, Vec, refl, sym, ap, subst, ◌∙◌, arith, append_assoc, append-nil}
 use Rattle.std.specs.Prelude.{option_map, bytes_eq}
 use Rattle.std.specs.Borrow.{Bor}
 use Rattle.std.specs.Map.{update}
@@ -12,7 +12,7 @@ use Rattle.esm_tree.specs.declared.node.StmtNode.{StmtNode}
 use Rattle.esm_tree.specs.declared.node.StmtNode.TheVariants as n
 use Rattle.esm_tree.specs.declared.node.ItemNode.{ItemNode}
 use Rattle.esm_tree.specs.declared.node.ItemNode.TheVariants as i
-use Rattle.esm_tree.specs.Syntax.{Expr, Stmt, Item}
+use Rattle.esm_tree.specs.Syntax.{Expr, Stmt}
 use Rattle.esm_tree.specs.Flat.{bindings_of, stmt_of, item_of, items_of, item_need, AllAtMost}
 use Rattle.esm_grammar.specs.Names.{Text, names_of, declared_names}
 use Rattle.esm_ast.specs.declared.entries.ImportEntry.{ImportEntry}

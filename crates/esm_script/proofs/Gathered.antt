@@ -1,5 +1,5 @@
 -- The entries of a tree, part by part.
-use Rattle.std.proofs.Common.{◌≡◌, ℕ, Bool, List, sym, ap, ◌∙◌}
+use Rattle.std.proofs.Common.{◌≡◌, List, ap, ◌∙◌}
 use Rattle.std.specs.List.{list_any}
 use Rattle.esm_tree.specs.Syntax.{Item}
 use Rattle.esm_grammar.specs.Names.{Text}

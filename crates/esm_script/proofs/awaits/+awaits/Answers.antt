@@ -1,4 +1,4 @@
-use Rattle.std.proofs.Common.{◌≡◌, ◌<◌, ◌≤◌, ◌+◌, ◌*◌, ◌||◌, arith, get_or, refl, sym, ap, ◌∙◌}
+use Rattle.std.proofs.Common.{◌<◌, ◌||◌, arith, get_or, refl, sym, ap, ◌∙◌}
 use Rattle.esm_tree.specs.Flat.{stmt_parts}
 use Rattle.esm_tree.specs.declared.node.StmtId.{StmtId}
 use Rattle.esm_ast.specs.Entries.{stmt_awaits, stmts_await}

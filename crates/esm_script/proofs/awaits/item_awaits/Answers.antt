@@ -1,4 +1,4 @@
-use Rattle.std.proofs.Common.{sym, ◌+◌, ◌<◌, ◌≤◌, arith}
+use Rattle.std.proofs.Common.{sym, arith}
 use Rattle.esm_ast.specs.Entries.{item_awaits}
 use Rattle.esm_script.proofs.Awaiting.{other_item}
 use Rattle.esm_script.proofs.awaits.item_awaits.Goals as goal

@@ -1,4 +1,4 @@
-use Rattle.std.proofs.Common.{sym, ◌∙◌, ap, subst, refl, ◌+◌, ◌<◌, ◌≤◌, arith}
+use Rattle.std.proofs.Common.{arith}
 use Rattle.esm_ast.specs.Entries.{exports_of}
 use Rattle.esm_script.proofs.Exported.{adds_none, other_exports}
 use Rattle.esm_script.proofs.exports.add_exports.Goals as goal

@@ -1,4 +1,4 @@
-use Rattle.std.proofs.Common.{sym, ◌∙◌, ap}
+use Rattle.std.proofs.Common.{◌∙◌, ap}
 use Rattle.esm_grammar.specs.Names.{declared_names}
 use Rattle.esm_ast.specs.Entries.{statement_exports}
 use Rattle.esm_script.proofs.Exported.{adds_none, other_statement}

@@ -1,4 +1,4 @@
-use Rattle.std.proofs.Common.{◌++◌, ap, sym, subst, ◌∙◌}
+use Rattle.std.proofs.Common.{◌++◌, ap, subst, ◌∙◌}
 use Rattle.esm_ast.specs.Entries.{all_exports, locals_of, indirects_of}
 use Rattle.esm_script.specs.Inner.{Adds}
 use Rattle.esm_script.proofs.Exported.{leads_next, leads_end, items_left, items_none, need_at}

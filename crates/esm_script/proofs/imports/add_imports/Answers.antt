@@ -1,6 +1,5 @@
-use Rattle.std.proofs.Common.{◌≡◌, refl, sym, ap, subst, ◌++◌, ◌∙◌, map, append-nil}
-use Rattle.std.specs.Result.{OnOk}
-use Rattle.esm_ast.specs.Entries.{imports_of, import_entry}
+use Rattle.std.proofs.Common.{sym, ap, ◌++◌, ◌∙◌, append-nil}
+use Rattle.esm_ast.specs.Entries.{imports_of}
 use Rattle.esm_script.proofs.Items.{other_imports}
 use Rattle.esm_script.proofs.imports.add_imports.Goals as goal
 

@@ -1,4 +1,4 @@
-use Rattle.std.proofs.Common.{sym, ap, ◌∙◌}
+use Rattle.std.proofs.Common.{ap, ◌∙◌}
 use Rattle.esm_ast.specs.Entries.{add_request, with_text}
 use Rattle.esm_script.proofs.requests.add_request.Goals as goal
 

@@ -1,4 +1,4 @@
-use Rattle.std.proofs.Common.{◌≡◌, [], ◌∷◌, refl, sym, ap, ◌++◌, ◌∙◌, append-nil}
+use Rattle.std.proofs.Common.{[], ◌∷◌, sym, ap, ◌++◌, ◌∙◌, append-nil}
 use Rattle.esm_ast.specs.Entries.{stars_of}
 use Rattle.esm_script.proofs.Items.{other_stars}
 use Rattle.esm_script.proofs.stars.add_star.Goals as goal

@@ -1,4 +1,4 @@
-use Rattle.std.proofs.Common.{ap, ◌∙◌, cond, Some, length, ◌≤◌, arith}
+use Rattle.std.proofs.Common.{ap, ◌∙◌, cond, Some, arith}
 use Rattle.std.specs.Prelude.{option_map, bytes_eq}
 use Rattle.std.specs.Map.{lookup}
 use Rattle.esm_script.proofs.Exported.{named_before, named_none, named_all}
