@@ -1,5 +1,7 @@
 -- The tokens of a text: each slice is the longest token at its place, and all between is white space and comments.
--- ECMA-262, InputElementDiv, without numbers, templates, regular expressions and private names.
+-- ECMA-262, InputElementDiv, Comment, HashbangComment.
+-- own: there are no numbers, templates, regular expressions and private names, and of the punctuators only
+-- `{ } ( ) ; , . * + = === !== ! && ||`; a text that holds another has no token there.
 use Rattle.std.specs.Prelude.{◌≡◌, ℕ, zero, suc, pred, ◌+◌, ◌-◌, ◌<◌, ◌≤◌, Bool, true, false, not, ◌||◌, ◌&&◌, ◌==◌, nat_lt, List, [], ◌∷◌, ◌++◌, length, take, drop, Option, Some, None, sum_by, encode_utf8, encode_utf8_all, slice_index_or, IsUtf8, chars}
 use Rattle.std.specs.List.{list_all}
 use Rattle.esm_tree.specs.declared.token.TokenKind.{TokenKind}
@@ -21,9 +23,12 @@ is_word_text (c ∷ cs) = starts c && list_all continues cs
 
 -- the text begins with a token of this kind: its terminal symbol, what it spells, and what is behind it
 pub data IsToken : TokenKind → List ℕ → Terminal → List ℕ → List ℕ → Type 0 where
-  a_word : {text after : List ℕ} (s : List ℕ) → text ≡ s ++ after → is_word_text s ≡ true → IsToken kind.Word text (word_terminal (encode_utf8_all s)) (encode_utf8_all s) after
-  a_literal : {q : ℕ} {cs v after : List ℕ} → is_quote q ≡ true → Body q cs v after → IsToken kind.Literal (q ∷ cs) t.Literal (encode_utf8_all v) after
-  a_sign : {text after : List ℕ} {x : Terminal} (s : List ℕ) → text ≡ s ++ after → sign_terminal s ≡ Some x → IsToken kind.Sign text x [] after
+  a_word : {text after : List ℕ} (s : List ℕ) → text ≡ s ++ after → is_word_text s ≡ true
+      → IsToken kind.Word text (word_terminal (encode_utf8_all s)) (encode_utf8_all s) after
+  a_literal : {q : ℕ} {cs v after : List ℕ} → is_quote q ≡ true → Body q cs v after
+      → IsToken kind.Literal (q ∷ cs) t.Literal (encode_utf8_all v) after
+  a_sign : {text after : List ℕ} {x : Terminal} (s : List ℕ) → text ≡ s ++ after → sign_terminal s ≡ Some x
+      → IsToken kind.Sign text x [] after
 
 -- it begins with this token, and with no longer one
 pub record Longest (text : List ℕ) (kind : TokenKind) (terminal : Terminal) (spelled after : List ℕ) : Type 0 where
@@ -78,8 +83,10 @@ widths = sum_by (λ c. length (encode_utf8 c))
 pub data Lexes (total : ℕ) : Bool → List ℕ → List Lexeme → Bool → Type 0 where
   all_read : {line : Bool} → Lexes total line [] [] true
   stuck : {line : Bool} {c : ℕ} {cs : List ℕ} → gap (c ∷ cs) ≡ None → NoToken (c ∷ cs) → Lexes total line (c ∷ cs) [] false
-  blank : {n : ℕ} {line newline whole : Bool} {cs : List ℕ} {ts : List Lexeme} → gap cs ≡ Some (n, newline) → Lexes total (line || newline) (drop n cs) ts whole → Lexes total line cs ts whole
-  token : {line whole : Bool} {cs after text : List ℕ} {ts : List Lexeme} {kind : TokenKind} {terminal : Terminal} → gap cs ≡ None → Longest cs kind terminal text after → Lexes total false after ts whole
+  blank : {n : ℕ} {line newline whole : Bool} {cs : List ℕ} {ts : List Lexeme} → gap cs ≡ Some (n, newline)
+      → Lexes total (line || newline) (drop n cs) ts whole → Lexes total line cs ts whole
+  token : {line whole : Bool} {cs after text : List ℕ} {ts : List Lexeme} {kind : TokenKind} {terminal : Terminal} → gap cs ≡ None
+      → Longest cs kind terminal text after → Lexes total false after ts whole
       → Lexes total line cs (lexeme kind (total - widths cs) (total - widths after) line terminal text ∷ ts) whole
 
 -- a text that begins with `#!` has a comment up to its first line terminator
@@ -98,12 +105,13 @@ has_mark (a ∷ b ∷ c ∷ bytes) = (a == 239) && ((b == 187) && (c == 191))
 unfoldable pub without_mark : List ℕ → List ℕ
 without_mark bytes = pick (has_mark bytes) (drop 3 bytes) bytes
 
+-- own: bytes that aren't UTF-8 have no tokens. HTML's "UTF-8 decode" puts U+FFFD in their place.
 -- the bytes are UTF-8, and their tokens are these, up to the end or a place where none can be read
 pub record AreTokens (bytes : List ℕ) (ts : List Lexeme) (whole : Bool) : Type 0 where
   pub utf8 : IsUtf8 (without_mark bytes)
   pub lexes : Lexes (length bytes) false (drop (hashbang_len (chars (without_mark bytes))) (chars (without_mark bytes))) ts whole
 
--- ---- nesting
+-- ---- nesting, own: ECMA-262 has no such limit
 
 unfoldable pub opens : Terminal → Bool
 opens x = same x t.Open || same x t.BraceOpen
@@ -121,4 +129,5 @@ nots_behind nots x = pick (same x t.Not) (nots + 1) 0
 -- the depth passes 64, or more than 64 `!` stand one after another
 unfoldable pub too_deep : ℕ → ℕ → List Lexeme → Bool
 too_deep depth nots [] = false
-too_deep depth nots (l ∷ ls) = nat_lt 64 (depth_behind depth l.terminal) || nat_lt 64 (nots_behind nots l.terminal) || too_deep (depth_behind depth l.terminal) (nots_behind nots l.terminal) ls
+too_deep depth nots (l ∷ ls) = nat_lt 64 (depth_behind depth l.terminal) || nat_lt 64 (nots_behind nots l.terminal)
+    || too_deep (depth_behind depth l.terminal) (nots_behind nots l.terminal) ls

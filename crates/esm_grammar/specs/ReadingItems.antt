@@ -35,19 +35,24 @@ module _ (ts : List Lexeme) where
   unfoldable pub imported_name : ℕ → Read ImportBinding
   imported_name i =
       pick (sees ts (i + 1) t.As)
-      (pick (is_export_name (terminal_at ts i)) (pick (is_name (terminal_at ts (i + 2))) (Some (import_binding (text_at ts i) (text_at ts (i + 2)), i + 3)) None) None)
+      (pick (is_export_name (terminal_at ts i))
+      (pick (is_name (terminal_at ts (i + 2))) (Some (import_binding (text_at ts i) (text_at ts (i + 2)), i + 3)) None)
+      None)
       (pick (is_name (terminal_at ts i)) (Some (import_binding (text_at ts i) (text_at ts i), i + 1)) None)
 
   unfoldable pub exported_name : ℕ → Read ExportSpecifier
   exported_name i =
       pick (is_export_name (terminal_at ts i))
       (pick (sees ts (i + 1) t.As)
-      (pick (is_export_name (terminal_at ts (i + 2))) (Some (export_specifier (text_at ts i) (is_name (terminal_at ts i)) (text_at ts (i + 2)), i + 3)) None)
+      (pick (is_export_name (terminal_at ts (i + 2)))
+      (Some (export_specifier (text_at ts i) (is_name (terminal_at ts i)) (text_at ts (i + 2)), i + 3))
+      None)
       (Some (export_specifier (text_at ts i) (is_name (terminal_at ts i)) (text_at ts i), i + 1)))
       None
 
   unfoldable pub space : ℕ → Read ImportBinding
-  space i = pick (sees ts (i + 1) t.As) (pick (is_name (terminal_at ts (i + 2))) (Some (space_binding (text_at ts (i + 2)), i + 3)) None) None
+  space i =
+      pick (sees ts (i + 1) t.As) (pick (is_name (terminal_at ts (i + 2))) (Some (space_binding (text_at ts (i + 2)), i + 3)) None) None
 
   unfoldable pub from : ℕ → Read (List ℕ)
   from i = pick (sees ts i t.From) (pick (sees ts (i + 1) t.Literal) (end_of ts false (text_at ts (i + 1)) (i + 2)) None) None

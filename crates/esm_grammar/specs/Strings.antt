@@ -1,5 +1,7 @@
 -- What stands between the quotes of a string literal, piece by piece: what each piece stands for, and what is behind it.
 -- ECMA-262, DoubleStringCharacter, SingleStringCharacter, EscapeSequence, LineContinuation.
+-- own: a value is a list of characters, so an escape of a surrogate stands only in a pair `\uHHHH\uHHHH`, high before low. A
+-- lone one, and one in `\u{H..}`, is no token; in ECMA-262 each is a code unit of the value.
 use Rattle.std.specs.Prelude.{◌≡◌, ℕ, ◌+◌, ◌*◌, ◌-◌, Bool, true, false, not, ◌||◌, ◌&&◌, ◌==◌, nat_le, List, [], ◌∷◌, ◌++◌, Option, Some, None}
 use Rattle.std.specs.Char.{digit_value}
 use Rattle.esm_grammar.specs.Characters.{is_line_terminator, is_digit, is_hex, is_high, is_low}
@@ -26,7 +28,7 @@ hex_four cs = do
   b ← hex_two a.1
   Some (256 * a.0 + b.0, b.1)
 
--- behind `\u{`: digits so far, whether there is one, and `}` behind them. At most 10FFFF, and no surrogate.
+-- behind `\u{`: digits so far, whether there is one, and `}` behind them. At most 10FFFF; own: and no surrogate.
 unfoldable pub braced : ℕ → Bool → List ℕ → Code
 braced x some [] = None
 braced x some (c ∷ cs) =
@@ -45,6 +47,7 @@ second_half high (b ∷ u ∷ cs) =
       pick (is_low y.0) (Some (65536 + (1024 * (high - 55296) + (y.0 - 56320)), y.1)) None)
     None
 
+-- own: a high surrogate and its second half, or a code that is no surrogate
 unfoldable pub four_digits : List ℕ → Code
 four_digits cs = do
   x ← hex_four cs

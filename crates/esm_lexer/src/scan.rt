@@ -20,6 +20,9 @@ use esm_base::{Memory, ReadEnd, TextFault};
 use esm_tree::{Lexeme, Terminal, Token, TokenKind};
 use std::alloc::Global;
 
+/// How many brackets may be open at once, and how many signs `!` stand one after another.
+const MAX_NESTING: u32 = 64;
+
 // A token that was found at the front of a text.
 #[derive(Clone, Copy)]
 struct Found<'a> {
@@ -297,10 +300,10 @@ pub fn nests_too_deep(lexemes: &[Lexeme]) -> bool
         let terminal = lexeme.terminal();
         depth = depth_behind(depth, terminal);
         nots = nots_behind(nots, terminal);
-        if depth > 64 {
+        if depth > MAX_NESTING {
             return true;
         }
-        if nots > 64 {
+        if nots > MAX_NESTING {
             return true;
         }
     }

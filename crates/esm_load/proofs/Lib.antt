@@ -37,3 +37,4 @@ pub mod FormLemmas
 pub mod Arrived
 pub mod Settled
 pub mod Stored
+pub mod HasLoad

@@ -6,7 +6,7 @@ use Rattle.std.proofs.lemmas.List.{take-append-drop, take_at}
 use Rattle.std.proofs.lemmas.List.Elements.{All-append, All-cons, All-nil}
 use Rattle.std.proofs.Math.Seq.{take-suc, drop-append_seam}
 use lib.Pointwise.{pointwise}
-use Rattle.esm_tree.specs.Syntax.{Item}
+use Rattle.esm_ast.specs.declared.item.Item.{Item}
 use Rattle.esm_ast.specs.declared.item.Item.TheVariants.{Print, Import}
 use Rattle.esm_ast.specs.ModuleText.{IsPlain, quoted, item_bytes, end_bytes, BeginsWith, IsItem}
 use Rattle.esm_ast.specs.Laws.{BeginWithOneItem}

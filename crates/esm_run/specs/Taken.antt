@@ -3,7 +3,7 @@ use Rattle.std.specs.Prelude.{◌≡◌, ◌≢◌, ℕ, List, map, Option, None
 use Rattle.esm_ports.specs.declared.asked.Asked.{Asked}
 use Rattle.esm_ports.specs.declared.asked.AskKind.{AskKind}
 use Rattle.esm_ports.specs.declared.asked.AskKind.TheVariants.{Body, Absent, Failed}
-use Rattle.esm_grammar.specs.ModuleText.{FaultOf}
+use Rattle.esm_ast.specs.ModuleText.{FaultOf}
 use Rattle.esm_ast.specs.Script.{IsScriptOf}
 use Rattle.esm_ast.specs.Outcome.{Completion, Spelled, Refused, Missing, Lost, completion_of}
 use Rattle.esm_base.specs.Urls.{has}

@@ -11,4 +11,8 @@ pub record Lexeme : Type 0 where
   pub token : Token
 
 abbrev pub lexeme : TokenKind → ℕ → ℕ → Bool → Terminal → List ℕ → Lexeme
-lexeme kind from to newline terminal text = record { terminal = terminal; text = text; token = record { kind = kind; from = from; to = to; newline_before = newline } }
+lexeme kind from to newline terminal text = record {
+  terminal = terminal;
+  text = text;
+  token = record { kind = kind; from = from; to = to; newline_before = newline };
+}
