@@ -1,8 +1,7 @@
 // The run of a graph of modules: a machine driven from a source.
 ghost use Rattle.std.specs.Prelude.{◌≡◌, ◌+◌, ◌++◌, [], ℕ, List, IfOk, IfSome, OnOk, is_some, MatchOption, MatchResult, true, length};
-ghost use Rattle.esm_ast.specs.Outcome.{completion_of};
+ghost use Rattle.esm_ast.specs.Outcome.{outcome_view};
 ghost use Rattle.esm_base.specs.Urls.{Url, has, is_usable};
-ghost use Rattle.esm_load.specs.Completion.{seen};
 ghost use Rattle.esm_turn.specs.Run.{Shown, StandardRun};
 ghost use Rattle.esm_turn.specs.Run as runs;
 ghost use Rattle.esm_turn.specs.Stands.{Stands, StandsOn, asks_of, ending_of};
@@ -47,7 +46,7 @@ fn first_ask(alloc: Global, machine: &Machine) -> Result<Option<Text>, Memory>
 // Has the machine take what came of an open ask. A limit that it passes stops it.
 fn hand_over(machine: &mut Machine, url: &Text, outcome: &Outcome) -> Result<(), Memory>
     requires { has (asks_of machine.old) url.now ≡ true }
-    ensures { OnOk result (StandsOn machine.old url.now (seen (completion_of outcome.now)) machine.new) }
+    ensures { OnOk result (StandsOn machine.old url.now (outcome_view outcome.now) machine.new) }
 {
     match machine.deliver(url, outcome) {
         Ok(()) => Ok(()),

@@ -1,10 +1,9 @@
 // The machine: an entry, and the deliveries that it has taken.
 ghost use Rattle.std.specs.Prelude.{◌≡◌, All, List, [], ◌∷◌, ◌++◌, true, IfOk, IfErr, OnOk, Some, None, Err, is_some, option_map, slice_get, codes, IsSome, ◌↔◌};
-ghost use Rattle.esm_ast.specs.Outcome.{completion_of};
+ghost use Rattle.esm_ast.specs.Outcome.{outcome_view};
 ghost use Rattle.esm_base.specs.Limits.{limit_name};
 ghost use Rattle.esm_base.specs.Urls.{Url, is_usable, IsUsable};
 ghost use Rattle.esm_realm.specs.Sound.{RecordParts};
-ghost use Rattle.esm_load.specs.Completion.{seen};
 ghost use Rattle.esm_load.specs.Loading.{Loading};
 ghost use Rattle.esm_load.specs.Arrival.{open_asks};
 ghost use Rattle.esm_load.specs.LoadsView.{AreOne, loading_of};
@@ -35,12 +34,13 @@ pub struct Machine {
 
 impl Model for Machine {
     ghost use Rattle.std.specs.Coded.{codes};
+    ghost use Rattle.esm_tree.specs.Syntax.{coded_item};
     ghost use Rattle.std.specs.FinMap as maps;
     ghost use Rattle.esm_turn.specs.Stands.{State};
 
     ghost Value = { State };
 
-    ghost coded = { Prim.hlevel (codes, maps.code) };
+    ghost coded = { Prim.hlevel (codes, maps.code, coded_item) };
 
     ghost use Rattle.esm_turn.specs.Parts.{AreKept, loading_in};
 
@@ -155,7 +155,7 @@ impl Machine {
     /// than 4,096 URLs are asked for, L2 where more than 16,777,216 bytes were delivered, L3 at step 1,000,001.
     pub fn deliver(&mut self, url: &Text, outcome: &Outcome) -> Result<(), TurnEnd>
         requires { MayTake self.old url.now }
-        ensures turn { self.old.stopped ≡ None → Took self.old url.now (seen (completion_of outcome.now)) result self.new }
+        ensures turn { self.old.stopped ≡ None → Took self.old url.now (outcome_view outcome.now) result self.new }
         ensures again { (end : EndOf) → self.old.stopped ≡ Some end → (result ≡ Err end) × (self.new ≡ self.old) }
         ensures goes_on { OnOk result (self.new.stopped ≡ None) }
         ensures stops { IfErr result (λ end. self.new.stopped ≡ Some end) }
