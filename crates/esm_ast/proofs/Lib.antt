@@ -1,1 +1,3 @@
-pub mod ModuleTextLemmas
+pub mod Shorter
+pub mod Small
+pub mod Requests

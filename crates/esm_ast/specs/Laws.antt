@@ -1,25 +1,24 @@
--- Laws of the definitions, and a worked example.
-use Rattle.std.specs.Prelude.{◌≡◌, ℕ, List, [], ◌∷◌, ◌++◌, All, codes}
-use Rattle.esm_ast.specs.declared.item.Item.{Item}
-use Rattle.esm_ast.specs.declared.item.Item.TheVariants.{Print, Import}
-use Rattle.esm_ast.specs.ModuleText.{IsPlain, quoted, item_bytes, IsItem, AreItems, Spells, requests_of}
+-- Laws of the definitions.
+use Rattle.std.specs.Prelude.{◌≡◌, ◌≤◌, ℕ, List, length}
+use Rattle.esm_base.specs.declared.fault.TextFault.{TextFault}
+use Rattle.esm_tree.specs.Syntax.{Item}
+use Rattle.esm_grammar.specs.ModuleText.{Spells, FaultOf}
+use Rattle.esm_ast.specs.Entries.{NamesRequests, entries_of}
 
 -- a text spells at most one tree
 abbrev pub SpellsOneTree : Type 0
 SpellsOneTree = (bytes : List ℕ) (one other : List Item) → Spells bytes one → Spells bytes other → one ≡ other
 
--- the same bytes begin with at most one item, its end aside
-abbrev pub BeginWithOneItem : Type 0
-BeginWithOneItem = (item other : Item) (rest behind : List ℕ) → All IsPlain (quoted item) → All IsPlain (quoted other)
-    → item_bytes item ++ rest ≡ item_bytes other ++ behind → (item ≡ other) × (rest ≡ behind)
+-- a text has at most one fault, and none where it spells a tree
+pub record HasTreeOrFault : Type 0 where
+  pub one_fault : (bytes : List ℕ) (one other : TextFault) → FaultOf bytes one → FaultOf bytes other → one ≡ other
+  pub not_both : (bytes : List ℕ) (items : List Item) (fault : TextFault) → Spells bytes items → FaultOf bytes fault → ⊥
 
--- bytes that are items and begin with an item that has its longest end are that item, and the rest are items
-abbrev pub ItemsGoOn : Type 0
-ItemsGoOn = (bytes rest : List ℕ) (item : Item) → IsItem item bytes rest → (all : List Item) → AreItems bytes all
-    → (more : List Item) × ((all ≡ item ∷ more) × AreItems rest more)
+-- what a module imports and exports is of its own requests
+abbrev pub EntriesNameRequests : Type 0
+EntriesNameRequests = (items : List Item) → NamesRequests (entries_of items) (length (entries_of items).requests)
 
--- `import "./a.js";` LF `import "./b.js"` LF `import "./a.js";print("m")`, with each end
-pub record ModuleTextExample : Type 0 where
-  pub spells : Spells (codes "import \"./a.js\";" ++ 10 ∷ codes "import \"./b.js\"" ++ 10 ∷ codes "import \"./a.js\";print(\"m\")")
-      (Import (codes "./a.js") ∷ Import (codes "./b.js") ∷ Import (codes "./a.js") ∷ Print (codes "m") ∷ [])
-  pub requests : requests_of (Import (codes "./a.js") ∷ Import (codes "./b.js") ∷ Import (codes "./a.js") ∷ Print (codes "m") ∷ []) ≡ codes "./a.js" ∷ codes "./b.js" ∷ []
+-- a module text has at most as many items as bytes, and requests at most as many modules
+pub record IsSmall : Type 0 where
+  pub items : (bytes : List ℕ) (items : List Item) → Spells bytes items → length items ≤ length bytes
+  pub requests : (items : List Item) → length (entries_of items).requests ≤ length items

@@ -1,4 +1,3 @@
-pub mod ModuleText
 pub mod Entries
 pub mod Script
 pub mod Outcome

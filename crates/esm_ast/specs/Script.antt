@@ -1,16 +1,16 @@
 -- What contracts see of a module text that was read, and of one that was refused.
 use Rattle.std.specs.Prelude.{◌≡◌, ℕ, List}
 use Rattle.esm_base.specs.declared.fault.TextFault.{TextFault}
-use Rattle.esm_ast.specs.declared.item.Item.{Item}
+use Rattle.esm_tree.specs.Syntax.{Parts}
+use Rattle.esm_grammar.specs.ModuleText.{Spells}
 use Rattle.esm_ast.specs.Entries.{EntryLists, entries_of}
-use Rattle.esm_ast.specs.ModuleText.{Spells}
 
 pub record ScriptParts : Type 0 where
   pub bytes : List ℕ
-  pub tree : List Item
+  pub tree : Parts
   pub entries : EntryLists
 
-abbrev pub script_parts : List ℕ → List Item → EntryLists → ScriptParts
+abbrev pub script_parts : List ℕ → Parts → EntryLists → ScriptParts
 script_parts bytes tree entries = record { bytes = bytes; tree = tree; entries = entries }
 
 pub record BrokenParts : Type 0 where
@@ -20,5 +20,5 @@ pub record BrokenParts : Type 0 where
 -- the script that is read from these bytes
 pub record IsScriptOf (bytes : List ℕ) (script : ScriptParts) : Type 0 where
   pub bytes_are : script.bytes ≡ bytes
-  pub spelled : Spells bytes script.tree
-  pub entries_are : script.entries ≡ entries_of script.tree
+  pub spelled : Spells bytes script.tree.items
+  pub entries_are : script.entries ≡ entries_of script.tree.items

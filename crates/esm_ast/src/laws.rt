@@ -1,22 +1,27 @@
 //! Laws of the definitions, each the contract of a function without effect.
-ghost use Rattle.esm_ast.specs.Laws.{SpellsOneTree, BeginWithOneItem, ItemsGoOn, ModuleTextExample};
+ghost use Rattle.esm_ast.specs.Laws.{SpellsOneTree, HasTreeOrFault, EntriesNameRequests, IsSmall};
 
 /// A text spells at most one tree.
 pub fn one_tree()
     ensures { SpellsOneTree }
+{
+    esm_grammar::laws::one_tree()
+}
+
+/// A text has at most one fault, and none where it spells a tree.
+pub fn tree_or_fault()
+    ensures { HasTreeOrFault }
+{
+    esm_grammar::laws::one_fault();
+    esm_grammar::laws::no_fault();
+}
+
+/// Whatever an entry of a module names as its request is one of the module's requests.
+pub fn name_requests()
+    ensures { EntriesNameRequests }
 {}
 
-/// A text begins with at most one item, its end aside.
-pub fn one_item()
-    ensures { BeginWithOneItem }
-{}
-
-/// A text of items that begins with an item whose end is the longest is that item, and then a text of items.
-pub fn items_go_on()
-    ensures { ItemsGoOn }
-{}
-
-/// A text with each kind of end, and with a repeated request.
-pub fn module_text_example()
-    ensures { ModuleTextExample }
+/// A module text has at most as many items as bytes, and a module requests at most as many modules as it has items.
+pub fn small()
+    ensures { IsSmall }
 {}

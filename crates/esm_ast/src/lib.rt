@@ -2,14 +2,14 @@
 #![tactic(auto)]
 
 mod entries;
-mod item;
 pub mod laws;
 mod outcome;
 mod script;
-mod tree;
 
-pub use entries::{Entries, ImportEntry, IndirectExport, LocalExport, Wanted};
-pub use item::Item;
+pub use entries::{Entries, ImportEntry, IndirectExport, LocalExport};
+pub use esm_tree::{
+    ExportSpecifier, ExprId, ExprNode, ImportBinding, Initializer, ItemNode, Lexeme,
+    LexicalBinding, Link, Mark, StmtId, StmtNode, Terminal, Token, TokenKind, Tree, Wanted,
+};
 pub use outcome::{BrokenText, Outcome};
 pub use script::Script;
-pub use tree::Tree;

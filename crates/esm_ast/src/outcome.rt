@@ -1,6 +1,6 @@
 // What a fetch of a module text comes to.
 ghost use Rattle.std.specs.Prelude.{◌≡◌, IfOk};
-ghost use Rattle.esm_ast.specs.ModuleText.{FaultOf};
+ghost use Rattle.esm_grammar.specs.ModuleText.{FaultOf};
 
 use crate::Script;
 use esm_base::{Memory, TextFault};
@@ -17,7 +17,7 @@ pub struct BrokenText {
 
 impl Model for BrokenText {
     ghost use Rattle.esm_ast.specs.Script.{BrokenParts};
-    ghost use Rattle.esm_ast.specs.ModuleText.{FaultOf};
+    ghost use Rattle.esm_grammar.specs.ModuleText.{FaultOf};
 
     ghost Value = { BrokenParts };
 
@@ -63,7 +63,7 @@ impl BrokenText {
     }
 }
 
-/// What a fetch comes to. Contracts see it as a `Completion`.
+/// What a fetch comes to. Contracts see it as an `OutcomeView`.
 #[derive(Drop)]
 pub enum Outcome {
     /// A body that is a module text.
@@ -77,11 +77,11 @@ pub enum Outcome {
 }
 
 impl Outcome {
-    ghost use Rattle.esm_ast.specs.Outcome.{completion_of};
+    ghost use Rattle.esm_ast.specs.Outcome.{outcome_view};
 
     /// One more owner of the same outcome.
     pub fn share(&self) -> Result<Outcome, Memory>
-        ensures { IfOk result (λ o. completion_of o ≡ completion_of self.now) }
+        ensures { IfOk result (λ o. outcome_view o ≡ outcome_view self.now) }
     {
         match self {
             Outcome::Script(script) => Ok(Outcome::Script(Arc::try_clone(script)?)),

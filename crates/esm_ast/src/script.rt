@@ -1,8 +1,8 @@
 // A module text that was read.
-ghost use Rattle.std.specs.Prelude.{◌≡◌, IfOk};
+ghost use Rattle.std.specs.Prelude.{◌≡◌, ◌≤◌, IfOk, length};
 ghost use Rattle.std.specs.Arc.{arc_value};
-ghost use Rattle.esm_ast.specs.ModuleText.{Spells};
-ghost use Rattle.esm_ast.specs.Entries.{entries_of};
+ghost use Rattle.esm_grammar.specs.ModuleText.{Spells};
+ghost use Rattle.esm_ast.specs.Entries.{NamesRequests, entries_of};
 ghost use Rattle.esm_ast.specs.Script.{script_parts};
 
 use crate::{Entries, Tree};
@@ -22,14 +22,18 @@ pub struct Script {
 impl Model for Script {
     ghost use Rattle.std.specs.Prelude.{◌≡◌};
     ghost use Rattle.esm_ast.specs.Script.{ScriptParts, script_parts};
-    ghost use Rattle.esm_ast.specs.ModuleText.{Spells};
+    ghost use Rattle.esm_grammar.specs.ModuleText.{Spells};
     ghost use Rattle.esm_ast.specs.Entries.{entries_of};
+    ghost use Rattle.std.specs.Coded.{codes};
+    ghost use Rattle.esm_tree.specs.Syntax.{coded_parts};
 
     ghost Value = { ScriptParts };
 
+    ghost coded = { Prim.hlevel (codes, coded_parts) };
+
     ghost view = { λ s. script_parts s.bytes.items s.tree.value s.entries.value };
 
-    ghost invariant = { λ s. Spells s.bytes.items s.tree.value × (s.entries.value ≡ entries_of s.tree.value) };
+    ghost invariant = { λ s. Spells s.bytes.items s.tree.value.items × (s.entries.value ≡ entries_of s.tree.value.items) };
 }
 
 impl Script {
@@ -40,8 +44,8 @@ impl Script {
         tree: Tree,
         entries: Entries,
     ) -> Result<Script, Memory>
-        requires spelled { Spells bytes.items tree }
-        requires entries { entries ≡ entries_of tree }
+        requires spelled { Spells bytes.items tree.items }
+        requires entries { entries ≡ entries_of tree.items }
         ensures { IfOk result (λ s. s ≡ script_parts bytes.items tree entries) }
     {
         let tree = Arc::new(alloc, tree)?;
@@ -51,8 +55,8 @@ impl Script {
 
     /// The same of parts that are shared already. It takes no memory.
     pub fn from_shared(bytes: Vec<u8>, tree: Arc<Tree>, entries: Arc<Entries>) -> Script
-        requires spelled { Spells bytes.items (arc_value tree) }
-        requires entries { arc_value entries ≡ entries_of (arc_value tree) }
+        requires spelled { Spells bytes.items (arc_value tree).items }
+        requires entries { arc_value entries ≡ entries_of (arc_value tree).items }
         ensures { result ≡ script_parts bytes.items (arc_value tree) (arc_value entries) }
     {
         Script {
@@ -72,15 +76,17 @@ impl Script {
     /// The tree, which is the one that the bytes spell.
     pub fn tree(&self) -> &Tree
         ensures tree { result.now ≡ self.now.tree }
-        ensures spelled { Spells self.now.bytes self.now.tree }
+        ensures spelled { Spells self.now.bytes self.now.tree.items }
     {
         &self.tree
     }
 
-    /// The entries, which are those of the tree.
+    /// The entries, which are those of the tree. They name at most 1,048,576 requests, and no others.
     pub fn entries(&self) -> &Entries
         ensures entries { result.now ≡ self.now.entries }
-        ensures of_tree { self.now.entries ≡ entries_of self.now.tree }
+        ensures of_tree { self.now.entries ≡ entries_of self.now.tree.items }
+        ensures few { length self.now.entries.requests ≤ 1048576 }
+        ensures named { NamesRequests self.now.entries (length self.now.entries.requests) }
     {
         &self.entries
     }

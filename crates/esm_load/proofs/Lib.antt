@@ -31,6 +31,7 @@ pub mod Lists
 pub mod Clean
 pub mod Grows
 pub mod NoLimit
+pub mod FormLemmas
 pub mod Arrived
 pub mod Settled
 pub mod Stored

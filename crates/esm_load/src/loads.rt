@@ -1,14 +1,13 @@
 // Loading the entry and all that it reaches.
 ghost use Rattle.std.specs.Prelude.{◌≡◌, ◌<◌, All, true, false, [], ◌∷◌, List, map, Ok, Err, Some, None, OnOk, cond, option_copied, slice_get};
-ghost use Rattle.std.specs.Arc.{arc_value};
-ghost use Rattle.esm_ast.specs.Outcome.{completion_of};
+ghost use Rattle.esm_ast.specs.Outcome.{outcome_view};
 ghost use Rattle.esm_base.specs.declared.limits.Limit.{Limit as StopBy};
 ghost use Rattle.esm_base.specs.Urls.{has, is_usable, IsUsable};
 ghost use Rattle.esm_realm.specs.Sound.{Sound, RecordParts, records_of};
-ghost use Rattle.esm_load.specs.Completion.{seen};
 ghost use Rattle.esm_load.specs.Loading.{Loading, opening_loading};
 ghost use Rattle.esm_load.specs.Arrival.{settle, open_asks};
 ghost use Rattle.esm_load.specs.LoadsView.{AreOne, loading_of, no_loads};
+ghost use Rattle.esm_load.specs.TableView.{tree_items};
 ghost use Rattle.esm_load.specs.Steps.{AnswersNext, HasNoNext, IsEnd, IsModuleAt, askers_left, is_end};
 
 use crate::LoadEnd;
@@ -34,6 +33,7 @@ pub struct Loads {
 
 impl Model for Loads {
     ghost use Rattle.std.specs.Coded.{codes};
+    ghost use Rattle.esm_tree.specs.Syntax.{coded_item};
     ghost use Rattle.esm_load.specs.LoadsView.{LoadsView};
 
     ghost Value = { LoadsView };
@@ -42,7 +42,7 @@ impl Model for Loads {
 
     ghost use Rattle.esm_import_map.specs.ImportMap.{maps_code};
 
-    ghost coded = { Prim.hlevel (codes, maps_code) };
+    ghost coded = { Prim.hlevel (codes, maps_code, coded_item) };
 
     ghost view = { λ l. view_of l.table };
 
@@ -96,10 +96,10 @@ impl Loads {
         requires one { AreOne self.old (records_of realm.old) }
         requires open { has (open_asks (loading_of self.old (records_of realm.old))) url.now ≡ true }
         requires answered { HasNoNext (loading_of self.old (records_of realm.old)) }
-        ensures ok { OnOk result (loading_of self.new (records_of realm.new) ≡ settle (loading_of self.old (records_of realm.old)) url.now (seen (completion_of outcome.now))) }
-        ensures goes_on { OnOk result ((settle (loading_of self.old (records_of realm.old)) url.now (seen (completion_of outcome.now))).stopped ≡ None) }
+        ensures ok { OnOk result (loading_of self.new (records_of realm.new) ≡ settle (loading_of self.old (records_of realm.old)) url.now (outcome_view outcome.now)) }
+        ensures goes_on { OnOk result ((settle (loading_of self.old (records_of realm.old)) url.now (outcome_view outcome.now)).stopped ≡ None) }
         ensures one { OnOk result (AreOne self.new (records_of realm.new)) }
-        ensures limit { (limit : StopBy) → result ≡ Err (LoadEnd.Limit limit) → (settle (loading_of self.old (records_of realm.old)) url.now (seen (completion_of outcome.now))).stopped ≡ Some limit }
+        ensures limit { (limit : StopBy) → result ≡ Err (LoadEnd.Limit limit) → (settle (loading_of self.old (records_of realm.old)) url.now (outcome_view outcome.now)).stopped ≡ Some limit }
         ensures sound { Sound (records_of realm.new) }
     {
         match arrive(&mut self.table, realm, self.alloc, url, outcome) {
@@ -166,7 +166,7 @@ impl Loads {
 
     /// The tree of each module, in order of ids. It takes no memory.
     pub fn trees(&self) -> &[Arc<Tree>]
-        ensures { map arc_value result.now ≡ self.now.trees }
+        ensures { map tree_items result.now ≡ self.now.trees }
     {
         self.table.trees.as_slice()
     }

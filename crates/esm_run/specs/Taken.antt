@@ -3,11 +3,11 @@ use Rattle.std.specs.Prelude.{◌≡◌, ◌≢◌, ℕ, List, map, Option, None
 use Rattle.esm_ports.specs.declared.asked.Asked.{Asked}
 use Rattle.esm_ports.specs.declared.asked.AskKind.{AskKind}
 use Rattle.esm_ports.specs.declared.asked.AskKind.TheVariants.{Body, Absent, Failed}
-use Rattle.esm_ast.specs.ModuleText.{FaultOf}
+use Rattle.esm_grammar.specs.ModuleText.{FaultOf}
 use Rattle.esm_ast.specs.Script.{IsScriptOf}
-use Rattle.esm_ast.specs.Outcome.{Completion, Spelled, Refused, Missing, Lost, completion_of}
+use Rattle.esm_ast.specs.Outcome as fetched
+use Rattle.esm_ast.specs.Outcome.{OutcomeView, outcome_view}
 use Rattle.esm_base.specs.Urls.{has}
-use Rattle.esm_load.specs.Completion.{seen}
 use Rattle.esm_turn.specs.Run as runs
 use Rattle.esm_turn.specs.Run.{Shown, StandardRun}
 use Rattle.esm_run.specs.declared.report.Delivery.{Delivery}
@@ -15,45 +15,45 @@ use Rattle.esm_run.specs.declared.report.Delivery.{Delivery}
 -- one delivery: a URL, and what its fetch came to
 pub record Arrival : Type 0 where
   pub url : List ℕ
-  pub completion : Completion
+  pub outcome : OutcomeView
 
 abbrev pub arrival_of : Delivery → Arrival
-arrival_of delivery = record { url = delivery.url; completion = completion_of delivery.outcome }
+arrival_of delivery = record { url = delivery.url; outcome = outcome_view delivery.outcome }
 
 abbrev pub arrivals_of : List Delivery → List Arrival
 arrivals_of taken = map arrival_of taken
 
 -- the delivery as the standard run takes it
 abbrev pub delivery_of : Arrival → runs.Delivery
-delivery_of arrival = (arrival.url, seen arrival.completion)
+delivery_of arrival = (arrival.url, arrival.outcome)
 
 abbrev pub deliveries_of : List Arrival → List runs.Delivery
 deliveries_of taken = map delivery_of taken
 
 -- how the ask was answered
-abbrev pub kind_of : Completion → AskKind
-kind_of (Spelled script) = Body
-kind_of (Refused broken) = Body
-kind_of Missing = Absent
-kind_of Lost = Failed
+abbrev pub kind_of : OutcomeView → AskKind
+kind_of (fetched.Script script) = Body
+kind_of (fetched.Broken broken) = Body
+kind_of fetched.Absent = Absent
+kind_of fetched.Failed = Failed
 
 -- what a source holds for each URL
 abbrev pub Contents : Type 0
 Contents = List ℕ → Option (List ℕ)
 
--- the completion is that of a source with these contents
-abbrev pub IsToldCompletion : Contents → List ℕ → Completion → Type 0
-IsToldCompletion contents url (Spelled script) = IsSomeAnd (contents url) (λ bytes. script.bytes ≡ take 1048577 bytes)
-IsToldCompletion contents url (Refused broken) = IsSomeAnd (contents url) (λ bytes. broken.bytes ≡ take 1048577 bytes)
-IsToldCompletion contents url Missing = contents url ≡ None
-IsToldCompletion contents url Lost = ⊤
+-- the outcome is that of a source with these contents
+abbrev pub IsToldOutcome : Contents → List ℕ → OutcomeView → Type 0
+IsToldOutcome contents url (fetched.Script script) = IsSomeAnd (contents url) (λ bytes. script.bytes ≡ take 1048577 bytes)
+IsToldOutcome contents url (fetched.Broken broken) = IsSomeAnd (contents url) (λ bytes. broken.bytes ≡ take 1048577 bytes)
+IsToldOutcome contents url fetched.Absent = contents url ≡ None
+IsToldOutcome contents url fetched.Failed = ⊤
 
 -- where the source tells what it holds, the delivery is of that
 abbrev pub IsTold : Option Contents → Arrival → Type 0
-IsTold holds arrival = IfSome holds (λ contents. IsToldCompletion contents arrival.url arrival.completion)
+IsTold holds arrival = IfSome holds (λ contents. IsToldOutcome contents arrival.url arrival.outcome)
 
 abbrev pub ask_of : Arrival → Asked
-ask_of arrival = record { url = arrival.url; kind = kind_of arrival.completion }
+ask_of arrival = record { url = arrival.url; kind = kind_of arrival.outcome }
 
 -- one of these sources was asked for it and answered so
 abbrev pub WasDelivered : {S : Type 0} → (S → List Asked) → (S → Option Contents) → List S → Arrival → Type 0
@@ -77,8 +77,8 @@ abbrev pub AreStandardAsks : {S : Type 0} → (S → List Asked) → Shown → L
 AreStandardAsks asked_of what sources = All (λ ask. has what.asked ask.url ≡ true) (flat_map asked_of sources)
 
 -- a delivered body is what its bytes are read as
-abbrev pub IsRead : Completion → Type 0
-IsRead (Spelled script) = IsScriptOf script.bytes script
-IsRead (Refused broken) = FaultOf broken.bytes broken.fault
-IsRead Missing = ⊤
-IsRead Lost = ⊤
+abbrev pub IsRead : OutcomeView → Type 0
+IsRead (fetched.Script script) = IsScriptOf script.bytes script
+IsRead (fetched.Broken broken) = FaultOf broken.bytes broken.fault
+IsRead fetched.Absent = ⊤
+IsRead fetched.Failed = ⊤

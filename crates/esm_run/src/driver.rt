@@ -1,8 +1,7 @@
 // Drives a machine from a source.
 ghost use Rattle.std.specs.Prelude.{◌≡◌, ◌+◌, [], true, IfOk, IfSome, OnOk, length, slice_get};
-ghost use Rattle.esm_ast.specs.Outcome.{completion_of};
+ghost use Rattle.esm_ast.specs.Outcome.{outcome_view};
 ghost use Rattle.esm_base.specs.Urls.{Url, has, is_usable};
-ghost use Rattle.esm_load.specs.Completion.{seen};
 ghost use Rattle.esm_import_map.specs.ImportMap.{Maps};
 ghost use Rattle.esm_turn.specs.Stands.{StandsOn, asks_of, Stands};
 ghost use Rattle.esm_run.specs.Taken.{arrivals_of};
@@ -43,7 +42,7 @@ fn first_ask(alloc: Global, machine: &Machine) -> Result<Option<Text>, Memory>
 fn hand_over(machine: &mut Machine, url: &Text, outcome: &Outcome) -> Result<(), Memory>
     requires { has (asks_of machine.old) url.now ≡ true }
     ensures { OnOk result
-        (StandsOn machine.old url.now (seen (completion_of outcome.now)) machine.new) }
+        (StandsOn machine.old url.now (outcome_view outcome.now) machine.new) }
 {
     match machine.deliver(url, outcome) {
         Ok(()) => Ok(()),

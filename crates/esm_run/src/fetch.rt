@@ -2,19 +2,19 @@
 ghost use Rattle.std.specs.Prelude.{◌≡◌, ◌⊎◌, IfOk, OnErr, IfSome};
 ghost use Rattle.esm_ports.specs.declared.asked.AskKind.TheVariants.{Body};
 ghost use Rattle.esm_ports.specs.Asks.{asks_with};
-ghost use Rattle.esm_ast.specs.Outcome.{completion_of, OutcomeOf};
-ghost use Rattle.esm_run.specs.Taken.{kind_of, IsRead, IsToldCompletion};
+ghost use Rattle.esm_ast.specs.Outcome.{outcome_view, OutcomeOf};
+ghost use Rattle.esm_run.specs.Taken.{kind_of, IsRead, IsToldOutcome};
 
-use crate::first::read_script;
 use esm_ast::{BrokenText, Outcome};
 use esm_base::{Memory, ReadEnd, Text};
 use esm_ports::{FetchEnd, Source};
+use esm_script::read_script;
 use std::alloc::Global;
 use std::sync::Arc;
 
 // What a body is read as.
 fn outcome_of(alloc: Global, body: Vec<u8>) -> Result<Outcome, Memory>
-    ensures { IfOk result (λ o. OutcomeOf body.items (completion_of o)) }
+    ensures { IfOk result (λ o. OutcomeOf body.items (outcome_view o)) }
 {
     match read_script(alloc, body) {
         Ok(script) => Ok(Outcome::Script(Arc::new(alloc, script)?)),
@@ -32,10 +32,10 @@ pub(crate) fn fetch_outcome<S: Source>(
     url: &Text,
 ) -> Result<Outcome, Memory>
     ensures asked { IfOk result (λ o. S.asked source.new
-        ≡ asks_with (S.asked source.old) url.now (kind_of (completion_of o))) }
+        ≡ asks_with (S.asked source.old) url.now (kind_of (outcome_view o))) }
     ensures told { IfSome (S.holds source.old) (λ contents. IfOk result (λ o.
-        IsToldCompletion contents url.now (completion_of o))) }
-    ensures read { IfOk result (λ o. IsRead (completion_of o)) }
+        IsToldOutcome contents url.now (outcome_view o))) }
+    ensures read { IfOk result (λ o. IsRead (outcome_view o)) }
     ensures holds { S.holds source.new ≡ S.holds source.old }
     ensures memory { OnErr result ((S.asked source.new ≡ S.asked source.old)
         ⊎ (S.asked source.new ≡ asks_with (S.asked source.old) url.now Body)) }

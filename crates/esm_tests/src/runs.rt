@@ -13,6 +13,10 @@ const CANNOT_FETCH: &str = "Uncaught TypeError: cannot fetch https://a.test/main
 
 const NO_MODULE: &str = "Uncaught SyntaxError: https://a.test/main.js: P2 no module text\n";
 
+const EARLY_ERROR: &str = "Uncaught SyntaxError: https://a.test/main.js: P3 early error\n";
+
+const NOT_BUILT: &str = "Uncaught SyntaxError: https://a.test/main.js: form not built yet\n";
+
 #[test]
 fn a_run_writes_what_its_file_prints(rt: HostRuntime) -> Result<(), Memory> {
     let alloc = rt.alloc();
@@ -40,20 +44,27 @@ fn a_run_writes_what_its_file_prints(rt: HostRuntime) -> Result<(), Memory> {
         ),
         (
             COMMAND,
-            Some("\nprint(\"a\")"),
+            Some("\n/* é */;print('a\\u00e9',)\r\n;// b\nprint(\"\\x62\")"),
+            "aé\nb\n",
+            Status::Fulfilled,
+        ),
+        (
+            COMMAND,
+            Some("import {a} from \"./a"),
             NO_MODULE,
             Status::EntryFailed,
         ),
         (
             COMMAND,
-            Some("print(\"a\\n\")"),
-            NO_MODULE,
+            Some("let a; let a;"),
+            EARLY_ERROR,
             Status::EntryFailed,
         ),
+        (COMMAND, Some("const a = \"x\";"), NOT_BUILT, Status::EntryFailed),
         (
             COMMAND,
-            Some("print(\"é\")"),
-            NO_MODULE,
+            Some("import \"react\"; import {} from \"./a.js\";"),
+            NOT_BUILT,
             Status::EntryFailed,
         ),
         ("", Some(""), USAGE, Status::Usage),

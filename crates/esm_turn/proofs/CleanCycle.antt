@@ -3,17 +3,16 @@ use Rattle.std.proofs.Common.{◌≡◌, ℕ, Bool, true, false, List, [], ◌�
 use Rattle.std.specs.Prelude.{◌⊎◌}
 use Rattle.url.proofs.OnLiterals.{url_on_literals}
 use Rattle.esm_import_map.specs.ImportMap.{no_maps}
-use Rattle.esm_ast.specs.declared.item.Item.{Item}
-use Rattle.esm_ast.specs.ModuleText.{requests_of}
+use Rattle.esm_tree.specs.Syntax.{Item}
+use Rattle.esm_ast.specs.Entries.{requests_of, requests_after, add_request, request_of, with_text}
 use Rattle.esm_base.specs.Urls.{Url, has, same_url}
 use Rattle.esm_realm.specs.Walk.{Visits, leaves}
 use Rattle.esm_realm.specs.Walk.Mark.{Enter, Pass, Leave}
 use Rattle.esm_realm.proofs.Urls.{same_text, or_true, or_left, or_cases, has_own}
 use Rattle.esm_realm.proofs.WalkBy.{walk_found}
-use Rattle.esm_load.specs.Completion.{Spelled}
 use Rattle.esm_load.specs.Table.{targets_of}
 use Rattle.esm_turn.specs.Bodies.{run_bodies, opening_bodies}
-use Rattle.esm_turn.specs.Direct.{Closure, IsClean, DirectRun, MeetsNoLimit, file_targets, file_body}
+use Rattle.esm_turn.specs.Direct.{Closure, IsCleanFile, IsClean, DirectRun, MeetsNoLimit, file_targets, file_body}
 use Rattle.esm_turn.specs.Direct.Closure.{itself, requested}
 use Rattle.esm_turn.specs.Examples.{main_url, a_url, b_url, cycle_main_items, cycle_a_items, cycle_b_items, cycle_files, cycle_bodies, CleanCycle}
 
@@ -40,15 +39,15 @@ each P m a b u h = first (or_cases (same_url u main_url) (has (a_url ∷ b_url �
     first (inr k) = second (or_cases (same_url u a_url) (has (b_url ∷ []) u) k)
 
 main_targets : file_targets no_maps cycle_files main_url ≡ a_url ∷ b_url ∷ []
-unfolding url_on_literals
+unfolding url_on_literals requests_after add_request request_of with_text
 main_targets = refl
 
 a_targets : file_targets no_maps cycle_files a_url ≡ b_url ∷ []
-unfolding url_on_literals
+unfolding url_on_literals requests_after add_request request_of with_text
 a_targets = refl
 
 b_targets : file_targets no_maps cycle_files b_url ≡ main_url ∷ []
-unfolding url_on_literals
+unfolding url_on_literals requests_after add_request request_of with_text
 b_targets = refl
 
 -- what the three request is among them
@@ -71,34 +70,34 @@ unfolding Stays
 reached u itself = has_own main_url (a_url ∷ b_url ∷ [])
 reached u (requested {u = v} c h) = stays v (reached v c) u h
 
--- a module text of so many bytes, whose requests resolve
+-- a module text whose requests resolve
 IsSpelled : Url → Type 0
-IsSpelled u = (items : List Item) × (bytes : ℕ) × (urls : List Url) × (cycle_files u ≡ Some (Spelled items bytes)) × (targets_of no_maps u (requests_of items) ≡ Ok urls)
+IsSpelled u = IsCleanFile no_maps cycle_files u
 
 main_resolves : targets_of no_maps main_url (requests_of cycle_main_items) ≡ Ok (a_url ∷ b_url ∷ [])
-unfolding url_on_literals
+unfolding url_on_literals requests_after add_request request_of with_text
 main_resolves = refl
 
 a_resolves : targets_of no_maps a_url (requests_of cycle_a_items) ≡ Ok (b_url ∷ [])
-unfolding url_on_literals
+unfolding url_on_literals requests_after add_request request_of with_text
 a_resolves = refl
 
 b_resolves : targets_of no_maps b_url (requests_of cycle_b_items) ≡ Ok (main_url ∷ [])
-unfolding url_on_literals
+unfolding url_on_literals requests_after add_request request_of with_text
 b_resolves = refl
 
 clean : IsClean no_maps cycle_files main_url
 unfolding IsSpelled
 clean = record {
   spelled = λ u c. each IsSpelled
-      (cycle_main_items, _, a_url ∷ b_url ∷ [], refl, main_resolves)
-      (cycle_a_items, _, b_url ∷ [], refl, a_resolves)
-      (cycle_b_items, _, main_url ∷ [], refl, b_resolves)
+      (record { script = _; urls = a_url ∷ b_url ∷ []; file = refl; built = refl; resolves = main_resolves })
+      (record { script = _; urls = b_url ∷ []; file = refl; built = refl; resolves = a_resolves })
+      (record { script = _; urls = main_url ∷ []; file = refl; built = refl; resolves = b_resolves })
       u (reached u c);
 }
 
 direct : DirectRun no_maps cycle_files main_url cycle_bodies
-unfolding url_on_literals
+unfolding url_on_literals requests_after add_request request_of with_text
 direct = record {
   marks = Enter main_url ∷ Enter a_url ∷ Enter b_url ∷ Pass b_url 0 ∷ Leave b_url ∷ Pass a_url 0 ∷ Leave a_url ∷ Pass main_url 0 ∷ Pass main_url 1 ∷ Leave main_url ∷ [];
   walk = (b_url ∷ a_url ∷ main_url ∷ [], walk_found (file_targets no_maps cycle_files) 9 main_url _ refl);

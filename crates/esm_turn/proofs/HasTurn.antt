@@ -6,7 +6,7 @@ use Rattle.esm_import_map.specs.ImportMap.{Maps}
 use Rattle.esm_base.specs.declared.limits.Limit.{Limit}
 use Rattle.esm_base.specs.Urls.{Text, Url, has}
 use Rattle.esm_realm.specs.Walk.{IsWalk, leaves}
-use Rattle.esm_load.specs.Completion.{Completion}
+use Rattle.esm_ast.specs.Outcome.{OutcomeView}
 use Rattle.esm_load.specs.Loading.{Loading, LoadState, Whole, Thrown, Asker, targets, body}
 use Rattle.esm_load.specs.Load.{Answers}
 use Rattle.esm_load.specs.Arrival.{Next, next, settle}
@@ -82,7 +82,7 @@ tasks_by : (k : ℕ) (w : World) → Phase w → askers_left w.loading ≤ k →
 tasks_by zero w p le = tasks_at w p (λ mid q lt. absurd (omega (arith, lt, le)))
 tasks_by (suc k) w p le = tasks_at w p (λ mid q lt. tasks_by k mid q (omega (arith, lt, le)))
 
-pub has_turn : (maps : Maps) (entry : Url) (ds : List Delivery) (w : World) (u : Url) (c : Completion) → Runs (opening maps entry) ds w → has (asks w) u ≡ true → (after : World) × Turn w u c after
+pub has_turn : (maps : Maps) (entry : Url) (ds : List Delivery) (w : World) (u : Url) (c : OutcomeView) → Runs (opening maps entry) ds w → has (asks w) u ≡ true → (after : World) × Turn w u c after
 unfolding HasTasks
 has_turn maps entry ds w u c r h = by (settle w.loading u c).stopped refl
   where

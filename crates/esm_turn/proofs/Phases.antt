@@ -8,11 +8,11 @@ use Rattle.esm_base.specs.declared.limits.Limit.{Limit}
 use Rattle.esm_base.specs.Urls.{Text, Url, url_cmp, has, same_url}
 use Rattle.esm_realm.specs.Walk.{Mark, Visits, leaves}
 use Rattle.esm_realm.proofs.Urls.{cases, same_text, own_text, or_cases, not_both}
-use Rattle.esm_load.specs.Completion.{Completion, bytes_of}
+use Rattle.esm_ast.specs.Outcome.{OutcomeView}
 use Rattle.esm_load.specs.Table.{Entry, entry_of}
 use Rattle.esm_load.specs.Loading.{Loading, Asked, Whole, Thrown, Asker, Root, load_of, targets, body, opening_loading}
 use Rattle.esm_load.specs.Load.{Answers}
-use Rattle.esm_load.specs.Arrival.{Next, next, settle, store, store_by, count, count_by, open_asks}
+use Rattle.esm_load.specs.Arrival.{bytes_of, Next, next, settle, store, store_by, count, count_by, open_asks}
 use Rattle.esm_load.proofs.Kept.{answers_keeps}
 use Rattle.esm_load.proofs.Grows.{Has}
 use Rattle.esm_load.proofs.Grows.Has.{here}
@@ -117,7 +117,7 @@ tasks_phase (Tasks.task live g v j q) (halted limit s t) = cc
 
 -- ---- turns
 
-stored_kept : (stop : Option Limit) (l : Loading) (u : Url) (c : Completion) → IsWanted l → IsWanted (store_by stop l u c)
+stored_kept : (stop : Option Limit) (l : Loading) (u : Url) (c : OutcomeView) → IsWanted l → IsWanted (store_by stop l u c)
 stored_kept (Some limit) l u c k = k
 stored_kept None l u c k = record { wanted = λ v h n. by v h n (cases (same_url v u)) }
   where
@@ -137,7 +137,7 @@ record IsSettling (l m : Loading) : Type 0 where
   askers : m.askers ≡ l.askers
   jobs : m.jobs ≡ l.jobs
 
-settling : (l : Loading) (u : Url) (c : Completion) → IsSettling l (settle l u c)
+settling : (l : Loading) (u : Url) (c : OutcomeView) → IsSettling l (settle l u c)
 settling l u c = by (nat_lt 16777216 (l.bytes + bytes_of c))
   where
     stores : (stop : Option Limit) (m : Loading) → IsSettling l m → IsSettling l (store_by stop m u c)
@@ -148,7 +148,7 @@ settling l u c = by (nat_lt 16777216 (l.bytes + bytes_of c))
     by true = record { loads = refl; askers = refl; jobs = refl }
     by false = stores l.stopped (record l { bytes = l.bytes + bytes_of c }) (record { loads = refl; askers = refl; jobs = refl })
 
-pub settled_kept : (w : World) (u : Url) (c : Completion) → IsKept w → IsKept (record w { loading = settle w.loading u c })
+pub settled_kept : (w : World) (u : Url) (c : OutcomeView) → IsKept w → IsKept (record w { loading = settle w.loading u c })
 settled_kept w u c k =
     let s = settling w.loading u c in
     record {
@@ -174,7 +174,7 @@ asks_quiet w u (ran k z e) h =
     none_waits a h = elim h [ ]
 asks_quiet w u (halted limit s t) h = let live = asks_live (stopped w) (open_asks w.loading) u h in let n : stopped w ≡ None = live.0 in cc
 
-turn_phase : {w : World} {u : Url} {c : Completion} {a : World} → Turn w u c a → IsQuiet w → Phase a
+turn_phase : {w : World} {u : Url} {c : OutcomeView} {a : World} → Turn w u c a → IsQuiet w → Phase a
 turn_phase {w} {u} {c} (Turn.limit limit s) q = quiet (settled_kept w u c q.kept) q.events
 turn_phase {w} {u} {c} (Turn.turn live t) q = tasks_phase t (quiet (settled_kept w u c q.kept) q.events)
 

@@ -1,11 +1,10 @@
 // The machine: an entry, and the deliveries that it has taken.
 ghost use Rattle.std.specs.Prelude.{◌≡◌, All, List, [], ◌∷◌, ◌++◌, true, IfOk, IfErr, OnOk, Some, None, Err, is_some, option_map, slice_get, codes, IsSome, ◌↔◌};
-ghost use Rattle.esm_ast.specs.Outcome.{completion_of};
+ghost use Rattle.esm_ast.specs.Outcome.{outcome_view};
 ghost use Rattle.esm_base.specs.Limits.{limit_name};
 ghost use Rattle.esm_base.specs.Urls.{is_usable, IsUsable};
 ghost use Rattle.esm_realm.specs.Sound.{RecordParts};
 ghost use Rattle.std.specs.Arc.{arc_value};
-ghost use Rattle.esm_load.specs.Completion.{seen};
 ghost use Rattle.esm_load.specs.Loading.{Loading};
 ghost use Rattle.esm_load.specs.LoadsView.{AreOne, loading_of};
 ghost use Rattle.esm_turn.specs.LastLine.{ending_by, last_line_by, live_ending, status_of};
@@ -37,6 +36,7 @@ pub struct Machine {
 
 impl Model for Machine {
     ghost use Rattle.std.specs.Coded.{codes};
+    ghost use Rattle.esm_tree.specs.Syntax.{coded_item};
     ghost use Rattle.std.specs.FinMap as maps;
     ghost use Rattle.esm_turn.specs.Stands.{State};
 
@@ -165,7 +165,7 @@ impl Machine {
     pub fn deliver(&mut self, url: &Text, outcome: &Outcome) -> Result<(), TurnEnd>
         requires { MayTake self.old url.now }
         ensures turn { self.old.stopped ≡ None
-            → Took self.old url.now (seen (completion_of outcome.now)) result self.new }
+            → Took self.old url.now (outcome_view outcome.now) result self.new }
         ensures again { (end : EndOf) → self.old.stopped ≡ Some end
             → (result ≡ Err end) × (self.new ≡ self.old) }
         ensures goes_on { OnOk result (self.new.stopped ≡ None) }

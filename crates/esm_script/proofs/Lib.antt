@@ -1,0 +1,4 @@
+pub mod Items
+pub mod Exported
+pub mod Awaiting
+pub mod Gathered
