@@ -8,19 +8,26 @@ use esm_ports::{FileSource, StdSink};
 use esm_run::run;
 use std::alloc::Global;
 use std::env;
+use std::io::ErrorKind;
 use std::process::ExitCode;
 use std::rt::{Env, Files};
 
 /// How many sources a run is given.
 const SOURCES: usize = 16;
 
-// The words after the program's name. Where they can't be read as text there are none, which is no command.
+// The words after the program's name. Where one of them isn't UTF-8 there are none, which is no command.
 fn words<R: Env + AllocGlobal>(rt: &R, alloc: Global) -> Result<Vec<String>, Memory> {
     let mut words = Vec::new(alloc);
-    if let Ok(args) = env::args(rt) {
-        for word in args.skip(1) {
-            words.push(word)?;
+    match env::args(rt) {
+        Ok(args) => {
+            for word in args.skip(1) {
+                words.push(word)?;
+            }
         }
+        Err(fault) => match fault.kind() {
+            ErrorKind::OutOfMemory => return Err(Memory),
+            _ => {}
+        },
     }
     Ok(words)
 }

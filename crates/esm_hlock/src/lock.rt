@@ -32,8 +32,7 @@ pub struct Hlock<T: Story + Drop> {
     ghost sized: { (table.shared.table_id.words ≡ 3) × (table.shared.table_id.slots ≡ 1) },
 }
 
-/// A lock was closed while a `Held` was out: the tickets from `serving` up to `ticket` were drawn,
-/// and their turns haven't ended.
+/// A lock was closed while a `Held` was out. The two words differ, and `serving` is the lesser.
 #[derive(Clone, Copy, Debug, PartialEq, Eq)]
 pub struct Busy {
     /// The next ticket.
@@ -46,7 +45,7 @@ impl<T: Story + Drop> Hlock<T> {
     ghost use Rattle.esm_hlock.specs.Words.{knows, found, IsPassOf, IsHeldOf};
 
     /// A lock round the state, and the pass that has all 1,024 shares and has seen the state's
-    /// entries. It has no number, and its list has their makers. For want of memory the state is
+    /// entries. It has no number, and its list has their makers. Where memory runs out the state is
     /// dropped.
     pub fn new(alloc: Global, state: T) -> Result<(Hlock<T>, Pass<T>), Memory>
         ensures own { IfOk result (λ made. IsPassOf made.0 made.1) }
@@ -67,7 +66,7 @@ impl<T: Story + Drop> Hlock<T> {
 
     /// Waits for its turn, and takes the state out. The state's entries begin with what the pass
     /// has seen, and none behind that has the pass's number as its maker. It yields for a while and
-    /// then sleeps. Once 2^64 - 1 tickets were drawn it waits for ever. It takes no memory.
+    /// then sleeps. Once 2^64 - 1 tickets were drawn it waits for ever. It doesn't allocate.
     pub fn enter<R: Wait>(&self, rt: &R, pass: Pass<T>) -> Held<T>
         requires { IsPassOf self.now pass }
         ensures own { IsHeldOf self.now result }
@@ -88,7 +87,7 @@ impl<T: Story + Drop> Hlock<T> {
     /// Puts the state back, whose entries are those found and at most one more, and ends the turn.
     /// An added entry has no maker or the pass's number. Where the pass has no number, the maker may
     /// be a number that no entry had, which is the pass's own from then on. The pass has seen all
-    /// entries. It takes no memory.
+    /// entries. It doesn't allocate.
     pub fn leave(&self, held: Held<T>) -> Pass<T>
         requires own { IsHeldOf self.now held }
         requires step { IsStep T.maker (found held).number (found held).seen (T.story held.state) }
@@ -110,7 +109,7 @@ impl<T: Story + Drop> Hlock<T> {
     }
 
     /// A second pass that has seen the same. It has no number, an empty list of numbers, and one
-    /// share of the first pass, which has two or more and keeps all else. It takes no memory.
+    /// share of the first pass, which has two or more and keeps all else. It doesn't allocate.
     pub fn split(&self, pass: &mut Pass<T>) -> Pass<T>
         requires own { IsPassOf self.now pass.old }
         requires shares { 1 < (knows pass.old).shares }
@@ -126,7 +125,7 @@ impl<T: Story + Drop> Hlock<T> {
 
     /// One pass of two. It has seen the longer of what they have seen, which both begin, and behind
     /// the shorter the longer names the shorter one's number nowhere. It has the first one's number,
-    /// and the shares and the numbers of both. It takes no memory.
+    /// and the shares and the numbers of both. It doesn't allocate.
     pub fn join(&self, one: Pass<T>, other: Pass<T>) -> Pass<T>
         requires own { IsPassOf self.now one × IsPassOf self.now other }
         ensures own { IsPassOf self.now result }
@@ -145,9 +144,12 @@ impl<T: Story + Drop> Hlock<T> {
         PassOf { seat }
     }
 
-    /// Ends the lock, and gives the state back exactly where the served ticket is the next one. Else
-    /// a `Held` wasn't left, and what the lock still has is dropped. A pass with all shares always
-    /// gets the state. It takes no memory.
+    /// Ends the lock, and gives the state back where the served ticket is the next one. Else a `Held`
+    /// wasn't left, and what the lock still has is dropped. A pass with all shares always gets the
+    /// state. It doesn't allocate.
+    ///
+    /// The clause `exact` says that some table which keeps the rule has these two words and this
+    /// pass; that it is this lock's table is read off the code.
     pub fn close(self, pass: Pass<T>) -> Result<T, Busy>
         requires { IsPassOf self pass }
         ensures seen { IfOk result (λ state. Continues T.maker (T.story state) (knows pass).seen (knows pass).number) }

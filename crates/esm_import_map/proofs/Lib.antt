@@ -1,2 +1,1 @@
-pub mod TextMaps
 pub mod Json

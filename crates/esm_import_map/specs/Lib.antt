@@ -1,4 +1,3 @@
 pub mod ImportMap
 pub mod Reading
 pub mod Specifier
-pub mod TextMap

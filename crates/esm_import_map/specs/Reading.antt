@@ -9,7 +9,7 @@ use Rattle.esm_base.specs.declared.limits.TheConstants.{MAX_FILE_BYTES}
 use Rattle.esm_base.specs.Urls.{url_of}
 use Rattle.esm_import_map.specs.ImportMap.{SpecifierMap, Maps}
 use Rattle.esm_import_map.specs.Specifier.{url_like, begins_with, ends_in_slash}
-use Rattle.esm_import_map.specs.TextMap.{Entries, with_new}
+use Rattle.esm_base.specs.TextMap.{TextMapView, with_new}
 use Rattle.esm_import_map.specs.declared.fault.MapFault.{MapFault}
 use Rattle.esm_import_map.specs.declared.fault.MapFault.TheVariants.{M1, M2, M3, M4}
 
@@ -53,13 +53,13 @@ abbrev pub members_in : Data → Members
 members_in value = unwrap_or (as_object value) no_members
 
 -- one scope more, at the prefix if that is a URL
-abbrev pub with_scope : Option Parts → Option SpecifierMap → Entries SpecifierMap → Option (Entries SpecifierMap)
+abbrev pub with_scope : Option Parts → Option SpecifierMap → TextMapView SpecifierMap → Option (TextMapView SpecifierMap)
 with_scope None map scopes = Some scopes
 with_scope (Some url) map scopes = option_and_then (λ m. with_new (serialize url) m scopes) map
 
 -- HTML, sort and normalize scopes: each member of the object in turn, into the scopes so far; nothing where two
 -- kept prefixes, or two kept keys within a kept scope, are one text
-abbrev pub normalized_scopes : Parts → Members → Entries SpecifierMap → Option (Entries SpecifierMap)
+abbrev pub normalized_scopes : Parts → Members → TextMapView SpecifierMap → Option (TextMapView SpecifierMap)
 normalized_scopes base no_members scopes = Some scopes
 normalized_scopes base (member prefix value more) scopes =
     option_and_then (normalized_scopes base more)
@@ -76,7 +76,7 @@ part_of None = Some no_members
 part_of (Some value) = as_object value
 
 -- the two maps, or two texts were one
-abbrev pub of_maps : Option SpecifierMap → Option (Entries SpecifierMap) → Result Maps MapFault
+abbrev pub of_maps : Option SpecifierMap → Option (TextMapView SpecifierMap) → Result Maps MapFault
 of_maps (Some imports) (Some scopes) = Ok (record { imports = imports; scopes = scopes })
 of_maps (Some imports) None = Err M4
 of_maps None scopes = Err M4

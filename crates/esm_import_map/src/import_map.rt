@@ -6,7 +6,7 @@ ghost use Rattle.esm_import_map.specs.Reading.{import_map_of};
 
 use crate::fault::MapReadEnd;
 use crate::reading::read_text;
-use crate::text_map::TextMap;
+use esm_base::TextMap;
 use std::alloc::Global;
 use std::marker::Model;
 use url::Url;
@@ -32,7 +32,7 @@ impl Model for ImportMap {
 }
 
 impl ImportMap {
-    /// The map that maps nothing. It takes no memory.
+    /// The map that maps nothing. It doesn't allocate.
     pub fn empty(alloc: Global) -> ImportMap
         ensures { result ≡ no_maps }
     {

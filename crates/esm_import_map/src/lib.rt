@@ -5,12 +5,10 @@ mod fault;
 mod import_map;
 mod reading;
 mod specifier;
-mod text_map;
 
 pub use fault::{MapFault, MapReadEnd};
 pub use import_map::{ImportMap, SpecifierMap};
 pub use specifier::{ends_in_slash, is_relative, url_like};
-pub use text_map::TextMap;
 
 #[cfg(test)]
 mod tests;

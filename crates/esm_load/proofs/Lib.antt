@@ -1,9 +1,7 @@
 pub mod OneLoad
 pub mod Kept
 pub mod Asking
-pub mod Resolving
 pub mod LoadBy
-pub mod ResolvingBy
 pub mod Added
 pub mod Entries
 pub mod Waiting

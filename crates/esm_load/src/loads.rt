@@ -16,6 +16,7 @@ use crate::arriving::arrive;
 use crate::table::{Loaded, Stage, Table, ask_first};
 use esm_ast::{Outcome, Tree};
 use esm_base::{Memory, ModuleId, Text};
+use esm_import_map::ImportMap;
 use esm_realm::Realm;
 use std::alloc::Global;
 use std::marker::Model;
@@ -37,9 +38,11 @@ impl Model for Loads {
 
     ghost Value = { LoadsView };
 
-    ghost coded = { Prim.hlevel (codes, coded_item) };
-
     ghost use Rattle.esm_load.specs.TableView.{view_of};
+
+    ghost use Rattle.esm_import_map.specs.ImportMap.{maps_code};
+
+    ghost coded = { Prim.hlevel (codes, maps_code, coded_item) };
 
     ghost view = { λ l. view_of l.table };
 
@@ -49,12 +52,12 @@ impl Model for Loads {
 }
 
 impl Loads {
-    /// The loads that have asked for nothing. It takes no memory.
-    pub fn new(alloc: Global) -> Loads
-        ensures { result ≡ no_loads }
+    /// The loads that have asked for nothing, under this import map. It takes no memory.
+    pub fn new(alloc: Global, map: Arc<ImportMap>) -> Loads
+        ensures { result ≡ no_loads (arc_value map) }
     {
         Loads {
-            table: Table::new(alloc),
+            table: Table::new(alloc, map),
             alloc,
         }
     }
@@ -62,10 +65,10 @@ impl Loads {
     /// Asks for the entry, whose URL is canonical and at most 8,192 bytes long. This is the first call of a run: nothing
     /// was asked for before, and the realm has no records.
     pub fn ask_entry(&mut self, realm: &mut Realm, url: &Text) -> Result<(), LoadEnd>
-        requires fresh { self.old ≡ no_loads }
+        requires fresh { self.old ≡ no_loads self.old.maps }
         requires empty { records_of realm.old ≡ [] }
         requires usable { is_usable url.now ≡ true }
-        ensures ok { OnOk result (loading_of self.new (records_of realm.new) ≡ opening_loading url.now) }
+        ensures ok { OnOk result (loading_of self.new (records_of realm.new) ≡ opening_loading self.old.maps url.now) }
         ensures one { OnOk result (AreOne self.new (records_of realm.new)) }
         ensures limit { (limit : StopBy) → result ≡ Err (LoadEnd.Limit limit) → ⊥ }
         ensures realm { records_of realm.new ≡ records_of realm.old }
@@ -74,7 +77,7 @@ impl Loads {
         match ask_first(&mut self.table, self.alloc, url) {
             Ok(()) => Ok(()),
             Err(Memory) => {
-                self.table = Table::new(self.alloc);
+                self.table.clear(self.alloc);
                 Err(LoadEnd::Memory)
             }
         }
@@ -102,7 +105,7 @@ impl Loads {
         match arrive(&mut self.table, realm, self.alloc, url, outcome) {
             Ok(()) => Ok(()),
             Err(end) => {
-                self.table = Table::new(self.alloc);
+                self.table.clear(self.alloc);
                 Err(end)
             }
         }
@@ -124,7 +127,7 @@ impl Loads {
         match answer_next(&mut self.table, realm, self.alloc) {
             Ok(answered) => Ok(answered),
             Err(end) => {
-                self.table = Table::new(self.alloc);
+                self.table.clear(self.alloc);
                 Err(end)
             }
         }
@@ -185,7 +188,8 @@ mod tests {
     fn asks_for_the_entry(rt: HostRuntime) -> Result<(), Fail> {
         let alloc = rt.alloc();
         let mut realm = Realm::new(alloc);
-        let mut loads = Loads::new(alloc);
+        let map = Arc::new(alloc, ImportMap::empty(alloc))?;
+        let mut loads = Loads::new(alloc, map);
         assert!(rt; loads.asks().is_empty());
         let url = Text::copy(alloc, "https://a.test/main.js")?;
         assert!(rt; loads.ask_entry(&mut realm, &url).is_ok());
@@ -202,7 +206,8 @@ mod tests {
     fn an_absent_entry_is_answered_once(rt: HostRuntime) -> Result<(), Fail> {
         let alloc = rt.alloc();
         let mut realm = Realm::new(alloc);
-        let mut loads = Loads::new(alloc);
+        let map = Arc::new(alloc, ImportMap::empty(alloc))?;
+        let mut loads = Loads::new(alloc, map);
         let url = Text::copy(alloc, "https://a.test/main.js")?;
         loads.ask_entry(&mut realm, &url)?;
         loads.arrive(&mut realm, &url, &Outcome::Absent)?;

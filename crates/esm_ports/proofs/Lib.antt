@@ -1,3 +1,3 @@
-pub mod FileLemmas
 pub mod AskLemmas
 pub mod PutLemmas
+pub mod FileLemmas

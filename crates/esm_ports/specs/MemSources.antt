@@ -3,11 +3,11 @@ use Rattle.std.specs.Prelude.{◌+◌, ℕ, List, length, Result, Ok, Err, Conta
 use Rattle.esm_ports.specs.declared.asked.Asked.{Asked}
 use Rattle.esm_ports.specs.declared.source.FetchEnd.{FetchEnd}
 use Rattle.esm_ports.specs.declared.source.FetchEnd.TheVariants.{Absent, Failed, Memory}
-use Rattle.esm_ports.specs.Files.{File}
+use Rattle.esm_ports.specs.Files.{FilesByUrl}
 
 -- what it holds, at which calls it fails, and what it was asked
 pub record SourcePlan : Type 0 where
-  pub files : List File
+  pub files : FilesByUrl
   pub fail_at : List ℕ
   pub asked : List Asked
 

@@ -38,7 +38,7 @@ impl Model for Asks {
 }
 
 impl Asks {
-    /// Nothing was asked. It takes no memory.
+    /// Nothing was asked. It doesn't allocate.
     pub fn new(alloc: Global) -> Asks
         ensures { result ≡ [] }
     {

@@ -35,7 +35,7 @@ impl<R> Model for FileSource<R> {
 }
 
 impl<R: Files> FileSource<R> {
-    /// The files below the folder `root`, of which none was asked for. It takes no memory.
+    /// The files below the folder `root`, of which none was asked for. It doesn't allocate.
     pub fn new(rt: R, alloc: Global, root: Text) -> FileSource<R>
         ensures { result ≡ [] }
     {

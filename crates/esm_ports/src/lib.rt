@@ -17,6 +17,7 @@ mod sure_source;
 pub use asked::{AskKind, Asked};
 pub use asks::Asks;
 pub use file_source::FileSource;
+pub use held_files::HeldFiles;
 pub use mem_sink::MemSink;
 pub use mem_source::MemSource;
 pub use put::put_all;
@@ -25,3 +26,6 @@ pub use source::{FetchEnd, Source};
 pub use std_sink::StdSink;
 pub use sure_sink::SureSink;
 pub use sure_source::SureSource;
+
+#[cfg(test)]
+mod tests;

@@ -7,7 +7,7 @@ use std::alloc::Global;
 use std::marker::Model;
 
 /// A sink that takes a few bytes in one call, and fails at the calls that it is told. Contracts see what was written,
-/// the plan, and how many calls were made and failed; a call that answers want of memory isn't counted.
+/// the plan, and how many calls were made and failed; a call that answers `Memory` isn't counted.
 #[derive(Drop)]
 pub struct MemSink {
     written: Vec<u8>,
@@ -36,7 +36,7 @@ impl Model for MemSink {
 
 impl MemSink {
     /// A sink that takes in one call the first `most` bytes of a piece, or all of a shorter one, and fails at the
-    /// calls whose number, counted from 1, stands in `fail_at`. It takes no memory.
+    /// calls whose number, counted from 1, stands in `fail_at`. It doesn't allocate.
     pub fn new(alloc: Global, most: usize, fail_at: Vec<u64>) -> MemSink
         requires { 1 ≤ most }
         ensures { result ≡ record { written = []; most = most; fail_at = fail_at.items; calls = 0; faults = 0 } }

@@ -1,12 +1,12 @@
 // A source in memory that fails by a plan.
-ghost use Rattle.std.specs.Prelude.{◌≡◌, ◌≢◌, ◌+◌, ◌↔◌, Some, [], IsTrue, Contains, length, refl};
+ghost use Rattle.std.specs.Prelude.{◌≡◌, ◌≢◌, ◌+◌, ◌↔◌, ℕ, List, Some, [], IfOk, IsTrue, Contains, length, refl};
 ghost use Rattle.esm_base.specs.declared.limits.TheConstants.{MAX_BODY_BYTES};
 ghost use Rattle.esm_ports.specs.Asks.{failed_count};
-ghost use Rattle.esm_ports.specs.Files.{contents_of, HasDistinctUrls};
+ghost use Rattle.esm_ports.specs.Files.{contents_of, held_at};
 
-use crate::held_files::read;
+use crate::held_files::{HeldFiles, by_url, read};
 use crate::{AskKind, Asked, Asks, FetchEnd, Source};
-use esm_base::Text;
+use esm_base::{Memory, Text};
 use std::alloc::Global;
 use std::marker::Model;
 
@@ -14,7 +14,7 @@ use std::marker::Model;
 /// what was asked; the number of a call is one more than the number of fetches that were answered before it.
 #[derive(Drop)]
 pub struct MemSource {
-    files: Vec<(Text, Vec<u8>)>,
+    files: HeldFiles,
     fail_at: Vec<u64>,
     asked: Asks,
 }
@@ -24,21 +24,28 @@ impl Model for MemSource {
 
     ghost Value = { SourcePlan };
 
-    ghost view = { λ s. record { files = s.files.items; fail_at = s.fail_at.items; asked = s.asked } };
+    ghost view = { λ s. record { files = s.files; fail_at = s.fail_at.items; asked = s.asked } };
 }
 
 impl MemSource {
     /// A source of these files that wasn't asked for anything and fails at the calls whose number, counted from 1,
-    /// stands in `fail_at`. It takes no memory.
-    pub fn new(alloc: Global, files: Vec<(Text, Vec<u8>)>, fail_at: Vec<u64>) -> MemSource
-        requires { HasDistinctUrls files.items }
-        ensures { result ≡ record { files = files.items; fail_at = fail_at.items; asked = [] } }
+    /// stands in `fail_at`. Of two files with one URL the first counts. It answers `Memory` where memory runs out.
+    pub fn new(
+        alloc: Global,
+        files: Vec<(Text, Vec<u8>)>,
+        fail_at: Vec<u64>,
+    ) -> Result<MemSource, Memory>
+        ensures files { IfOk result (λ source. (url : List ℕ) →
+            held_at source.files url ≡ contents_of files.items url) }
+        ensures plan { IfOk result (λ source. source.fail_at ≡ fail_at.items) }
+        ensures asked { IfOk result (λ source. source.asked ≡ []) }
     {
-        MemSource {
+        let files = by_url(alloc, files)?;
+        Ok(MemSource {
             files,
             fail_at,
             asked: Asks::new(alloc),
-        }
+        })
     }
 
     /// What was asked so far.
@@ -58,13 +65,13 @@ impl MemSource {
 }
 
 impl Source for MemSource {
-    ghost use Rattle.std.specs.Prelude.{◌<◌, ◌≤◌, IfOk, IfSome, IsErrOf};
+    ghost use Rattle.std.specs.Prelude.{◌<◌, ◌≤◌, IfSome, IsErrOf};
     ghost use Rattle.esm_ports.specs.Source.{IsToldBy, asked_after};
     ghost use Rattle.esm_ports.specs.MemSources.{FetchesByPlan};
 
     ghost asked = { λ s. s.asked };
 
-    ghost holds = { λ s. Some (contents_of s.files) };
+    ghost holds = { λ s. Some (held_at s.files) };
 
     ghost faults = { λ s. failed_count s.asked };
 
@@ -73,7 +80,7 @@ impl Source for MemSource {
     /// What every source ensures, and that it fails just at the calls that it was told.
     fn fetch(&mut self, alloc: Global, url: &str) -> Result<Vec<u8>, FetchEnd>
         ensures asked { self.new.asked ≡ asked_after self.old.asked url.now result }
-        ensures told { IsToldBy (contents_of self.old.files) url.now result }
+        ensures told { IsToldBy (held_at self.old.files) url.now result }
         ensures short { IfOk result (λ body. length body.items ≤ MAX_BODY_BYTES) }
         ensures holds { self.new.files ≡ self.old.files }
         ensures failed { IsErrOf result FetchEnd.Failed → failed_count self.old.asked < failed_count self.new.asked }

@@ -6,7 +6,7 @@ use crate::{Sink, SinkEnd};
 
 /// Writes all bytes, in as many calls as the sink wants: each call of `write` is given all bytes that aren't written
 /// yet, and there is none for an empty rest. After a refusal a prefix was written; a failure was counted in this call,
-/// and after want of memory the count is unchanged.
+/// and after `Memory` the count is unchanged.
 pub fn put_all<K: Sink>(out: &mut K, bytes: &[u8]) -> Result<(), SinkEnd>
     requires { K.faults out.old < 2 ^ 64 - 1 }
     ensures calls { Writes K.write_gives bytes.now out.old (refusal_of result) out.new }

@@ -55,7 +55,7 @@ impl<T: Drop> From<AllocFailed<T>> for FetchEnd {
 /// A place that module texts are fetched from.
 ///
 /// Contracts see three things of it: what it was asked and how it answered, which grows by one with each answer that
-/// isn't want of memory; how often a fetch has failed; and, where it tells, what it holds, which never changes.
+/// isn't `Memory`; how often a fetch has failed; and, where it tells, what it holds, which never changes.
 pub trait Source: Drop {
     /// The fetches so far that were answered, in order.
     ghost asked: { Self → List Asked };

@@ -22,7 +22,7 @@ impl<R> Model for StdSink<R> {
 }
 
 impl<R: Print> StdSink<R> {
-    /// Standard output, to which no write has failed. It takes no memory.
+    /// Standard output, to which no write has failed. It doesn't allocate.
     pub fn new(rt: R) -> StdSink<R>
         ensures { result ≡ 0 }
     {

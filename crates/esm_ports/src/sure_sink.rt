@@ -21,7 +21,7 @@ impl Model for SureSink {
 }
 
 impl SureSink {
-    /// A sink to which nothing was written. It takes no memory.
+    /// A sink to which nothing was written. It doesn't allocate.
     pub fn new(alloc: Global) -> SureSink
         ensures { result ≡ [] }
     {

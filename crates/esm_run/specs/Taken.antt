@@ -61,7 +61,8 @@ WasDelivered asked_of holds_of sources arrival =
     Any (λ source. Contains (asked_of source) (ask_of arrival) × IsTold (holds_of source) arrival) sources
 
 -- the deliveries are of different URLs, and each was answered so by a source
-pub record IsTrueRecord {S : Type 0} (asked_of : S → List Asked) (holds_of : S → Option Contents) (taken : List Arrival) (sources : List S) : Type 0 where
+pub record IsTrueRecord {S : Type 0} (asked_of : S → List Asked) (holds_of : S → Option Contents) (taken : List Arrival)
+    (sources : List S) : Type 0 where
   pub delivered : All (WasDelivered asked_of holds_of sources) taken
   pub once : AllPairs (λ a b. a.url ≢ b.url) taken
 

@@ -31,11 +31,14 @@ pub(crate) fn fetch_outcome<S: Source>(
     source: &mut S,
     url: &Text,
 ) -> Result<Outcome, Memory>
-    ensures asked { IfOk result (λ o. S.asked source.new ≡ asks_with (S.asked source.old) url.now (kind_of (outcome_view o))) }
-    ensures told { IfSome (S.holds source.old) (λ contents. IfOk result (λ o. IsToldOutcome contents url.now (outcome_view o))) }
+    ensures asked { IfOk result (λ o. S.asked source.new
+        ≡ asks_with (S.asked source.old) url.now (kind_of (outcome_view o))) }
+    ensures told { IfSome (S.holds source.old) (λ contents. IfOk result (λ o.
+        IsToldOutcome contents url.now (outcome_view o))) }
     ensures read { IfOk result (λ o. IsRead (outcome_view o)) }
     ensures holds { S.holds source.new ≡ S.holds source.old }
-    ensures memory { OnErr result ((S.asked source.new ≡ S.asked source.old) ⊎ (S.asked source.new ≡ asks_with (S.asked source.old) url.now Body)) }
+    ensures memory { OnErr result ((S.asked source.new ≡ S.asked source.old)
+        ⊎ (S.asked source.new ≡ asks_with (S.asked source.old) url.now Body)) }
 {
     match source.fetch(alloc, url.as_str()) {
         Ok(body) => outcome_of(alloc, body),

@@ -11,7 +11,7 @@ use Rattle.std.specs.Bool.{⊤}
 use Rattle.esm_base.specs.CodeUnits.{code_unit_order}
 use Rattle.std.specs.Str.{IsUtf8}
 use Rattle.esm_base.proofs.CodeUnits.{code_unit_order_total, code_unit_order_same}
-use Rattle.esm_import_map.specs.TextMap.{Entries, at}
+use Rattle.esm_base.specs.TextMap.{TextMapView, at}
 use Rattle.esm_specifier.specs.Resolution.{greater, greatest}
 use Rattle.esm_specifier.proofs.Prefixes.{IsFront, front_order}
 
@@ -22,12 +22,12 @@ abbrev pub IsIn : List ℕ → List (List ℕ) → Type 0
 IsIn text [] = ⊥
 IsIn text (other ∷ texts) = (text ≡ other) ⊎ IsIn text texts
 
-in_by : {A : Type 0} (k : List ℕ) (e : List ℕ × A) (es : Entries A) (b : Bool) → is_eq (slice_cmp nat_cmp k e.0) ≡ b → is_some (cond b (Some e.1) (at k es)) ≡ true → (is_some (at k es) ≡ true → IsIn k (keys_of es)) → IsIn k (keys_of (e ∷ es))
+in_by : {A : Type 0} (k : List ℕ) (e : List ℕ × A) (es : TextMapView A) (b : Bool) → is_eq (slice_cmp nat_cmp k e.0) ≡ b → is_some (cond b (Some e.1) (at k es)) ≡ true → (is_some (at k es) ≡ true → IsIn k (keys_of es)) → IsIn k (keys_of (e ∷ es))
 in_by k e es true is h more = inl ((bytes_eq-Decides k e.0).0 (sym (is_eq-slice_cmp k e.0) ∙ is))
 in_by k e es false is h more = inr (more h)
 
 -- what a look-up finds stands among the keys
-pub in_keys : {A : Type 0} (k : List ℕ) (es : Entries A) → is_some (at k es) ≡ true → IsIn k (keys_of es)
+pub in_keys : {A : Type 0} (k : List ℕ) (es : TextMapView A) → is_some (at k es) ≡ true → IsIn k (keys_of es)
 in_keys k [] h = let P : Bool → Type 0 = λ b. cond b ⊥ ⊤ in subst P h tt
 in_keys k (e ∷ es) h = in_by k e es (is_eq (slice_cmp nat_cmp k e.0)) refl h (in_keys k es)
 
@@ -35,11 +35,11 @@ found_later : {A : Type 0} (b : Bool) (v : A) (o : Option A) → is_some o ≡ t
 found_later true v o h = refl
 found_later false v o h = h
 
-found_first : {A : Type 0} (e : List ℕ × A) (es : Entries A) → is_some (at e.0 (e ∷ es)) ≡ true
+found_first : {A : Type 0} (e : List ℕ × A) (es : TextMapView A) → is_some (at e.0 (e ∷ es)) ≡ true
 found_first e es = rw (tied_itself nat_list_cmp_total e.0) refl
 
 -- what holds of each text that a look-up finds holds of each key
-pub all_keys : {A : Type 0} (P : List ℕ → Type 0) (es : Entries A) → ((k : List ℕ) → is_some (at k es) ≡ true → P k) → AllByRecursion P (keys_of es)
+pub all_keys : {A : Type 0} (P : List ℕ → Type 0) (es : TextMapView A) → ((k : List ℕ) → is_some (at k es) ≡ true → P k) → AllByRecursion P (keys_of es)
 all_keys P [] h = tt
 all_keys P (e ∷ es) h = (h e.0 (found_first e es), all_keys P es (λ k f. h k (found_later (is_eq (slice_cmp nat_cmp k e.0)) e.1 (at k es) f)))
 
@@ -129,7 +129,7 @@ not_less_by x m u Greater Equal a b e f = refl
 not_less_by x m u Greater Greater a b e f = refl
 
 -- a member than which none is greater
-pub record IsGreatest (texts : List (List ℕ)) (text : List ℕ) : Type 0 where
+pub record IsGreatestIn (texts : List (List ℕ)) (text : List ℕ) : Type 0 where
   pub member : IsIn text texts
   pub none_greater : (other : List ℕ) → IsIn other texts → is_lt (code_unit_order text other) ≡ false
 
@@ -140,11 +140,11 @@ alone : (x other : List ℕ) → (other ≡ x) ⊎ ⊥ → is_lt (code_unit_orde
 alone x other (inl same) = ap (λ t. is_lt (code_unit_order x t)) same ∙ itself x
 alone x other (inr none) = absurd none
 
-keeps_later : (x m : List ℕ) (xs : List (List ℕ)) → code_unit_order x m ≡ Less → IsGreatest xs m → (other : List ℕ) → (other ≡ x) ⊎ IsIn other xs → is_lt (code_unit_order m other) ≡ false
+keeps_later : (x m : List ℕ) (xs : List (List ℕ)) → code_unit_order x m ≡ Less → IsGreatestIn xs m → (other : List ℕ) → (other ≡ x) ⊎ IsIn other xs → is_lt (code_unit_order m other) ≡ false
 keeps_later x m xs less g other (inl same) = ap (λ t. is_lt (code_unit_order m t)) same ∙ ap is_lt (code_unit_order_total.antisymm m x ∙ ap ordering_reverse less)
 keeps_later x m xs less g other (inr more) = g.none_greater other more
 
-keeps_first : (x m : List ℕ) (xs : List (List ℕ)) → is_lt (code_unit_order x m) ≡ false → IsGreatest xs m → (other : List ℕ) → (other ≡ x) ⊎ IsIn other xs → is_lt (code_unit_order x other) ≡ false
+keeps_first : (x m : List ℕ) (xs : List (List ℕ)) → is_lt (code_unit_order x m) ≡ false → IsGreatestIn xs m → (other : List ℕ) → (other ≡ x) ⊎ IsIn other xs → is_lt (code_unit_order x other) ≡ false
 keeps_first x m xs e g other (inl same) = alone x other (inl same)
 keeps_first x m xs e g other (inr more) = not_less_by x m other (code_unit_order x m) (code_unit_order x other) refl refl e (g.none_greater other more)
 
@@ -153,17 +153,17 @@ is_less Less e = refl
 is_less Equal e = absurd (true≢false (sym e))
 is_less Greater e = absurd (true≢false (sym e))
 
-greatest_by : (x m : List ℕ) (xs : List (List ℕ)) (b : Bool) → is_lt (code_unit_order x m) ≡ b → IsGreatest xs m → IsGreatest (x ∷ xs) (cond b m x)
+greatest_by : (x m : List ℕ) (xs : List (List ℕ)) (b : Bool) → is_lt (code_unit_order x m) ≡ b → IsGreatestIn xs m → IsGreatestIn (x ∷ xs) (cond b m x)
 greatest_by x m xs true e g = record { member = inr g.member; none_greater = keeps_later x m xs (is_less (code_unit_order x m) e) g }
 greatest_by x m xs false e g = record { member = inl refl; none_greater = keeps_first x m xs e g }
 
 -- what `greatest` finds is a member than which none is greater
-pub greatest_is : (text : List ℕ) (texts : List (List ℕ)) → IsGreatest (text ∷ texts) (greater text (greatest texts))
+pub greatest_is : (text : List ℕ) (texts : List (List ℕ)) → IsGreatestIn (text ∷ texts) (greater text (greatest texts))
 greatest_is text [] = record { member = inl refl; none_greater = alone text }
 greatest_is text (other ∷ texts) = greatest_by text (greater other (greatest texts)) (other ∷ texts) (is_lt (code_unit_order text (greater other (greatest texts)))) refl (greatest_is other texts)
 
 -- and of two such members of which each is text, one is the other
-pub greatest_only : (texts : List (List ℕ)) (a b : List ℕ) → IsUtf8 a → IsUtf8 b → IsGreatest texts a → IsGreatest texts b → a ≡ b
+pub greatest_only : (texts : List (List ℕ)) (a b : List ℕ) → IsUtf8 a → IsUtf8 b → IsGreatestIn texts a → IsGreatestIn texts b → a ≡ b
 greatest_only texts a b u v f g = same_by a b u v (code_unit_order a b) refl (f.none_greater b g.member) (g.none_greater a f.member) where
   same_by : (a b : List ℕ) → IsUtf8 a → IsUtf8 b → (o : Ordering) → code_unit_order a b ≡ o → is_lt (code_unit_order a b) ≡ false → is_lt (code_unit_order b a) ≡ false → a ≡ b
   same_by a b u v Less is e f = absurd (true≢false (sym (ap is_lt is) ∙ e))

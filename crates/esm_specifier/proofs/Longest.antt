@@ -9,7 +9,7 @@ use Rattle.std.specs.Str.{IsUtf8}
 use Rattle.url.specs.Parts.{Parts}
 use Rattle.esm_import_map.specs.ImportMap.{SpecifierMap}
 use Rattle.esm_import_map.specs.Specifier.{begins_with, ends_in_slash}
-use Rattle.esm_import_map.specs.TextMap.{Entries, at}
+use Rattle.esm_base.specs.TextMap.{TextMapView, at}
 use Rattle.esm_specifier.specs.Lookups.{Decides, IsInScope}
 use Rattle.esm_specifier.specs.Resolution.{greatest, reaches, deciding_key, decides, scope_at}
 use Rattle.esm_specifier.proofs.Greatest.{all_keys, in_keys, greatest_longest, greatest_none}
@@ -51,34 +51,34 @@ nothing_by text c k whole e len (inl same) = true≢false (sym e ∙ ap c same �
 nothing_by text c k whole e len (inr s) = let n = slashed_length text k s in let no : 1 ≤ 0 = omega (arith, n, len) in absurd (omega (arith, no))
 
 -- a key of the map that passes
-abbrev pub passes : {A : Type 0} → Entries A → (List ℕ → Bool) → List ℕ → Bool
+abbrev pub passes : {A : Type 0} → TextMapView A → (List ℕ → Bool) → List ℕ → Bool
 passes map q k = is_some (at k map) && q k
 
 both_true : (a b : Bool) → a ≡ true → b ≡ true → (a && b) ≡ true
 both_true a b e f = rw (e, f) refl
 
-pub passes_then : {A : Type 0} (map : Entries A) (q : List ℕ → Bool) (k : List ℕ) → passes map q k ≡ true → q k ≡ true
+pub passes_then : {A : Type 0} (map : TextMapView A) (q : List ℕ → Bool) (k : List ℕ) → passes map q k ≡ true → q k ≡ true
 passes_then map q k e = second (is_some (at k map)) (q k) e where
   second : (a b : Bool) → (a && b) ≡ true → b ≡ true
   second true b e = e
   second false b e = absurd (true≢false (sym e))
 
 -- a text that isn't there doesn't pass
-pub missing : {A : Type 0} (map : Entries A) (q : List ℕ → Bool) (k : List ℕ) → is_some (at k map) ≡ false → passes map q k ≡ false
+pub missing : {A : Type 0} (map : TextMapView A) (q : List ℕ → Bool) (k : List ℕ) → is_some (at k map) ≡ false → passes map q k ≡ false
 missing map q k none = ap (λ b. b && q k) none
 
-pub absent : {A : Type 0} (map : Entries A) (q : List ℕ → Bool) (k other : List ℕ) → other ≡ k → None ≡ at other map → passes map q k ≡ false
+pub absent : {A : Type 0} (map : TextMapView A) (q : List ℕ → Bool) (k other : List ℕ) → other ≡ k → None ≡ at other map → passes map q k ≡ false
 absent map q k other same none = ap (λ t. is_some (at t map) && q t) (sym same) ∙ ap (λ o. is_some o && q other) (sym none)
 
 -- the key that passes than which none is longer is the greatest
-pub decided : {A : Type 0} (prefixes : Bool) (text : List ℕ) (map : Entries A) (q : List ℕ → Bool) (p : List ℕ) → IsUtf8 text → OnlyReaching prefixes text q → is_some (at p map) ≡ true → q p ≡ true → (n : ℕ) → n ≡ length p → NoneLonger (passes map q) n
+pub decided : {A : Type 0} (prefixes : Bool) (text : List ℕ) (map : TextMapView A) (q : List ℕ → Bool) (p : List ℕ) → IsUtf8 text → OnlyReaching prefixes text q → is_some (at p map) ≡ true → q p ≡ true → (n : ℕ) → n ≡ length p → NoneLonger (passes map q) n
     → greatest (filter q (keys_of map)) ≡ Some p
 decided prefixes text map q p utf8 o found e n len l =
     greatest_longest text q (λ k f. front_reached prefixes text k utf8 (o.only k f)) p (keys_of map) e
     (all_keys (λ k. q k ≡ true → length k ≤ length p) map (λ k here f. subst (λ m. length k ≤ m) len (l.longest k (both_true (is_some (at k map)) (q k) here f)))) (in_keys p map found)
 
 -- where no prefix is left and the whole text doesn't pass, none does
-pub undecided : {A : Type 0} (prefixes : Bool) (text : List ℕ) (map : Entries A) (q : List ℕ → Bool) → OnlyReaching prefixes text (passes map q) → passes map q text ≡ false → (n : ℕ) → n ≤ 0 → NoneLonger (passes map q) n → greatest (filter q (keys_of map)) ≡ None
+pub undecided : {A : Type 0} (prefixes : Bool) (text : List ℕ) (map : TextMapView A) (q : List ℕ → Bool) → OnlyReaching prefixes text (passes map q) → passes map q text ≡ false → (n : ℕ) → n ≤ 0 → NoneLonger (passes map q) n → greatest (filter q (keys_of map)) ≡ None
 undecided prefixes text map q o whole n none l =
     greatest_none q (keys_of map) (all_keys (λ k. q k ≡ true → ⊥) map (λ k here f.
     let e = both_true (is_some (at k map)) (q k) here f in
@@ -119,7 +119,7 @@ first_of_both true b e = refl
 first_of_both false b e = e
 
 -- a scope that decides applies
-pub decides_reaches : (referrer : List ℕ) (prefixes : Bool) (normal : List ℕ) (scopes : Entries SpecifierMap) (k : List ℕ) → decides referrer prefixes normal scopes k ≡ true → reaches true referrer k ≡ true
+pub decides_reaches : (referrer : List ℕ) (prefixes : Bool) (normal : List ℕ) (scopes : TextMapView SpecifierMap) (k : List ℕ) → decides referrer prefixes normal scopes k ≡ true → reaches true referrer k ≡ true
 decides_reaches referrer prefixes normal scopes k e = first_of_both (reaches true referrer k) (is_some (deciding_key prefixes normal (scope_at k scopes))) e
 
 neither : (a b : Bool) → (a && (b && false)) ≡ false
@@ -128,7 +128,7 @@ neither true false = refl
 neither false b = refl
 
 -- a scope without a match doesn't decide
-pub scope_without : (referrer : List ℕ) (prefixes : Bool) (normal : List ℕ) (scopes : Entries SpecifierMap) (k other : List ℕ) → other ≡ k → deciding_key prefixes normal (scope_at other scopes) ≡ None → passes scopes (decides referrer prefixes normal scopes) k ≡ false
+pub scope_without : (referrer : List ℕ) (prefixes : Bool) (normal : List ℕ) (scopes : TextMapView SpecifierMap) (k other : List ℕ) → other ≡ k → deciding_key prefixes normal (scope_at other scopes) ≡ None → passes scopes (decides referrer prefixes normal scopes) k ≡ false
 scope_without referrer prefixes normal scopes k other same none =
     ap (λ t. passes scopes (decides referrer prefixes normal scopes) t) (sym same)
     ∙ ap (λ o. is_some (at other scopes) && (reaches true referrer other && is_some o)) none ∙ neither (is_some (at other scopes)) (reaches true referrer other)
@@ -138,7 +138,7 @@ there_by prefixes normal key None e = ap is_some e
 there_by prefixes normal key (Some map) e = refl
 
 -- the scope of the longest prefix decides
-pub decided_scope : (referrer : List ℕ) (prefixes : Bool) (normal : List ℕ) (scopes : Entries SpecifierMap) (p : List ℕ) (key_len : ℕ) (address : Option Parts) → IsUtf8 referrer → reaches true referrer p ≡ true → Decides prefixes normal (scope_at p scopes) key_len address
+pub decided_scope : (referrer : List ℕ) (prefixes : Bool) (normal : List ℕ) (scopes : TextMapView SpecifierMap) (p : List ℕ) (key_len : ℕ) (address : Option Parts) → IsUtf8 referrer → reaches true referrer p ≡ true → Decides prefixes normal (scope_at p scopes) key_len address
     → (n : ℕ) → n ≡ length p → NoneLonger (passes scopes (decides referrer prefixes normal scopes)) n → IsInScope referrer prefixes normal scopes key_len address
 decided_scope referrer prefixes normal scopes p key_len address utf8 reached d n len l =
     let q = decides referrer prefixes normal scopes in
@@ -151,7 +151,7 @@ decided_scope referrer prefixes normal scopes p key_len address utf8 reached d n
     }
 
 -- that of the referrer itself
-pub decided_scope_whole : (referrer : List ℕ) (prefixes : Bool) (normal : List ℕ) (scopes : Entries SpecifierMap) (key_len : ℕ) (address : Option Parts) → IsUtf8 referrer → Decides prefixes normal (scope_at referrer scopes) key_len address → IsInScope referrer prefixes normal scopes key_len address
+pub decided_scope_whole : (referrer : List ℕ) (prefixes : Bool) (normal : List ℕ) (scopes : TextMapView SpecifierMap) (key_len : ℕ) (address : Option Parts) → IsUtf8 referrer → Decides prefixes normal (scope_at referrer scopes) key_len address → IsInScope referrer prefixes normal scopes key_len address
 decided_scope_whole referrer prefixes normal scopes key_len address utf8 d =
     let q = decides referrer prefixes normal scopes in
     let only : OnlyReaching true referrer (passes scopes q) = record { only = λ k e. decides_reaches referrer prefixes normal scopes k (passes_then scopes q k e) } in

@@ -4,9 +4,11 @@ use Rattle.std.proofs.Math.Seq.{take-length}
 use Rattle.std.proofs.lemmas.Slice.Eq.{bytes_eq-Decides}
 use Rattle.std.proofs.lemmas.Bool.Decides.{nat_tests}
 use Rattle.url.specs.Parts.{Parts, serialize}
-use Rattle.esm_import_map.specs.ImportMap.{Maps}
+use Rattle.esm_import_map.specs.ImportMap.{Maps, no_maps}
+use Rattle.esm_specifier.specs.Laws.{ResolvesToUsable, ResolvesByItself, ResolvesAsTheStandard}
 use Rattle.esm_base.specs.Ends.{Gives}
-use Rattle.esm_base.specs.Urls.{url_of, is_usable, IsUsable}
+use Rattle.url.proofs.OnLiterals.{url_on_literals}
+use Rattle.esm_base.specs.Urls.{Text, Url, url_of, is_usable, IsUsable}
 use Rattle.esm_base.specs.declared.end.End.{End}
 use Rattle.esm_import_map.specs.Specifier.{url_like}
 use Rattle.esm_specifier.specs.Resolution.{usable, resolution_of_specifier, resolution_against, resolved, normal_text, by_address, under}
@@ -62,3 +64,22 @@ follow_whole result normal key text o address is same shown t =
     let Q : Bool → Type 0 = λ b. Gives result (usable (if b then Ok (serialize address) else under (serialize address) (url_of (Some address) (drop (length key) normal)))) in
     let R : List ℕ → Type 0 = λ u. Gives result (usable (good u)) in
     subst P (sym is) (subst Q (sym same) (subst R shown t))
+
+-- ---- laws
+
+given : (maps : Maps) (referrer : Url) (specifier : Text) (u : Url) → resolution_of_specifier maps referrer specifier ≡ Ok u → IsUsable u
+given maps referrer specifier u e = resolution_usable (Ok u) maps referrer specifier e
+
+pub resolves_to_usable : ResolvesToUsable
+resolves_to_usable = given
+
+pub resolves_by_itself : ResolvesByItself
+resolves_by_itself = record {
+  is = λ referrer base url specifier b l k. ap (resolution_against no_maps referrer specifier) b ∙ ap (λ o. usable (resolved no_maps referrer o (normal_text o specifier))) l ∙ ap (λ b. if b then Ok (serialize url) else Err S5) k;
+  unusable = λ referrer base url specifier b l k. ap (resolution_against no_maps referrer specifier) b ∙ ap (λ o. usable (resolved no_maps referrer o (normal_text o specifier))) l ∙ ap (λ b. if b then Ok (serialize url) else Err S5) k;
+  bare = λ referrer base specifier b l. ap (resolution_against no_maps referrer specifier) b ∙ ap (λ o. usable (resolved no_maps referrer o (normal_text o specifier))) l;
+}
+
+pub resolves_as_the_standard : ResolvesAsTheStandard
+unfolding url_on_literals
+resolves_as_the_standard = record { dot = refl; dots = refl; up = refl; rooted = refl; absolute = refl; bare = refl; no_slash = refl }

@@ -1,2 +1,4 @@
+pub mod Faults
+pub mod Laws
 pub mod Lookups
 pub mod Resolution

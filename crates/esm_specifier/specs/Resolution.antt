@@ -9,7 +9,7 @@ use Rattle.esm_base.specs.CodeUnits.{code_unit_order}
 use Rattle.esm_base.specs.Urls.{url_of, is_usable}
 use Rattle.esm_import_map.specs.ImportMap.{SpecifierMap, Maps}
 use Rattle.esm_import_map.specs.Specifier.{url_like, begins_with, ends_in_slash}
-use Rattle.esm_import_map.specs.TextMap.{Entries, at}
+use Rattle.esm_base.specs.TextMap.{TextMapView, at}
 use Rattle.esm_specifier.specs.declared.fault.SpecFault.{SpecFault}
 use Rattle.esm_specifier.specs.declared.fault.SpecFault.TheVariants.{S1, S2, S3, S4, S5}
 
@@ -43,16 +43,16 @@ deciding_key prefixes normal map = greatest (filter (reaches prefixes normal) (k
 -- ---- which map decides
 
 -- the specifier map of a scope
-abbrev pub scope_at : List ℕ → Entries SpecifierMap → SpecifierMap
+abbrev pub scope_at : List ℕ → TextMapView SpecifierMap → SpecifierMap
 scope_at prefix scopes = unwrap_or (at prefix scopes) []
 
 -- a scope applies to the referrer, and a key of it matches
-abbrev pub decides : List ℕ → Bool → List ℕ → Entries SpecifierMap → List ℕ → Bool
+abbrev pub decides : List ℕ → Bool → List ℕ → TextMapView SpecifierMap → List ℕ → Bool
 decides referrer prefixes normal scopes prefix =
     reaches true referrer prefix && is_some (deciding_key prefixes normal (scope_at prefix scopes))
 
 -- HTML, resolve a module specifier: the scope that decides
-abbrev pub deciding_scope : List ℕ → Bool → List ℕ → Entries SpecifierMap → Option (List ℕ)
+abbrev pub deciding_scope : List ℕ → Bool → List ℕ → TextMapView SpecifierMap → Option (List ℕ)
 deciding_scope referrer prefixes normal scopes =
     greatest (filter (decides referrer prefixes normal scopes) (keys_of scopes))
 

@@ -2,11 +2,12 @@
 #![tactic(auto)]
 
 mod fault;
+pub mod laws;
 mod lookup;
 mod resolving;
 
 pub use fault::{SpecEnd, SpecFault};
-pub use resolving::resolve;
+pub use resolving::{resolve, resolve_against};
 
 #[cfg(test)]
 mod tests;

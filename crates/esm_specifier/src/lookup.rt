@@ -1,10 +1,11 @@
 // Which key of which map decides.
 ghost use Rattle.std.specs.Prelude.{◌≡◌, None, MatchOption, true, false, is_some};
-ghost use Rattle.esm_import_map.specs.TextMap.{at};
+ghost use Rattle.esm_base.specs.TextMap.{at};
 ghost use Rattle.esm_specifier.specs.Lookups.{Decides, IsInScope};
 ghost use Rattle.esm_specifier.specs.Resolution.{deciding_key, deciding_scope, deciding_map, scope_at};
 
-use esm_import_map::{ImportMap, SpecifierMap, TextMap};
+use esm_base::TextMap;
+use esm_import_map::{ImportMap, SpecifierMap};
 use url::Url;
 
 // A key that decides: so many bytes of the normal text, and the address to which it leads.

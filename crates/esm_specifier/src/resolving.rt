@@ -1,8 +1,8 @@
 // Resolves a specifier.
-ghost use Rattle.std.specs.Prelude.{◌≡◌, ◌≤◌, true, take, length, IfOk, option_copied, Ok};
+ghost use Rattle.std.specs.Prelude.{◌≡◌, ◌≤◌, true, take, length, IfOk, None, option_copied, Ok, Some};
 ghost use Rattle.std.specs.Str.{IsCharBoundary};
 ghost use Rattle.esm_base.specs.Ends.{Gives};
-ghost use Rattle.esm_base.specs.Urls.{IsCanonical, IsUsable};
+ghost use Rattle.esm_base.specs.Urls.{IsCanonical, IsUsable, url_of};
 ghost use Rattle.esm_specifier.specs.Resolution as spec;
 
 use crate::fault::{SpecEnd, SpecFault};
@@ -79,23 +79,39 @@ fn resolve_normal(
     }
 }
 
-// The URL to which a specifier resolves.
+// The URL to which a specifier resolves, by the URL that the referrer's text is.
 fn find_url(
     alloc: Global,
     map: &ImportMap,
+    base: &Url,
     referrer: &str,
     specifier: &str,
 ) -> Result<Text, SpecEnd>
-    requires { IsCanonical referrer.now }
+    requires { url_of None referrer.now ≡ Some base.now }
     ensures { Gives result (spec.resolution_of_specifier map.now referrer.now specifier.now) }
 {
-    let Some(base) = parse_absolute(alloc, referrer)? else {
-        unreachable!()
-    };
-    match url_like(alloc, &base, specifier)? {
+    match url_like(alloc, base, specifier)? {
         Some(url) => resolve_normal(alloc, map, referrer, Some(&url), url.as_str()),
         None => resolve_normal(alloc, map, referrer, None, specifier),
     }
+}
+
+/// The URL to which a specifier resolves in the module at `referrer`, whose text is parsed as `base` already, so that
+/// many specifiers of one module cost one parse of its URL. Else it is `resolve`, with its answers.
+///
+/// HTML, "resolve a module specifier".
+pub fn resolve_against(
+    alloc: Global,
+    map: &ImportMap,
+    base: &Url,
+    referrer: &str,
+    specifier: &str,
+) -> Result<Text, SpecEnd>
+    requires { url_of None referrer.now ≡ Some base.now }
+    ensures told { Gives result (spec.resolution_of_specifier map.now referrer.now specifier.now) }
+    ensures usable { IfOk result IsUsable }
+{
+    find_url(alloc, map, base, referrer, specifier)
 }
 
 /// The URL to which a specifier resolves in the module at `referrer`: HTML's "resolve a module specifier". It is
@@ -112,5 +128,8 @@ pub fn resolve(
     ensures told { Gives result (spec.resolution_of_specifier map.now referrer.now specifier.now) }
     ensures usable { IfOk result IsUsable }
 {
-    find_url(alloc, map, referrer, specifier)
+    let Some(base) = parse_absolute(alloc, referrer)? else {
+        unreachable!()
+    };
+    resolve_against(alloc, map, &base, referrer, specifier)
 }

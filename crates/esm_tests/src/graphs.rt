@@ -1,8 +1,8 @@
 // Whole runs over graphs of modules.
 ghost use Rattle.std.specs.Prelude.{◌≡◌, ◌<◌, ◌-◌, ◌^◌, [], All, IfOk};
-ghost use Rattle.esm_ports.specs.Files.{HasDistinctUrls};
 
 use crate::helpers::{COMMAND, add_named, site, sure, words};
+use crate::sites::{FAILING, SITES};
 use esm_base::{Memory, Status, Text};
 use esm_ports::{SureSink, SureSource};
 use esm_run::{RunReport, run};
@@ -11,78 +11,33 @@ use std::marker::Sync;
 use std::sync::Wait;
 use std::thread::Threads;
 
-// A site a line: what is written, with `~` for each line feed, and behind `<` its files.
-const SITES: &str =
-    r#"b~a~m~<main.js=import "./a.js";import "./b.js";print("m");|a.js=import "./b.js";print("a");|b.js=import "./main.js";print("b");
-t~m~<main.js=import "./t.js";import "././t.js";print("m");|t.js=print("t")
-m~<main.js=import "./main.js";print("m")
-s~a~b~m~<main.js=import "./a.js";import "./b.js";print("m");|a.js=import "./s.js";print("a");|b.js=import "./s.js";print("b");|s.js=print("s")
-c~a~b~m~<main.js=print("m");import "./a.js";import "./b.js";|a.js=import "./d/c.js";print("a");|b.js=print("b");import "./d/c.js";|d/c.js=print("c");import "../main.js";
-y~x~m~<main.js=import "/d/x.js";print("m");|d/x.js=import "./y.js";print("x");|d/y.js=print("y")
-z~y~x~m~<main.js=import "./x.js";print("m");|x.js=import "./y.js";print("x");|y.js=import "./z.js";print("y");|z.js=import "./x.js";print("z")
-a~m~<main.js=import "HTTPS://A.TEST:443/a.js";print("m");|a.js=print("a")
-a~b~m~<main.js=import "./a.js";import "./a.js";import "./b.js";import "./a.js";print("m");|a.js=print("a")|b.js=import "./a.js";print("b")"#;
-
-// Sites whose entry fails: the last line, and behind `<` their files.
-const FAILING: &str =
-    r#"TypeError: cannot fetch https://a.test/a.js<main.js=import "./a.js";import "./b.js";print("m");
-TypeError: https://a.test/main.js: specifier react: S4 bare and not mapped<main.js=import "react";print("m");
-TypeError: https://a.test/main.js: specifier a.js: S4 bare and not mapped<main.js=import "./b.js";import "a.js";|a.js=print("a")
-SyntaxError: https://a.test/a.js: P2 no module text<main.js=import "./a.js";print("m");|a.js=let x;
-TypeError: cannot fetch https://a.test/b.js<main.js=import "./a.js";import "./b.js";|a.js=import "./x.js";print("a");
-TypeError: cannot fetch https://a.test/x.js<main.js=import "./a.js";|a.js=import "./main.js";import "./x.js";print("a");
-TypeError: https://a.test/a.js: specifier : S4 bare and not mapped<main.js=import "./a.js";print("m");|a.js=import "";
-TypeError: cannot fetch https://a.test/d/b.js<main.js=import "./d/a.js";|d/a.js=print("a");import "./b.js";"#;
-
 // Runs the entry over these files.
-fn run_over<R: Threads + Wait + Sync>(
+pub fn run_over<R: Threads + Wait + Sync>(
     rt: &R,
     alloc: Global,
     files: Vec<(Text, Vec<u8>)>,
     out: &mut SureSink,
-) -> Result<RunReport<SureSource>, Memory>
-    requires { HasDistinctUrls files.items }
-{
+) -> Result<RunReport<SureSource>, Memory> {
     let words = words(alloc, COMMAND)?;
     let mut desk = sure(alloc, None)?;
     let mut sources = Vec::new(alloc);
-    sources.push(SureSource::new(alloc, files))?;
+    sources.push(SureSource::new(alloc, files)?)?;
     Ok(run(rt, alloc, &words, &mut desk, sources, out))
 }
 
 #[test]
-fn bodies_run_in_the_order_of_the_graph(rt: HostRuntime) -> Result<(), Memory> {
+fn sites_run_as_the_standard_says(rt: HostRuntime) -> Result<(), Memory> {
     let alloc = rt.alloc();
-    for row in SITES.lines() {
-        let Some((wanted, files)) = row.split_once('<') else {
-            assert!(rt; false, "{row}");
-            continue;
-        };
-        let wanted = wanted.replace(alloc, "~", "\n")?;
-        let mut out = SureSink::new(alloc);
-        let report = run_over(&rt, alloc, site(alloc, files)?, &mut out)?;
-        assert_eq!(rt; report.status, Status::Fulfilled, "{row}");
-        assert!(rt; out.written() == wanted.as_bytes(), "{row}");
+    for table in [SITES, FAILING] {
+        for row in table {
+            let mut out = SureSink::new(alloc);
+            let report = run_over(&rt, alloc, site(alloc, row.files)?, &mut out)?;
+            assert_eq!(rt; report.status, row.status, "{}", row.name);
+            assert!(rt; out.written() == row.output.as_bytes(), "{}", row.name);
+        }
     }
-    assert_eq!(rt; SITES.lines().count(), 9);
-    Ok(())
-}
-
-#[test]
-fn an_entry_that_fails_writes_its_last_line_alone(rt: HostRuntime) -> Result<(), Memory> {
-    let alloc = rt.alloc();
-    for row in FAILING.lines() {
-        let Some((wanted, files)) = row.split_once('<') else {
-            assert!(rt; false, "{row}");
-            continue;
-        };
-        let wanted = format!(in alloc; "Uncaught {wanted}\n")?;
-        let mut out = SureSink::new(alloc);
-        let report = run_over(&rt, alloc, site(alloc, files)?, &mut out)?;
-        assert_eq!(rt; report.status, Status::EntryFailed, "{row}");
-        assert!(rt; out.written() == wanted.as_bytes(), "{row}");
-    }
-    assert_eq!(rt; FAILING.lines().count(), 8);
+    assert_eq!(rt; SITES.len(), 9);
+    assert_eq!(rt; FAILING.len(), 8);
     Ok(())
 }
 

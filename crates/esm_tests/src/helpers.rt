@@ -1,6 +1,5 @@
 // What the tests are made of.
-ghost use Rattle.std.specs.Prelude.{◌≡◌, ◌≢◌, ◌≤◌, [], false, All, IfOk, vec_len};
-ghost use Rattle.esm_ports.specs.Files.{HasDistinctUrls};
+ghost use Rattle.std.specs.Prelude.{◌≡◌, [], IfOk};
 
 use esm_base::{Memory, Text};
 use esm_ports::{MemSource, SureSource};
@@ -11,9 +10,11 @@ pub const ENTRY: &str = "https://a.test/main.js";
 pub const COMMAND: &str = "run https://a.test/ main.js";
 
 // A file at a URL, or none.
-pub fn files(alloc: Global, url: &str, body: Option<&[u8]>) -> Result<Vec<(Text, Vec<u8>)>, Memory>
-    ensures { IfOk result (λ v. vec_len v ≤ 1) }
-{
+pub fn files(
+    alloc: Global,
+    url: &str,
+    body: Option<&[u8]>,
+) -> Result<Vec<(Text, Vec<u8>)>, Memory> {
     let mut files = Vec::new(alloc);
     if let Some(body) = body {
         files.push((Text::copy(alloc, url)?, Vec::from_slice(alloc, body)?))?;
@@ -24,13 +25,13 @@ pub fn files(alloc: Global, url: &str, body: Option<&[u8]>) -> Result<Vec<(Text,
 pub fn sure(alloc: Global, body: Option<&[u8]>) -> Result<SureSource, Memory>
     ensures { IfOk result (λ s. s.asked ≡ []) }
 {
-    Ok(SureSource::new(alloc, files(alloc, ENTRY, body)?))
+    SureSource::new(alloc, files(alloc, ENTRY, body)?)
 }
 
 pub fn failing(alloc: Global, body: Option<&[u8]>, fail_at: Vec<u64>) -> Result<MemSource, Memory>
     ensures { IfOk result (λ s. s.asked ≡ []) }
 {
-    Ok(MemSource::new(alloc, files(alloc, ENTRY, body)?, fail_at))
+    MemSource::new(alloc, files(alloc, ENTRY, body)?, fail_at)
 }
 
 pub fn words(alloc: Global, text: &str) -> Result<Vec<String>, Memory> {
@@ -41,56 +42,24 @@ pub fn words(alloc: Global, text: &str) -> Result<Vec<String>, Memory> {
     Ok(words)
 }
 
-// Whether there is a file at the URL.
-fn has_file(files: &[(Text, Vec<u8>)], url: &Text) -> bool
-    ensures { result ≡ false → All (λ file. file.0 ≢ url.now) files.now }
-{
-    for file in files {
-        if file.0.is(url.as_str()) {
-            return true;
-        }
-    }
-    false
-}
-
-// Adds a file, unless there is one at its URL.
-pub fn add_file(files: &mut Vec<(Text, Vec<u8>)>, url: Text, body: Vec<u8>) -> Result<(), Memory>
-    requires { HasDistinctUrls files.old.items }
-    ensures { HasDistinctUrls files.new.items }
-{
-    if !has_file(files, &url) {
-        files.push((url, body))?;
-    }
-    Ok(())
-}
-
 // The file of this name below `https://a.test/`.
 pub fn add_named(
     alloc: Global,
     files: &mut Vec<(Text, Vec<u8>)>,
     name: &str,
     body: &str,
-) -> Result<(), Memory>
-    requires { HasDistinctUrls files.old.items }
-    ensures { HasDistinctUrls files.new.items }
-{
+) -> Result<(), Memory> {
     let url = format!(in alloc; "https://a.test/{name}")?;
-    add_file(
-        files,
-        Text::from_string(url),
-        Vec::from_slice(alloc, body.as_bytes())?,
-    )
+    let body = Vec::from_slice(alloc, body.as_bytes())?;
+    files.push((Text::from_string(url), body))?;
+    Ok(())
 }
 
-// The files of a site: `NAME=BODY`, with `|` between them.
-pub fn site(alloc: Global, text: &str) -> Result<Vec<(Text, Vec<u8>)>, Memory>
-    ensures { IfOk result (λ files. HasDistinctUrls files.items) }
-{
+// The files of a site below `https://a.test/`: the name of each, and its text.
+pub fn site(alloc: Global, named: &[(&str, &str)]) -> Result<Vec<(Text, Vec<u8>)>, Memory> {
     let mut files = Vec::new(alloc);
-    for file in text.split('|') {
-        if let Some((name, body)) = file.split_once('=') {
-            add_named(alloc, &mut files, name, body)?;
-        }
+    for (name, text) in named {
+        add_named(alloc, &mut files, name, text)?;
     }
     Ok(files)
 }

@@ -1,19 +1,19 @@
-//! Tests that cross crates: whole runs over sources and sinks in memory, and the edges over real files and output.
+//! Tests that cross crates: whole runs over sources and sinks in memory.
 #![tactic(auto)]
 
 ghost use Rattle.std.specs.Prelude.{◌≡◌, ◌≢◌, ◌<◌, [], All, vec_len};
 ghost use Rattle.esm_base.specs.declared.status.Status.TheVariants.{WriteFault};
 
 #[cfg(test)]
-mod edges;
-#[cfg(test)]
 mod graphs;
 #[cfg(test)]
 mod helpers;
 #[cfg(test)]
-mod ports;
+mod orders;
 #[cfg(test)]
 mod runs;
+#[cfg(test)]
+mod sites;
 
 use esm_ports::{SureSink, SureSource};
 use esm_run::{RunReport, run};

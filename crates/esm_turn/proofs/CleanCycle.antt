@@ -2,6 +2,7 @@
 use Rattle.std.proofs.Common.{◌≡◌, ℕ, Bool, true, false, List, [], ◌∷◌, Some, Ok, refl, subst, sym, inl, inr, lit≤}
 use Rattle.std.specs.Prelude.{◌⊎◌}
 use Rattle.url.proofs.OnLiterals.{url_on_literals}
+use Rattle.esm_import_map.specs.ImportMap.{no_maps}
 use Rattle.esm_tree.specs.Syntax.{Item}
 use Rattle.esm_ast.specs.Entries.{requests_of, requests_after, add_request, request_of, with_text}
 use Rattle.esm_base.specs.Urls.{Url, has, same_url}
@@ -9,7 +10,6 @@ use Rattle.esm_realm.specs.Walk.{Visits, leaves}
 use Rattle.esm_realm.specs.Walk.Mark.{Enter, Pass, Leave}
 use Rattle.esm_realm.proofs.Urls.{same_text, or_true, or_left, or_cases, has_own}
 use Rattle.esm_realm.proofs.WalkBy.{walk_found}
-use Rattle.esm_load.specs.Specifier.{resolution_of_specifier}
 use Rattle.esm_load.specs.Table.{targets_of}
 use Rattle.esm_turn.specs.Bodies.{run_bodies, opening_bodies}
 use Rattle.esm_turn.specs.Direct.{Closure, IsCleanFile, IsClean, DirectRun, MeetsNoLimit, file_targets, file_body}
@@ -38,21 +38,21 @@ each P m a b u h = first (or_cases (same_url u main_url) (has (a_url ∷ b_url �
     first (inl s) = at main_url s m
     first (inr k) = second (or_cases (same_url u a_url) (has (b_url ∷ []) u) k)
 
-main_targets : file_targets cycle_files main_url ≡ a_url ∷ b_url ∷ []
-unfolding resolution_of_specifier url_on_literals requests_after add_request request_of with_text
+main_targets : file_targets no_maps cycle_files main_url ≡ a_url ∷ b_url ∷ []
+unfolding url_on_literals requests_after add_request request_of with_text
 main_targets = refl
 
-a_targets : file_targets cycle_files a_url ≡ b_url ∷ []
-unfolding resolution_of_specifier url_on_literals requests_after add_request request_of with_text
+a_targets : file_targets no_maps cycle_files a_url ≡ b_url ∷ []
+unfolding url_on_literals requests_after add_request request_of with_text
 a_targets = refl
 
-b_targets : file_targets cycle_files b_url ≡ main_url ∷ []
-unfolding resolution_of_specifier url_on_literals requests_after add_request request_of with_text
+b_targets : file_targets no_maps cycle_files b_url ≡ main_url ∷ []
+unfolding url_on_literals requests_after add_request request_of with_text
 b_targets = refl
 
 -- what the three request is among them
 Stays : Url → Type 0
-Stays u = (t : Url) → has (file_targets cycle_files u) t ≡ true → has urls t ≡ true
+Stays u = (t : Url) → has (file_targets no_maps cycle_files u) t ≡ true → has urls t ≡ true
 
 stays : (u : Url) → has urls u ≡ true → Stays u
 unfolding Stays
@@ -65,28 +65,28 @@ stays = each Stays
     alone t (inl s) = or_left (same_url t main_url) _ s
     alone t (inr k) = cc
 
-reached : (u : Url) → Closure cycle_files main_url u → has urls u ≡ true
+reached : (u : Url) → Closure no_maps cycle_files main_url u → has urls u ≡ true
 unfolding Stays
 reached u itself = has_own main_url (a_url ∷ b_url ∷ [])
 reached u (requested {u = v} c h) = stays v (reached v c) u h
 
 -- a module text whose requests resolve
 IsSpelled : Url → Type 0
-IsSpelled u = IsCleanFile cycle_files u
+IsSpelled u = IsCleanFile no_maps cycle_files u
 
-main_resolves : targets_of main_url (requests_of cycle_main_items) ≡ Ok (a_url ∷ b_url ∷ [])
-unfolding resolution_of_specifier url_on_literals requests_after add_request request_of with_text
+main_resolves : targets_of no_maps main_url (requests_of cycle_main_items) ≡ Ok (a_url ∷ b_url ∷ [])
+unfolding url_on_literals requests_after add_request request_of with_text
 main_resolves = refl
 
-a_resolves : targets_of a_url (requests_of cycle_a_items) ≡ Ok (b_url ∷ [])
-unfolding resolution_of_specifier url_on_literals requests_after add_request request_of with_text
+a_resolves : targets_of no_maps a_url (requests_of cycle_a_items) ≡ Ok (b_url ∷ [])
+unfolding url_on_literals requests_after add_request request_of with_text
 a_resolves = refl
 
-b_resolves : targets_of b_url (requests_of cycle_b_items) ≡ Ok (main_url ∷ [])
-unfolding resolution_of_specifier url_on_literals requests_after add_request request_of with_text
+b_resolves : targets_of no_maps b_url (requests_of cycle_b_items) ≡ Ok (main_url ∷ [])
+unfolding url_on_literals requests_after add_request request_of with_text
 b_resolves = refl
 
-clean : IsClean cycle_files main_url
+clean : IsClean no_maps cycle_files main_url
 unfolding IsSpelled
 clean = record {
   spelled = λ u c. each IsSpelled
@@ -96,11 +96,11 @@ clean = record {
       u (reached u c);
 }
 
-direct : DirectRun cycle_files main_url cycle_bodies
-unfolding resolution_of_specifier url_on_literals requests_after add_request request_of with_text
+direct : DirectRun no_maps cycle_files main_url cycle_bodies
+unfolding url_on_literals requests_after add_request request_of with_text
 direct = record {
   marks = Enter main_url ∷ Enter a_url ∷ Enter b_url ∷ Pass b_url 0 ∷ Leave b_url ∷ Pass a_url 0 ∷ Leave a_url ∷ Pass main_url 0 ∷ Pass main_url 1 ∷ Leave main_url ∷ [];
-  walk = (b_url ∷ a_url ∷ main_url ∷ [], walk_found (file_targets cycle_files) 9 main_url _ refl);
+  walk = (b_url ∷ a_url ∷ main_url ∷ [], walk_found (file_targets no_maps cycle_files) 9 main_url _ refl);
   bodies = refl;
 }
 

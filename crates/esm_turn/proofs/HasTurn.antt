@@ -2,6 +2,7 @@
 use Rattle.std.proofs.Common.{◌≡◌, ℕ, zero, suc, ◌+◌, ◌≤◌, ◌<◌, Bool, true, false, List, [], ◌∷◌, ◌++◌, Some, None, Option, refl, ap, subst, sym, ◌∙◌, arith}
 use Rattle.std.specs.Prelude.{slice_get}
 use Rattle.std.specs.FinMap.{get}
+use Rattle.esm_import_map.specs.ImportMap.{Maps}
 use Rattle.esm_base.specs.declared.limits.Limit.{Limit}
 use Rattle.esm_base.specs.Urls.{Text, Url, has}
 use Rattle.esm_realm.specs.Walk.{IsWalk, leaves}
@@ -81,12 +82,12 @@ tasks_by : (k : ℕ) (w : World) → Phase w → askers_left w.loading ≤ k →
 tasks_by zero w p le = tasks_at w p (λ mid q lt. absurd (omega (arith, lt, le)))
 tasks_by (suc k) w p le = tasks_at w p (λ mid q lt. tasks_by k mid q (omega (arith, lt, le)))
 
-pub has_turn : (entry : Url) (ds : List Delivery) (w : World) (u : Url) (c : OutcomeView) → Runs (opening entry) ds w → has (asks w) u ≡ true → (after : World) × Turn w u c after
+pub has_turn : (maps : Maps) (entry : Url) (ds : List Delivery) (w : World) (u : Url) (c : OutcomeView) → Runs (opening maps entry) ds w → has (asks w) u ≡ true → (after : World) × Turn w u c after
 unfolding HasTasks
-has_turn entry ds w u c r h = by (settle w.loading u c).stopped refl
+has_turn maps entry ds w u c r h = by (settle w.loading u c).stopped refl
   where
     q : IsQuiet w
-    q = asks_quiet w u (run_phase entry ds w r) h
+    q = asks_quiet w u (run_phase maps entry ds w r) h
 
     by : (s : Option Limit) → (settle w.loading u c).stopped ≡ s → (after : World) × Turn w u c after
     by (Some limit) s = (record w { loading = settle w.loading u c }, Turn.limit limit s)

@@ -3,6 +3,7 @@ use mathlib.Core.Bool.{true≢false}
 use Rattle.std.proofs.Common.{◌≡◌, ℕ, ◌+◌, Bool, true, false, List, [], ◌∷◌, ◌++◌, Some, None, Option, refl, ap, subst, sym, ◌∙◌, inl, inr}
 use Rattle.std.specs.Prelude.{◌⊎◌, nat_lt, slice_get}
 use Rattle.std.specs.FinMap.{get, insert, get-empty}
+use Rattle.esm_import_map.specs.ImportMap.{Maps}
 use Rattle.esm_base.specs.declared.limits.Limit.{Limit}
 use Rattle.esm_base.specs.Urls.{Text, Url, url_cmp, has, same_url}
 use Rattle.esm_realm.specs.Walk.{Mark, Visits, leaves}
@@ -120,11 +121,11 @@ stored_kept : (stop : Option Limit) (l : Loading) (u : Url) (c : OutcomeView) �
 stored_kept (Some limit) l u c k = k
 stored_kept None l u c k = record { wanted = λ v h n. by v h n (cases (same_url v u)) }
   where
-    by : (v : Url) → has l.asked v ≡ true → get (insert l.entries u (entry_of u c)) v ≡ None → (same_url v u ≡ true) ⊎ (same_url v u ≡ false) → (a : Asker) × Has (v, a) l.askers
+    by : (v : Url) → has l.asked v ≡ true → get (insert l.entries u (entry_of l.maps u c)) v ≡ None → (same_url v u ≡ true) ⊎ (same_url v u ≡ false) → (a : Asker) × Has (v, a) l.askers
     by v h n (inl s) =
-        let at : get (insert l.entries u (entry_of u c)) v ≡ Some (entry_of u c) = ap (get (insert l.entries u (entry_of u c))) (same_text v u s) ∙ get_new l.entries u (entry_of u c) in
+        let at : get (insert l.entries u (entry_of l.maps u c)) v ≡ Some (entry_of l.maps u c) = ap (get (insert l.entries u (entry_of l.maps u c))) (same_text v u s) ∙ get_new l.entries u (entry_of l.maps u c) in
         cc
-    by v h n (inr f) = k.wanted v h (sym (get_old l.entries u v (entry_of u c) (λ same. not_both (same_url v u) (subst (λ x. same_url v x ≡ true) same (own_text v)) f)) ∙ n)
+    by v h n (inr f) = k.wanted v h (sym (get_old l.entries u v (entry_of l.maps u c) (λ same. not_both (same_url v u) (subst (λ x. same_url v x ≡ true) same (own_text v)) f)) ∙ n)
 
 counted_kept : (b : Bool) (l : Loading) (m : ℕ) → IsWanted l → IsWanted (count_by b l m)
 counted_kept true l m k = record { wanted = k.wanted }
@@ -181,8 +182,8 @@ runs_phase : (ds : List Delivery) (w a : World) → Runs w ds a → Phase w → 
 runs_phase [] w a r p = subst Phase (sym r) p
 runs_phase (d ∷ ds) w a r p = runs_phase ds r.1 a r.3 (turn_phase r.2 (asks_quiet w d.0 p r.0))
 
-opening_kept : (entry : Url) → IsKept (opening entry)
-opening_kept entry = record {
+opening_kept : (maps : Maps) (entry : Url) → IsKept (opening maps entry)
+opening_kept maps entry = record {
   single = record { state = Asked; loads = refl; own = λ p h. by p (has_cons h) };
   wanted = record { wanted = λ u h n. (Root 0, subst (λ v. Has {A = Url × Asker} (v, Root 0) ((entry, Root 0) ∷ [])) (sym (only u (or_cases (same_url u entry) false h))) here) };
   jobs = refl;
@@ -196,8 +197,8 @@ opening_kept entry = record {
     only u (inl s) = same_text u entry s
     only u (inr k) = absurd (true≢false (sym k))
 
-pub run_phase : (entry : Url) (ds : List Delivery) (w : World) → Runs (opening entry) ds w → Phase w
-run_phase entry ds w r = runs_phase ds (opening entry) w r (quiet (opening_kept entry) refl)
+pub run_phase : (maps : Maps) (entry : Url) (ds : List Delivery) (w : World) → Runs (opening maps entry) ds w → Phase w
+run_phase maps entry ds w r = runs_phase ds (opening maps entry) w r (quiet (opening_kept maps entry) refl)
 
 pub evaluated_of : (w : World) → Phase w → (w.bodies.events ≡ []) ⊎ IsEvaluated w
 evaluated_of w (quiet k e) = inl e

@@ -2,13 +2,13 @@
 ghost use Rattle.std.specs.Prelude.{◌≡◌, All, List, [], ◌∷◌, ◌++◌, true, IfOk, IfErr, OnOk, Some, None, Err, is_some, option_map, slice_get, codes, IsSome, ◌↔◌};
 ghost use Rattle.esm_ast.specs.Outcome.{outcome_view};
 ghost use Rattle.esm_base.specs.Limits.{limit_name};
-ghost use Rattle.esm_base.specs.Urls.{Url, is_usable, IsUsable};
+ghost use Rattle.esm_base.specs.Urls.{is_usable, IsUsable};
 ghost use Rattle.esm_realm.specs.Sound.{RecordParts};
+ghost use Rattle.std.specs.Arc.{arc_value};
 ghost use Rattle.esm_load.specs.Loading.{Loading};
-ghost use Rattle.esm_load.specs.Arrival.{open_asks};
 ghost use Rattle.esm_load.specs.LoadsView.{AreOne, loading_of};
-ghost use Rattle.esm_turn.specs.Run.{Delivery, Shown, StandardRun, ending_by, last_line_by, status_of};
-ghost use Rattle.esm_turn.specs.Stands.{IsEnded, MayTake, Stands, StoppedAs, Took, asks_of, ending_by_stop, ending_of};
+ghost use Rattle.esm_turn.specs.LastLine.{ending_by, last_line_by, live_ending, status_of};
+ghost use Rattle.esm_turn.specs.Stands.{IsEnded, MayTake, ShownBy, Stands, StoppedAs, Took, asks_of, ending_by_stop, ending_of};
 ghost use Rattle.esm_turn.specs.declared.turn_end.TurnEnd.{TurnEnd as EndOf};
 
 use crate::TurnEnd;
@@ -16,10 +16,12 @@ use crate::engine::Engine;
 use crate::turn::{Parts, run_turn};
 use esm_ast::Outcome;
 use esm_base::{Limit, Memory, Status, Text};
+use esm_import_map::ImportMap;
 use esm_load::{LoadEnd, Loaded, Loads};
 use esm_realm::Realm;
 use std::alloc::Global;
 use std::marker::Model;
+use std::sync::Arc;
 
 /// An entry, and the deliveries that were taken. Contracts see what it holds of loading, its log, its steps and how
 /// it has stopped; `Stands` says for which lists of deliveries it stands.
@@ -40,7 +42,9 @@ impl Model for Machine {
 
     ghost Value = { State };
 
-    ghost coded = { Prim.hlevel (codes, maps.code, coded_item) };
+    ghost use Rattle.esm_import_map.specs.ImportMap.{maps_code};
+
+    ghost coded = { Prim.hlevel (codes, maps.code, maps_code) };
 
     ghost use Rattle.esm_turn.specs.Parts.{AreKept, loading_in};
 
@@ -51,7 +55,8 @@ impl Model for Machine {
 
 // The status of a run that no limit has stopped; none while an ask is open.
 fn live_status(loads: &Loads) -> Option<Status>
-    ensures { (records : List RecordParts) → AreOne loads.now records → result ≡ option_map status_of (ending_by None (open_asks (loading_of loads.now records)) (slice_get loads.now.loads 0)) }
+    ensures { (records : List RecordParts) → AreOne loads.now records
+        → result ≡ option_map status_of (live_ending (loading_of loads.now records)) }
 {
     if !loads.asks().is_empty() {
         return None;
@@ -92,7 +97,8 @@ fn thrown_line(alloc: Global, thrown: &str) -> Result<Text, Memory>
 
 // The last line of a run that has stopped so.
 fn stopped_line(alloc: Global, end: TurnEnd) -> Result<Text, Memory>
-    ensures { (l : Loading) → IfOk result (λ line. line ≡ last_line_by (ending_by_stop (Some end) l)) }
+    ensures { (l : Loading)
+        → IfOk result (λ line. line ≡ last_line_by (ending_by_stop (Some end) l)) }
 {
     match end {
         TurnEnd::Limit(limit) => limit_line(alloc, limit),
@@ -102,7 +108,9 @@ fn stopped_line(alloc: Global, end: TurnEnd) -> Result<Text, Memory>
 
 // The last line of a run that no limit has stopped, and in which no ask is open.
 fn live_line(alloc: Global, loads: &Loads) -> Result<Text, Memory>
-    ensures { (records : List RecordParts) → AreOne loads.now records → IfOk result (λ line. line ≡ last_line_by (ending_by None [] (slice_get loads.now.loads 0))) }
+    ensures { (records : List RecordParts) → AreOne loads.now records
+        → let ending = ending_by None [] (slice_get loads.now.loads 0) in
+        IfOk result (λ line. line ≡ last_line_by ending) }
 {
     match loads.ended() {
         Some(Loaded::Ready(_root)) => Text::copy(alloc, ""),
@@ -112,14 +120,15 @@ fn live_line(alloc: Global, loads: &Loads) -> Result<Text, Memory>
 }
 
 impl Machine {
-    /// The machine that has asked for the entry, whose URL is canonical and at most 8,192 bytes long.
-    pub fn new(alloc: Global, entry: Text) -> Result<Machine, Memory>
+    /// The machine that has asked for the entry, whose URL is canonical and at most 8,192 bytes long. Its specifiers
+    /// resolve by this import map.
+    pub fn new(alloc: Global, map: Arc<ImportMap>, entry: Text) -> Result<Machine, Memory>
         requires { is_usable entry ≡ true }
-        ensures stands { IfOk result (λ m. Stands entry m []) }
+        ensures stands { IfOk result (λ m. Stands (arc_value map) entry m []) }
         ensures live { IfOk result (λ m. m.stopped ≡ None) }
     {
         let mut realm = Realm::new(alloc);
-        let mut loads = Loads::new(alloc);
+        let mut loads = Loads::new(alloc, map);
         match loads.ask_entry(&mut realm, &entry) {
             Ok(()) => Ok(Machine {
                 parts: Parts {
@@ -139,7 +148,7 @@ impl Machine {
     pub fn asks(&self) -> &[Text]
         ensures usable { All IsUsable result.now }
         ensures open { result.now ≡ asks_of self.now }
-        ensures standard { (entry : Url) (deliveries : List Delivery) (what : Shown) → Stands entry self.now deliveries → StandardRun entry deliveries what → result.now ≡ what.asks }
+        ensures standard { ShownBy self.now (λ what. result.now ≡ what.asks) }
     {
         let asks = self.parts.loads.asks();
         match self.stopped {
@@ -155,8 +164,10 @@ impl Machine {
     /// than 4,096 URLs are asked for, L2 where more than 16,777,216 bytes were delivered, L3 at step 1,000,001.
     pub fn deliver(&mut self, url: &Text, outcome: &Outcome) -> Result<(), TurnEnd>
         requires { MayTake self.old url.now }
-        ensures turn { self.old.stopped ≡ None → Took self.old url.now (outcome_view outcome.now) result self.new }
-        ensures again { (end : EndOf) → self.old.stopped ≡ Some end → (result ≡ Err end) × (self.new ≡ self.old) }
+        ensures turn { self.old.stopped ≡ None
+            → Took self.old url.now (outcome_view outcome.now) result self.new }
+        ensures again { (end : EndOf) → self.old.stopped ≡ Some end
+            → (result ≡ Err end) × (self.new ≡ self.old) }
         ensures goes_on { OnOk result (self.new.stopped ≡ None) }
         ensures stops { IfErr result (λ end. self.new.stopped ≡ Some end) }
     {
@@ -175,7 +186,7 @@ impl Machine {
     /// How the machine has stopped, if it has. It takes no memory.
     pub fn stopped(&self) -> Option<TurnEnd>
         ensures state { result ≡ self.now.stopped }
-        ensures standard { (entry : Url) (deliveries : List Delivery) (what : Shown) → Stands entry self.now deliveries → StandardRun entry deliveries what → StoppedAs result what }
+        ensures standard { ShownBy self.now (StoppedAs result) }
     {
         self.stopped
     }
@@ -183,7 +194,7 @@ impl Machine {
     /// What the bodies have written, without the last line. It takes no memory.
     pub fn log(&self) -> &[u8]
         ensures state { result.now ≡ self.now.log }
-        ensures standard { (entry : Url) (deliveries : List Delivery) (what : Shown) → Stands entry self.now deliveries → StandardRun entry deliveries what → result.now ≡ what.log }
+        ensures standard { ShownBy self.now (λ what. result.now ≡ what.log) }
     {
         self.parts.engine.log()
     }
@@ -194,8 +205,8 @@ impl Machine {
         ensures known { is_some result ≡ is_some (ending_of self.now) }
         ensures exactly { IsSome result ↔ IsEnded self.now }
         ensures memory { self.now.stopped ≡ Some TurnEnd.Memory → result ≡ None }
-        ensures standard { (entry : Url) (deliveries : List Delivery) (what : Shown) → Stands entry self.now deliveries → StandardRun entry deliveries what → result ≡ what.status }
-        ensures ended { (entry : Url) (deliveries : List Delivery) (what : Shown) → Stands entry self.now deliveries → StandardRun entry deliveries what → is_some result ≡ what.ended }
+        ensures standard { ShownBy self.now (λ what. result ≡ what.status) }
+        ensures ended { ShownBy self.now (λ what. is_some result ≡ what.ended) }
     {
         match self.stopped {
             Some(end) => stopped_status(end),
@@ -207,7 +218,7 @@ impl Machine {
     pub fn last_line(&self) -> Result<Text, Memory>
         requires { is_some (ending_of self.now) ≡ true }
         ensures state { IfOk result (λ line. line ≡ last_line_by (ending_of self.now)) }
-        ensures standard { (entry : Url) (deliveries : List Delivery) (what : Shown) → Stands entry self.now deliveries → StandardRun entry deliveries what → IfOk result (λ line. line ≡ what.last_line) }
+        ensures standard { ShownBy self.now (λ what. IfOk result (λ line. line ≡ what.last_line)) }
     {
         let alloc = self.parts.alloc;
         match self.stopped {

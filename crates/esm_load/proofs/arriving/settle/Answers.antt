@@ -47,4 +47,5 @@ returns c =
       trees = refl;
       job = refl;
       bytes = refl;
+      map = refl;
     }

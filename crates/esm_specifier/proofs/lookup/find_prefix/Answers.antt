@@ -1,6 +1,6 @@
 use Rattle.std.proofs.Common.{◌≡◌, ◌<◌, ◌+◌, ◌-◌, length, take, get_or, is_some, true, sym, ap, ◌∙◌, arith}
 use Rattle.std.proofs.lemmas.Str.{IsCharBoundary-after_ascii}
-use Rattle.esm_import_map.specs.TextMap.{at}
+use Rattle.esm_base.specs.TextMap.{at}
 use Rattle.esm_specifier.specs.Resolution.{reaches}
 use Rattle.esm_specifier.proofs.Longest.{longest_start, longest_step, decided, undecided, absent, missing, passes, passes_then}
 use Rattle.esm_specifier.proofs.Prefixes.{reached_prefix}

@@ -1,0 +1,69 @@
+//! What a dev server wants to know: which URL a specifier in one of its modules names.
+use esm_base::{End, Memory, Text, is_canonical, parse_absolute};
+use esm_import_map::{ImportMap, MapFault};
+use esm_specifier::{SpecFault, resolve};
+use std::alloc::Global;
+
+/// Why a specifier has no URL.
+#[derive(Clone, Copy, Debug, PartialEq, Eq)]
+pub enum Unresolved {
+    /// The address of the page isn't an absolute URL, or that of the module isn't written as the URL parser writes it.
+    Address,
+    /// The import map is refused.
+    Map(MapFault),
+    /// The specifier has no URL under this map.
+    Specifier(SpecFault),
+}
+
+/// The URL that the specifier names in the module at `referrer`, under the import map of the page at `page`.
+pub fn resolve_under(
+    alloc: Global,
+    page: &str,
+    map: &[u8],
+    referrer: &str,
+    specifier: &str,
+) -> Result<Text, End<Unresolved>> {
+    let Some(base) = parse_absolute(alloc, page)? else {
+        return Err(End::Fault(Unresolved::Address));
+    };
+    let map = match ImportMap::read(alloc, map, &base) {
+        Ok(map) => map,
+        Err(End::Fault(fault)) => return Err(End::Fault(Unresolved::Map(fault))),
+        Err(End::Memory) => return Err(End::Memory),
+    };
+    if !is_canonical(alloc, referrer)? {
+        return Err(End::Fault(Unresolved::Address));
+    }
+    match resolve(alloc, &map, referrer, specifier) {
+        Ok(url) => Ok(url),
+        Err(End::Fault(fault)) => Err(End::Fault(Unresolved::Specifier(fault))),
+        Err(End::Memory) => Err(End::Memory),
+    }
+}
+
+#[cfg(test)]
+mod tests {
+    use super::*;
+    use std::test::Fail;
+
+    // HTML, "resolve a module specifier": the longest key that matches decides, and a scope before the imports.
+    #[test]
+    fn a_map_decides(rt: HostRuntime) -> Result<(), Fail> {
+        let alloc = rt.alloc();
+        let page = "https://a.test/";
+        let map = br#"{"imports":{"lib/":"/v1/"},"scopes":{"/old/":{"lib/":"/v0/"}}}"#;
+        let rows = [
+            ("https://a.test/main.js", "https://a.test/v1/x.js"),
+            ("https://a.test/old/m.js", "https://a.test/v0/x.js"),
+        ];
+        for (referrer, wanted) in rows {
+            match resolve_under(alloc, page, map, referrer, "lib/x.js") {
+                Ok(url) => assert_eq!(rt; url.as_str(), wanted),
+                Err(_) => assert!(rt; false),
+            }
+        }
+        let bare = resolve_under(alloc, page, map, "https://a.test/main.js", "react");
+        assert!(rt; bare.err() == Some(End::Fault(Unresolved::Specifier(SpecFault::S4))));
+        Ok(())
+    }
+}

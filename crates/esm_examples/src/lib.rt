@@ -1,0 +1,4 @@
+//! Examples for callers: each module shows one part of the loader in use, as `docs/guide.md` tells it.
+#![tactic(auto)]
+
+pub mod import_maps;

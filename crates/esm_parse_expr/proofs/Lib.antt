@@ -1,0 +1,6 @@
+pub mod Lists
+pub mod Compared
+pub mod OutcomeLemmas
+pub mod TokensLemmas
+pub mod Top
+pub mod Levels

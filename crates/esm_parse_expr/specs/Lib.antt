@@ -1,0 +1,4 @@
+pub mod Outcome
+pub mod Nests
+pub mod Operators
+pub mod TextExpressions

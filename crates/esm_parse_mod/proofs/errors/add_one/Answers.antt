@@ -1,0 +1,7 @@
+use Rattle.std.proofs.Common.{◌≡◌, ◌∙◌, ◌++◌, ◌∷◌, [], sym, ap, refl}
+use Rattle.esm_parse_mod.specs.Names.{texts}
+use Rattle.esm_parse_mod.proofs.NamesLemmas.{texts_push}
+use Rattle.esm_parse_mod.proofs.errors.add_one.Goals as goal
+
+pub returns : goal.returns
+returns c = ap texts c.in_ok-push.ensures.items ∙ texts_push _ _

@@ -1,0 +1,8 @@
+use Rattle.std.proofs.Common.{◌≡◌, ◌++◌, drop}
+use Rattle.esm_tree.specs.Flat.{items_of}
+use Rattle.esm_grammar.specs.EarlyErrors.{module_names}
+use Rattle.esm_parse_mod.specs.Names.{texts}
+use Rattle.esm_parse_mod.proofs.errors.all_declared.Given as goal
+
+abbrev pub invariant-loop-item : goal.invariant-loop-item
+invariant-loop-item l = module_names (items_of l.tree.stmts l.items) ≡ texts l.names.items ++ module_names (items_of l.tree.stmts (drop l.item-index l.items))

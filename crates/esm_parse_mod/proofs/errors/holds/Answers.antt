@@ -1,0 +1,5 @@
+use Rattle.std.proofs.Common.{◌≡◌, refl}
+use Rattle.esm_parse_mod.proofs.errors.holds.Goals as goal
+
+pub returns : goal.returns
+returns c = c.contains.ensures

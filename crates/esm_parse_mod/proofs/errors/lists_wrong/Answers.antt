@@ -1,0 +1,13 @@
+use Rattle.std.proofs.Common.{◌≡◌, ◌∙◌, [], sym, ap, refl}
+use Rattle.std.specs.List.{list_any}
+use Rattle.esm_grammar.specs.EarlyErrors.{listed_of}
+use Rattle.esm_parse_mod.specs.Names.{is_unlisted, held}
+use Rattle.esm_parse_mod.proofs.EarlyLemmas.{none_listed}
+use Rattle.esm_parse_mod.proofs.errors.lists_wrong.Goals as goal
+
+pub returns-in-ExportList : goal.returns-in-ExportList
+unfolding listed_of
+returns-in-ExportList c stmts = rw c.in-ExportList.is (c.any_undeclared.ensures ∙ ap (list_any (is_unlisted (held c.args.declared.now))) c.deref.ensures.value)
+
+pub returns-in_default : goal.returns-in_default
+returns-in_default c stmts = sym (ap (list_any (is_unlisted (held c.args.declared.now))) (none_listed stmts c.args.item.now c.in_default.not-ExportList))

@@ -1,0 +1,252 @@
+// Items of a module.
+ghost use Rattle.std.specs.Prelude.{◌≡◌, ◌<◌, true, false, length};
+ghost use Rattle.esm_tree.specs.Syntax.{ExportDefaultFunction};
+ghost use Rattle.esm_grammar.specs.Items as grammar;
+ghost use Rattle.esm_grammar.specs.ReadingItems as read;
+ghost use Rattle.esm_parse_mod.specs.Items.{ReadsBare, ReadsBody, body, function_of};
+ghost use Rattle.esm_parse_mod.specs.Outcome.{ReadsItem, ReadsItemStep};
+
+use crate::bindings::{end, init};
+use crate::names::{clause, exported_names, from, is_export_name, parameters};
+use crate::statements::{Room, add, block, statement};
+use esm_base::Text;
+use esm_parse_expr::Stop;
+use esm_parse_expr::tokens::{is_name_at, sees, terminal, text};
+use esm_tree::{ItemNode, Lexeme, StmtId, StmtNode, Terminal, Tree};
+use std::alloc::Global;
+
+fn outside(turns: usize) -> Room
+    ensures { result ≡ record { turns = turns; inside = false } }
+{
+    Room {
+        turns,
+        inside: false,
+    }
+}
+
+fn inside(turns: usize) -> Room
+    ensures { result ≡ record { turns = turns; inside = true } }
+{
+    Room {
+        turns,
+        inside: true,
+    }
+}
+
+#[tactic(auto, unfolding(esm_grammar::specs::Items::is_import_form))]
+fn is_import_form(tokens: &[Lexeme], at: usize) -> bool
+    ensures value { result ≡ grammar.is_import_form tokens.now at }
+    ensures there { result ≡ true → at < length tokens.now }
+{
+    sees(tokens, at, Terminal::Import)
+        && !(sees(tokens, at + 1, Terminal::Open) || sees(tokens, at + 1, Terminal::Dot))
+}
+
+fn import_form(
+    alloc: Global,
+    tokens: &[Lexeme],
+    turns: usize,
+    at: usize,
+) -> Result<(ItemNode, usize), Stop>
+    requires { at < length tokens.now }
+    ensures { ReadsBare result (read.import_form tokens.now turns at) }
+{
+    if sees(tokens, at + 1, Terminal::Literal) {
+        let specifier = text(alloc, tokens, at + 1)?;
+        let behind = end(tokens, at + 2, false)?;
+        return Ok((ItemNode::ImportEffect(specifier), behind));
+    }
+    let (found, behind) = clause(alloc, tokens, turns, at + 1)?;
+    let (specifier, behind) = from(alloc, tokens, behind)?;
+    Ok((ItemNode::Import(specifier, found), behind))
+}
+
+// Parameters and body. ECMA-262, FormalParameters, FunctionBody.
+fn rest(
+    alloc: Global,
+    tokens: &[Lexeme],
+    tree: &mut Tree,
+    turns: usize,
+    at: usize,
+) -> Result<((Vec<Text>, Vec<StmtId>), usize), Stop>
+    ensures { ReadsBody tree.old tree.new result (body tokens.now turns at) }
+{
+    if !sees(tokens, at, Terminal::Open) {
+        return Err(Stop::Fault);
+    }
+    let (found, behind) = parameters(alloc, tokens, turns, at + 1)?;
+    let (body, behind) = block(alloc, tokens, tree, inside(turns), turns, behind)?;
+    Ok(((found, body), behind))
+}
+
+// Name, parameters and body.
+fn function(
+    alloc: Global,
+    tokens: &[Lexeme],
+    tree: &mut Tree,
+    turns: usize,
+    exported: bool,
+    at: usize,
+) -> Result<(ItemNode, usize), Stop>
+    requires { at < length tokens.now }
+    ensures { ReadsItem tree.old tree.new result
+        (read.function_form tokens.now turns (function_of exported) at) }
+{
+    if !is_name_at(tokens, at + 1) {
+        return Err(Stop::Fault);
+    }
+    let name = text(alloc, tokens, at + 1)?;
+    let (parts, behind) = rest(alloc, tokens, tree, turns, at + 2)?;
+    let (found, body) = parts;
+    if exported {
+        Ok((ItemNode::ExportFunction(name, found, body), behind))
+    } else {
+        Ok((ItemNode::Function(name, found, body), behind))
+    }
+}
+
+fn export_all(alloc: Global, tokens: &[Lexeme], at: usize) -> Result<(ItemNode, usize), Stop>
+    requires { at < length tokens.now }
+    ensures { ReadsBare result (read.export_all_form tokens.now 0 at) }
+{
+    if sees(tokens, at + 1, Terminal::As) {
+        if !is_export_name(tokens, at + 2) {
+            return Err(Stop::Fault);
+        }
+        let name = text(alloc, tokens, at + 2)?;
+        let (specifier, behind) = from(alloc, tokens, at + 3)?;
+        return Ok((ItemNode::ExportAllAs(name, specifier), behind));
+    }
+    let (specifier, behind) = from(alloc, tokens, at + 1)?;
+    Ok((ItemNode::ExportAll(specifier), behind))
+}
+
+fn export_list(
+    alloc: Global,
+    tokens: &[Lexeme],
+    turns: usize,
+    at: usize,
+) -> Result<(ItemNode, usize), Stop>
+    requires { at < length tokens.now }
+    ensures { ReadsBare result (read.export_list_form tokens.now turns at) }
+{
+    let (found, behind) = exported_names(alloc, tokens, turns, at + 1)?;
+    if sees(tokens, behind, Terminal::From) {
+        let (specifier, behind) = from(alloc, tokens, behind)?;
+        return Ok((ItemNode::ExportFrom(found, specifier), behind));
+    }
+    let behind = end(tokens, behind, false)?;
+    Ok((ItemNode::ExportList(found), behind))
+}
+
+fn default_function(
+    alloc: Global,
+    tokens: &[Lexeme],
+    tree: &mut Tree,
+    turns: usize,
+    name: Option<Text>,
+    at: usize,
+) -> Result<(ItemNode, usize), Stop>
+    ensures { ReadsItem tree.old tree.new result
+        (read.rest tokens.now turns (ExportDefaultFunction name) at) }
+{
+    let (parts, behind) = rest(alloc, tokens, tree, turns, at)?;
+    let (found, body) = parts;
+    Ok((ItemNode::ExportDefaultFunction(name, found, body), behind))
+}
+
+fn export_default(
+    alloc: Global,
+    tokens: &[Lexeme],
+    tree: &mut Tree,
+    turns: usize,
+    at: usize,
+) -> Result<(ItemNode, usize), Stop>
+    requires { at < length tokens.now }
+    ensures { ReadsItem tree.old tree.new result (read.export_default_form tokens.now turns at) }
+{
+    if sees(tokens, at + 1, Terminal::Function) {
+        if is_name_at(tokens, at + 2) {
+            let name = text(alloc, tokens, at + 2)?;
+            return default_function(alloc, tokens, tree, turns, Some(name), at + 3);
+        }
+        return default_function(alloc, tokens, tree, turns, None, at + 2);
+    }
+    let (value, behind) = init(alloc, tokens, tree, outside(turns), at + 1)?;
+    let behind = end(tokens, behind, false)?;
+    let (id, behind) = add(tree, StmtNode::Default(value), behind)?;
+    Ok((ItemNode::ExportStatement(id), behind))
+}
+
+fn export_statement(
+    alloc: Global,
+    tokens: &[Lexeme],
+    tree: &mut Tree,
+    turns: usize,
+    at: usize,
+) -> Result<(ItemNode, usize), Stop>
+    ensures { ReadsItem tree.old tree.new result (read.export_statement tokens.now turns at) }
+{
+    let (id, behind) = statement(alloc, tokens, tree, outside(turns), turns, at)?;
+    Ok((ItemNode::ExportStatement(id), behind))
+}
+
+// Behind `export`.
+fn export_form(
+    alloc: Global,
+    tokens: &[Lexeme],
+    tree: &mut Tree,
+    turns: usize,
+    at: usize,
+) -> Result<(ItemNode, usize), Stop>
+    ensures { ReadsItem tree.old tree.new result (read.export_form tokens.now turns at) }
+{
+    match terminal(tokens, at) {
+        Terminal::Star => export_all(alloc, tokens, at),
+        Terminal::BraceOpen => export_list(alloc, tokens, turns, at),
+        Terminal::Const => export_statement(alloc, tokens, tree, turns, at),
+        Terminal::Let => export_statement(alloc, tokens, tree, turns, at),
+        Terminal::Function => function(alloc, tokens, tree, turns, true, at),
+        Terminal::Default => export_default(alloc, tokens, tree, turns, at),
+        _ => Err(Stop::Fault),
+    }
+}
+
+fn item(
+    alloc: Global,
+    tokens: &[Lexeme],
+    tree: &mut Tree,
+    turns: usize,
+    at: usize,
+) -> Result<(ItemNode, usize), Stop>
+    ensures { ReadsItem tree.old tree.new result (read.item tokens.now turns at) }
+{
+    if is_import_form(tokens, at) {
+        return import_form(alloc, tokens, turns, at);
+    }
+    if sees(tokens, at, Terminal::Export) {
+        return export_form(alloc, tokens, tree, turns, at + 1);
+    }
+    if sees(tokens, at, Terminal::Function) {
+        return function(alloc, tokens, tree, turns, false, at);
+    }
+    let (id, behind) = statement(alloc, tokens, tree, outside(turns), turns, at)?;
+    Ok((ItemNode::Statement(id), behind))
+}
+
+/// One more item, or the end of the module.
+pub(crate) fn item_step(
+    alloc: Global,
+    tokens: &[Lexeme],
+    tree: &mut Tree,
+    turns: usize,
+    at: usize,
+) -> Result<(Option<ItemNode>, usize), Stop>
+    ensures { ReadsItemStep tree.old tree.new result (read.item_step tokens.now turns at) }
+{
+    if at >= tokens.len() {
+        return Ok((None, at));
+    }
+    let (node, behind) = item(alloc, tokens, tree, turns, at)?;
+    Ok((Some(node), behind))
+}

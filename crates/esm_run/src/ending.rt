@@ -1,0 +1,66 @@
+// How a run ends: its status, its text, and writing it.
+ghost use Rattle.std.specs.Prelude.{◌≡◌, ◌≢◌, ◌<◌, ◌-◌, ◌^◌, ◌++◌, List, IfOk, Some, is_some, true};
+ghost use Rattle.esm_base.specs.Urls.{Url};
+ghost use Rattle.esm_turn.specs.Run.{Shown, StandardRun};
+ghost use Rattle.esm_turn.specs.Run as runs;
+ghost use Rattle.esm_turn.specs.Stands.{Stands, ending_of};
+ghost use Rattle.esm_base.specs.declared.status.Status.TheVariants as statuses;
+ghost use Rattle.esm_run.specs.Written.{EndsWith, change_of, last_text};
+ghost use Rattle.esm_run.specs.Inner.Driving.{IsEndingOf};
+
+use esm_base::{Memory, Status, Text};
+use esm_ports::{Sink, SinkEnd, put_all};
+use esm_turn::Machine;
+use std::alloc::Global;
+
+// How a run ends, and what it writes.
+#[derive(Drop)]
+pub(crate) struct Ending {
+    pub status: Status,
+    pub text: Vec<u8>,
+}
+
+// The text with the last line and its line feed behind it; an empty line adds nothing.
+fn with_last_line(text: Vec<u8>, line: &Text) -> Result<Vec<u8>, Memory>
+    ensures { IfOk result (λ whole. whole.items ≡ text.items ++ last_text line.now) }
+{
+    let mut text = text;
+    match line.as_str().as_bytes() {
+        [] => Ok(text),
+        bytes => {
+            text.extend_from_slice(bytes)?;
+            text.push(b'\n')?;
+            Ok(text)
+        }
+    }
+}
+
+// The status and the text of a machine's run that has ended.
+pub(crate) fn ending_of_run(alloc: Global, machine: &Machine) -> Result<Ending, Memory>
+    requires { is_some (ending_of machine.now) ≡ true }
+    ensures { (entry : Url) (deliveries : List runs.Delivery) (what : Shown)
+        → Stands entry machine.now deliveries → StandardRun entry deliveries what
+        → IfOk result (IsEndingOf what) }
+{
+    let Some(status) = machine.end() else {
+        unreachable!();
+    };
+    let log = Vec::from_slice(alloc, machine.log())?;
+    let last = machine.last_line()?;
+    let text = with_last_line(log, &last)?;
+    Ok(Ending { status, text })
+}
+
+// Writes the text, and gives the status that this comes to.
+pub(crate) fn finish<K: Sink>(out: &mut K, wanted: Status, text: &[u8]) -> Status
+    requires room { K.faults out.old < 2 ^ 64 - 1 }
+    requires no_fault { wanted ≢ statuses.WriteFault }
+    requires no_want { wanted ≢ statuses.Memory }
+    ensures { EndsWith (Some wanted) text.now result (change_of K.written K.faults out.old out.new) }
+{
+    match put_all(out, text) {
+        Ok(()) => wanted,
+        Err(SinkEnd::Failed) => Status::WriteFault,
+        Err(SinkEnd::Memory) => Status::Memory,
+    }
+}

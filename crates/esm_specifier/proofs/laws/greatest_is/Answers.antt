@@ -1,0 +1,5 @@
+use Rattle.esm_specifier.proofs.GreatestLaw.{greatest_law}
+use Rattle.esm_specifier.proofs.laws.greatest_is.Goals as goal
+
+pub returns : goal.returns
+returns c = greatest_law

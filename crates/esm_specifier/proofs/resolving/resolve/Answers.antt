@@ -1,5 +1,0 @@
-use Rattle.esm_specifier.proofs.Usable.{resolution_usable}
-use Rattle.esm_specifier.proofs.resolving.resolve.Goals as goal
-
-pub returns-clause-usable : goal.returns-clause-usable
-returns-clause-usable c = resolution_usable c.find_url.result c.args.map.now c.args.referrer.now c.args.specifier.now c.find_url.ensures

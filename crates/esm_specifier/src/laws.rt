@@ -1,0 +1,23 @@
+// Laws of the definitions, as functions without effect.
+ghost use Rattle.esm_specifier.specs.Laws.{GreatestIs, ResolvesAsTheStandard, ResolvesByItself, ResolvesToUsable};
+
+/// The key that decides of those that match: a member than which none is greater in code unit order.
+pub fn greatest_is()
+    ensures { GreatestIs }
+{}
+
+/// Whatever the import map, what a specifier resolves to is canonical and at most `MAX_URL_BYTES` long.
+pub fn resolves_to_usable()
+    ensures { ResolvesToUsable }
+{}
+
+/// Under the empty import map a specifier resolves to the URL that it is, where that may name a module: S5 where it
+/// may not, and S4 where the specifier is no URL.
+pub fn resolves_by_itself()
+    ensures { ResolvesByItself }
+{}
+
+/// Worked examples of resolving under the empty import map.
+pub fn resolves_as_the_standard()
+    ensures { ResolvesAsTheStandard }
+{}

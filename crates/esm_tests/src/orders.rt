@@ -1,0 +1,174 @@
+// The machine, driven in every order in which fetches may end.
+ghost use Rattle.std.specs.Prelude.{◌≡◌, IfOk, IfSome};
+ghost use Rattle.esm_turn.specs.Stands.{MayTake};
+
+use crate::graphs::run_over;
+use crate::helpers::{ENTRY, site};
+use crate::sites::{Row, SITES};
+use esm_ast::Outcome;
+use esm_base::{Memory, Status, Text};
+use esm_ports::SureSink;
+use esm_run::Delivery;
+use esm_turn::{Machine, TurnEnd};
+use std::alloc::Global;
+
+// Which of the open asks is delivered at a turn.
+#[derive(Drop)]
+struct Choice {
+    place: usize,
+    open: usize,
+}
+
+// The outcome that a run took at this URL; nothing stands there where it took none.
+fn outcome_at(taken: &[Delivery], url: &Text) -> Result<Outcome, Memory> {
+    for delivery in taken {
+        if delivery.url.is(url.as_str()) {
+            return delivery.outcome.share();
+        }
+    }
+    Ok(Outcome::Absent)
+}
+
+// The open ask at a place, if there is one.
+fn ask_at(machine: &Machine, place: usize) -> Result<Option<Text>, Memory>
+    ensures { IfOk result (λ found. IfSome found (MayTake machine.now)) }
+{
+    let asks = machine.asks();
+    if place >= asks.len() {
+        return Ok(None);
+    }
+    Ok(Some(asks[place].clone()?))
+}
+
+// Delivers the open ask at a place. `false` where there is none.
+fn deliver_at(machine: &mut Machine, place: usize, taken: &[Delivery]) -> Result<bool, Memory> {
+    let Some(url) = ask_at(machine, place)? else {
+        return Ok(false);
+    };
+    match machine.deliver(&url, &outcome_at(taken, &url)?) {
+        Err(TurnEnd::Memory) => Err(Memory),
+        _ => Ok(true),
+    }
+}
+
+// Delivers by these choices, and behind them the first open ask again and again, noting that as choices.
+fn drive(
+    machine: &mut Machine,
+    choices: &mut Vec<Choice>,
+    taken: &[Delivery],
+) -> Result<(), Memory> {
+    for turn in 0..64 {
+        let open = machine.asks().len();
+        if turn >= choices.len() {
+            choices.push(Choice { place: 0, open })?;
+        }
+        let place = match choices.get(turn) {
+            Some(choice) => choice.place,
+            None => 0,
+        };
+        if !deliver_at(machine, place, taken)? {
+            return Ok(());
+        }
+    }
+    Ok(())
+}
+
+// Turns to the next choices: the last that can be another is. `false` where there are none.
+fn next_choices(choices: &mut Vec<Choice>) -> Result<bool, Memory> {
+    while let Some(choice) = choices.pop() {
+        if choice.place < choice.open && choice.place + 1 < choice.open {
+            choices.push(Choice {
+                place: choice.place + 1,
+                open: choice.open,
+            })?;
+            return Ok(true);
+        }
+    }
+    Ok(false)
+}
+
+// The status and the text of a run that has ended.
+fn ended(alloc: Global, machine: &Machine) -> Result<Option<(Status, Vec<u8>)>, Memory> {
+    let Some(status) = machine.end() else {
+        return Ok(None);
+    };
+    let mut text = Vec::from_slice(alloc, machine.log())?;
+    let last = machine.last_line()?;
+    if !last.is("") {
+        text.extend_from_slice(last.as_str().as_bytes())?;
+        text.push(b'\n')?;
+    }
+    Ok(Some((status, text)))
+}
+
+// Whether a run by these choices ends as the row says.
+fn ends_so(
+    alloc: Global,
+    row: &Row,
+    choices: &mut Vec<Choice>,
+    taken: &[Delivery],
+) -> Result<bool, Memory> {
+    let mut machine = Machine::new(alloc, Text::copy(alloc, ENTRY)?)?;
+    drive(&mut machine, choices, taken)?;
+    match ended(alloc, &machine)? {
+        Some((status, text)) => Ok(
+            status == row.status && text.as_slice() == row.output.as_bytes(),
+        ),
+        None => Ok(false),
+    }
+}
+
+#[test]
+fn sites_run_the_same_in_every_order(rt: HostRuntime) -> Result<(), Memory> {
+    let alloc = rt.alloc();
+    let mut orders = 0u64;
+    for row in SITES {
+        let mut out = SureSink::new(alloc);
+        let report = run_over(&rt, alloc, site(alloc, row.files)?, &mut out)?;
+        let mut choices = Vec::new(alloc);
+        for order in 0..1000u64 {
+            assert!(rt;
+                ends_so(alloc, row, &mut choices, &report.taken)?,
+                "{} {order}",
+                row.name
+            );
+            orders = orders.wrapping_add(1);
+            if !next_choices(&mut choices)? {
+                break;
+            }
+        }
+    }
+    assert_eq!(rt; orders, 17);
+    Ok(())
+}
+
+#[test]
+fn the_missing_file_that_is_delivered_first_is_named(rt: HostRuntime) -> Result<(), Memory> {
+    let alloc = rt.alloc();
+    let files = [(
+        "main.js",
+        "import \"./a.js\";import \"./b.js\";print(\"m\")",
+    )];
+    let mut out = SureSink::new(alloc);
+    let report = run_over(&rt, alloc, site(alloc, &files)?, &mut out)?;
+    for (place, line) in [
+        (0, "Uncaught TypeError: cannot fetch https://a.test/a.js"),
+        (1, "Uncaught TypeError: cannot fetch https://a.test/b.js"),
+    ] {
+        let mut machine = Machine::new(alloc, Text::copy(alloc, ENTRY)?)?;
+        assert!(rt; deliver_at(&mut machine, 0, &report.taken)?);
+        assert!(rt; deliver_at(&mut machine, place, &report.taken)?);
+        assert_eq!(rt; machine.end(), None);
+        assert!(rt; deliver_at(&mut machine, 0, &report.taken)?);
+        assert!(rt; !deliver_at(&mut machine, 0, &report.taken)?);
+        match ended(alloc, &machine)? {
+            Some((status, text)) => {
+                assert_eq!(rt; status, Status::EntryFailed);
+                let line = format!(in alloc; "{line}\n")?;
+                assert!(rt; text.as_slice() == line.as_str().as_bytes(), "{line}");
+            }
+            None => assert!(rt; false, "{line}"),
+        }
+    }
+    Ok(())
+}
