@@ -1,20 +1,19 @@
 -- What is in the grammar of items is read, where the numbers are large enough; so the tokens spell at most one module.
-use Rattle.std.proofs.Common.{◌≡◌, ◌≢◌, ℕ, zero, suc, ◌+◌, ◌<◌, ◌≤◌, Bool, true, false, not, ◌||◌, ◌&&◌, List, [], ◌∷◌, length, Option, Some, None, refl, sym, subst, ap, ◌∙◌, arith}
+use Rattle.std.proofs.Common.{◌≡◌, ◌≢◌, ℕ, zero, suc, ◌+◌, ◌<◌, ◌≤◌, Bool, true, false, ◌||◌, List, [], ◌∷◌, length, Some, None, refl, sym, ◌∙◌, arith}
 use Rattle.std.specs.Prelude.{nat_le}
 use Rattle.std.proofs.lemmas.Bool.Decides.{nat_tests}
 use Rattle.esm_tree.specs.declared.node.ImportBinding.{ImportBinding}
 use Rattle.esm_tree.specs.declared.node.ExportSpecifier.{ExportSpecifier}
-use Rattle.esm_tree.specs.Syntax.{Init, Stmt, Default, Stmts, Item, ImportFrom, ExportAll, ExportAllAs, ExportFrom, ExportList, ExportStatement, ExportFunction, ExportDefaultFunction, Function, Statement}
+use Rattle.esm_tree.specs.Syntax.{Stmts, Item}
 use Rattle.esm_tree.specs.declared.lexeme.Terminal.{Terminal}
 use Rattle.esm_tree.specs.declared.lexeme.Terminal.TheVariants as t
 use Rattle.esm_tree.specs.Lexeme.{Lexeme}
-use Rattle.esm_grammar.specs.Lexeme.{terminal_at, text_at, is_word, is_name}
-use Rattle.esm_grammar.specs.Reading.{Read, ◌>>=◌, pick, sees, same}
+use Rattle.esm_grammar.specs.Lexeme.{terminal_at}
+use Rattle.esm_grammar.specs.Reading.{Read, ◌>>=◌, pick, same}
 use Rattle.esm_grammar.specs.ReadingLists.{many}
-use Rattle.esm_grammar.specs.Statements.{Ends, InitAt, StmtAt, BlockAt}
-use Rattle.esm_grammar.specs.Items.{is_export_name, import_binding, default_binding, space_binding, export_specifier, Listed, closed, element, AfterElement, closes, comma, ParameterAt, a_parameter, ImportSpecifierAt, imported_as, imported, ExportSpecifierAt, exported_as, exported, SpaceAt, a_space, NamesAt, whole_space, named, ClauseAt, names, default_alone, default_and, FromAt, a_from, RestAt, a_rest, is_import_form, is_form, is_declaration, ExportAt, export_all, export_all_as, export_from, export_list, export_declaration, export_function, export_default_named, export_default_unnamed, export_default_value, ItemAt, import_effect, import_from, an_export, a_function, a_statement, ItemsAt, no_item, an_item}
+use Rattle.esm_grammar.specs.Items.{is_export_name, Listed, closed, element, AfterElement, closes, comma, ParameterAt, a_parameter, ImportSpecifierAt, imported_as, imported, ExportSpecifierAt, exported_as, exported, SpaceAt, a_space, NamesAt, whole_space, named, ClauseAt, names, default_alone, default_and, FromAt, a_from, RestAt, a_rest, is_import_form, is_form, is_declaration, ExportAt, export_all, export_all_as, export_from, export_list, export_declaration, export_function, export_default_named, export_default_unnamed, export_default_value, ItemAt, import_effect, import_from, an_export, a_function, a_statement, ItemsAt, no_item, an_item}
 use Rattle.esm_grammar.specs.ReadingItems as r
-use Rattle.esm_grammar.proofs.Basics.{from_some, same_is, is_same, not_same, there}
+use Rattle.esm_grammar.proofs.Basics.{from_some, is_same, not_same, there}
 use Rattle.esm_grammar.proofs.Many.{many_ends, many_goes_on}
 use Rattle.esm_grammar.proofs.Within.{there_at, name_at}
 use Rattle.esm_grammar.proofs.WithinStatements.{ends_within, init_within, stmt_within, block_within}

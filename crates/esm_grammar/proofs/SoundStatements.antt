@@ -1,14 +1,14 @@
 -- What is read of statements is in the grammar.
-use Rattle.std.proofs.Common.{◌≡◌, ◌≢◌, ℕ, zero, suc, ◌+◌, ◌⊎◌, inl, inr, Bool, true, false, List, Option, Some, None, refl, sym, subst, ap, ◌∙◌, arith}
-use Rattle.esm_tree.specs.Syntax.{Expr, Init, absent, plain, awaited, Bindings, no_more, binding, Stmt, Empty, Expression, Assign, Block, If, IfElse, Try, TryCatch, Throw, Return, ReturnValue, Await, PrintAwait, Const, Let, Stmts, nothing, first}
+use Rattle.std.proofs.Common.{◌≡◌, ◌≢◌, ℕ, zero, suc, ◌+◌, inl, inr, Bool, true, false, List, Option, Some, None, refl, sym, subst}
+use Rattle.esm_tree.specs.Syntax.{Expr, Init, Bindings, no_more, Stmt, Const, Let, Stmts, nothing, first}
 use Rattle.esm_tree.specs.declared.lexeme.Terminal.{Terminal}
 use Rattle.esm_tree.specs.declared.lexeme.Terminal.TheVariants as t
 use Rattle.esm_tree.specs.Lexeme.{Lexeme}
-use Rattle.esm_grammar.specs.Lexeme.{terminal_at, text_at, newline_at, is_name}
-use Rattle.esm_grammar.specs.Grammar.{Reads, ors, unaries}
-use Rattle.esm_grammar.specs.Reading.{Read, ◌>>=◌, pick, sees, same, expr}
+use Rattle.esm_grammar.specs.Lexeme.{terminal_at}
+use Rattle.esm_grammar.specs.Grammar.{Reads, unaries}
+use Rattle.esm_grammar.specs.Reading.{Read, pick, expr}
 use Rattle.esm_grammar.specs.ReadingLists.{many}
-use Rattle.esm_grammar.specs.Statements.{may_miss, Ends, written, missing, is_assign, is_print_await, no_value, is_keyword, InitAt, an_await, a_value, BindingAt, with_value, without, MoreBindings, no_binding, a_binding, BindingsAt, some_bindings, StmtAt, a_block, an_empty, a_const, a_let, an_if, an_if_else, a_try, a_catch, a_throw, a_return, a_return_value, an_await_statement, an_assign, a_print_await, an_expression, BlockAt, in_braces, StmtsAt, no_stmt, a_stmt}
+use Rattle.esm_grammar.specs.Statements.{Ends, written, missing, is_assign, is_print_await, is_keyword, InitAt, an_await, a_value, BindingAt, with_value, without, MoreBindings, no_binding, a_binding, BindingsAt, some_bindings, StmtAt, a_block, an_empty, a_const, a_let, an_if, an_if_else, a_try, a_catch, a_throw, a_return, a_return_value, an_await_statement, an_assign, a_print_await, an_expression, BlockAt, in_braces, StmtsAt, no_stmt, a_stmt}
 use Rattle.esm_grammar.specs.ReadingStatements as r
 use Rattle.esm_grammar.proofs.Basics.{bind_ok, chosen, guard_ok, from_some, same_is, same_not}
 use Rattle.esm_grammar.proofs.Many.{many_ok, many_never}

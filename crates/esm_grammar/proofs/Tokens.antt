@@ -1,5 +1,5 @@
 -- What tells the kinds of tokens apart, and that a text begins with at most one longest token.
-use Rattle.std.proofs.Common.{◌≡◌, ◌≢◌, ℕ, zero, suc, ◌+◌, ◌-◌, ◌<◌, ◌≤◌, ◌⊎◌, inl, inr, Bool, true, false, not, ◌||◌, ◌&&◌, ◌==◌, List, [], ◌∷◌, ◌++◌, length, get_or, take, drop, Option, Some, None, encode_utf8, encode_utf8_all, refl, sym, subst, ap, ◌∙◌, add-one, arith, length-append}
+use Rattle.std.proofs.Common.{◌≡◌, ℕ, ◌+◌, ◌-◌, ◌<◌, ◌≤◌, inl, inr, Bool, true, false, ◌||◌, ◌&&◌, ◌==◌, List, [], ◌∷◌, ◌++◌, length, get_or, take, drop, Option, Some, None, encode_utf8_all, refl, sym, subst, ap, ◌∙◌, arith, length-append}
 use Rattle.std.proofs.lemmas.Bool.Decides.{nat_tests}
 use Rattle.std.proofs.lemmas.Bool.{cases_lt}
 use Rattle.std.proofs.Math.Seq.{take-append_seam, drop-append_seam}
@@ -7,7 +7,6 @@ use Rattle.std.specs.List.{list_all}
 use Rattle.std.specs.Char.{is_ascii_alphabetic}
 use Rattle.unicode_ident.proofs.IdentLemmas.{is_xid_start-ascii}
 use Rattle.esm_tree.specs.declared.token.TokenKind.{TokenKind}
-use Rattle.esm_tree.specs.declared.token.TokenKind.TheVariants as kind
 use Rattle.esm_tree.specs.declared.lexeme.Terminal.{Terminal}
 use Rattle.esm_tree.specs.declared.lexeme.Terminal.TheVariants as t
 use Rattle.esm_tree.specs.Lexeme.{Lexeme, lexeme}
@@ -15,7 +14,7 @@ use Rattle.esm_grammar.specs.Characters.{starts, continues, is_quote}
 use Rattle.esm_grammar.specs.Reading.{pick}
 use Rattle.esm_grammar.specs.Strings.{Body, closed, more, piece, is_plain}
 use Rattle.esm_grammar.specs.Terminals.{word_terminal, single_sign, double_sign, triple_sign, sign_terminal}
-use Rattle.esm_grammar.specs.Lexes.{is_word_text, IsToken, a_word, a_literal, a_sign, Longest, NoToken, gap, Gap, widths, Lexes, all_read, stuck, blank, token}
+use Rattle.esm_grammar.specs.Lexes.{is_word_text, IsToken, a_word, a_literal, a_sign, Longest, gap, Gap, widths, Lexes, all_read, stuck, blank, token}
 
 -- ---- what tells the kinds apart
 

@@ -2,11 +2,10 @@
 -- ECMA-262, InputElementDiv, Comment, HashbangComment.
 -- own: there are no numbers, templates, regular expressions and private names, and of the punctuators only
 -- `{ } ( ) ; , . * + = === !== ! && ||`; a text that holds another has no token there.
-use Rattle.std.specs.Prelude.{◌≡◌, ℕ, zero, suc, pred, ◌+◌, ◌-◌, ◌<◌, ◌≤◌, Bool, true, false, not, ◌||◌, ◌&&◌, ◌==◌, nat_lt, List, [], ◌∷◌, ◌++◌, length, take, drop, Option, Some, None, sum_by, encode_utf8, encode_utf8_all, slice_index_or, IsUtf8, chars}
+use Rattle.std.specs.Prelude.{◌≡◌, ℕ, ◌+◌, ◌-◌, ◌≤◌, Bool, true, false, ◌||◌, ◌&&◌, ◌==◌, nat_lt, List, [], ◌∷◌, ◌++◌, length, drop, Option, Some, None, sum_by, encode_utf8, encode_utf8_all, IsUtf8, chars}
 use Rattle.std.specs.List.{list_all}
 use Rattle.esm_tree.specs.declared.token.TokenKind.{TokenKind}
 use Rattle.esm_tree.specs.declared.token.TokenKind.TheVariants as kind
-use Rattle.esm_tree.specs.declared.token.Token.{Token}
 use Rattle.esm_tree.specs.declared.lexeme.Terminal.{Terminal}
 use Rattle.esm_tree.specs.declared.lexeme.Terminal.TheVariants as t
 use Rattle.esm_tree.specs.Lexeme.{Lexeme, lexeme}

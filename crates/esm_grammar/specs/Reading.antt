@@ -1,12 +1,12 @@
 -- Reading an expression forward, as a function of the place. The number bounds the turns: the count of the tokens is always enough.
-use Rattle.std.specs.Prelude.{◌≡◌, ℕ, zero, suc, ◌+◌, Bool, true, false, List, Option, Some, None}
+use Rattle.std.specs.Prelude.{ℕ, zero, suc, ◌+◌, Bool, true, false, List, Option, Some, None}
 use denote.Enum.Bare.{sameb}
 use Rattle.esm_tree.specs.contracts.lexeme.Terminal.{the_type}
-use Rattle.esm_tree.specs.Syntax.{Expr, Text, Truth, Undefined, Name, Group, Or, And, Equal, Sum, Not, Post, Print, EmptyError, NewError, Import, Url, Exprs, none, more, Compared, last, compared, Links, ends, member, call}
+use Rattle.esm_tree.specs.Syntax.{Expr, Text, Truth, Undefined, Name, Group, Or, And, Sum, Not, Print, EmptyError, NewError, Import, Url, Exprs, none, more, Compared, last, compared, Links, ends, member, call}
 use Rattle.esm_tree.specs.declared.lexeme.Terminal.{Terminal}
 use Rattle.esm_tree.specs.declared.lexeme.Terminal.TheVariants as t
 use Rattle.esm_tree.specs.Lexeme.{Lexeme}
-use Rattle.esm_grammar.specs.Lexeme.{terminal_at, text_at, is_word, is_name}
+use Rattle.esm_grammar.specs.Lexeme.{terminal_at, text_at, is_word}
 use Rattle.esm_grammar.specs.Grammar.{joined, compares, linked}
 
 infixl 10 ◌>>=◌

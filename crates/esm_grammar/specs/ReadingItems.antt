@@ -1,16 +1,16 @@
 -- Reading the items of a module forward, as a function of the place. The numbers bound the turns and the depth.
-use Rattle.std.specs.Prelude.{ℕ, zero, suc, ◌+◌, Bool, true, false, List, [], ◌∷◌, length, nat_le, Option, Some, None}
+use Rattle.std.specs.Prelude.{ℕ, ◌+◌, true, false, List, [], ◌∷◌, length, nat_le, Option, Some, None}
 use Rattle.esm_tree.specs.declared.node.ImportBinding.{ImportBinding}
 use Rattle.esm_tree.specs.declared.node.ExportSpecifier.{ExportSpecifier}
-use Rattle.esm_tree.specs.Syntax.{Init, Stmt, Default, Stmts, Item, ImportEffect, ImportFrom, ExportAll, ExportAllAs, ExportFrom, ExportList, ExportStatement, ExportFunction, ExportDefaultFunction, Function, Statement}
+use Rattle.esm_tree.specs.Syntax.{Default, Stmts, Item, ImportEffect, ImportFrom, ExportAll, ExportAllAs, ExportFrom, ExportList, ExportStatement, ExportFunction, ExportDefaultFunction, Function, Statement}
 use Rattle.esm_tree.specs.declared.lexeme.Terminal.{Terminal}
 use Rattle.esm_tree.specs.declared.lexeme.Terminal.TheVariants as t
 use Rattle.esm_tree.specs.Lexeme.{Lexeme}
-use Rattle.esm_grammar.specs.Lexeme.{terminal_at, text_at, is_word, is_name}
+use Rattle.esm_grammar.specs.Lexeme.{terminal_at, text_at, is_name}
 use Rattle.esm_grammar.specs.Reading.{Read, ◌>>=◌, pick, sees}
 use Rattle.esm_grammar.specs.ReadingLists.{many}
 use Rattle.esm_grammar.specs.ReadingStatements.{end_of, init, stmt, block}
-use Rattle.esm_grammar.specs.Items.{is_export_name, import_binding, default_binding, space_binding, export_specifier, is_import_form, is_form, is_declaration}
+use Rattle.esm_grammar.specs.Items.{is_export_name, import_binding, default_binding, space_binding, export_specifier, is_import_form}
 
 abbrev pub cons : {A : Type 0} → A → List A → List A
 cons a as' = a ∷ as'

@@ -1,10 +1,10 @@
 -- Tokens one after another, with what is left.
-use Rattle.std.proofs.Common.{◌≡◌, ℕ, ◌+◌, ◌-◌, ◌<◌, ◌≤◌, Bool, true, false, ◌||◌, List, [], ◌∷◌, ◌++◌, length, drop, Option, Some, None, encode_utf8_all, sym, subst, ap, ◌∙◌, arith, append_assoc, append-nil}
+use Rattle.std.proofs.Common.{◌≡◌, ℕ, ◌+◌, ◌-◌, ◌≤◌, Bool, true, false, ◌||◌, List, [], ◌∷◌, ◌++◌, length, drop, Some, None, encode_utf8_all, sym, subst, ap, ◌∙◌, arith, append_assoc, append-nil}
 use Rattle.std.proofs.lemmas.List.{drop-drop}
 use Rattle.esm_tree.specs.declared.token.TokenKind.{TokenKind}
 use Rattle.esm_tree.specs.declared.lexeme.Terminal.{Terminal}
 use Rattle.esm_tree.specs.Lexeme.{Lexeme, lexeme}
-use Rattle.esm_grammar.specs.Lexes.{gap, widths, Lexes, all_read, stuck, blank, token, NoToken, Longest}
+use Rattle.esm_grammar.specs.Lexes.{gap, widths, Lexes, all_read, stuck, blank, token, NoToken}
 use Rattle.esm_lexer.specs.Tokens.{IsFound}
 use Rattle.esm_lexer.proofs.FrontLemmas.{widths_are}
 

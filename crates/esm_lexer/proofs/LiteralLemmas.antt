@@ -1,5 +1,5 @@
 -- String literals, piece by piece.
-use Rattle.std.proofs.Common.{◌≡◌, ℕ, zero, suc, ◌+◌, ◌<◌, ◌≤◌, Bool, true, false, ◌==◌, not, List, [], ◌∷◌, ◌++◌, length, get_or, take, drop, Option, Some, None, encode_utf8_all, refl, sym, subst, ap, ◌∙◌, arith, append_assoc, append-nil, length-drop}
+use Rattle.std.proofs.Common.{◌≡◌, ℕ, zero, suc, ◌+◌, ◌<◌, ◌≤◌, true, false, ◌==◌, List, [], ◌∷◌, ◌++◌, length, get_or, take, drop, Some, None, encode_utf8_all, refl, sym, subst, ap, ◌∙◌, arith, append_assoc, append-nil, length-drop}
 use Rattle.std.proofs.lemmas.Bool.Decides.{nat_tests}
 use Rattle.esm_grammar.specs.Characters.{is_quote}
 use Rattle.esm_grammar.specs.Reading.{pick}

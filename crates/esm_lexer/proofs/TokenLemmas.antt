@@ -1,21 +1,17 @@
 -- Which token is the longest at the front of a text.
-use Rattle.std.proofs.Common.{◌≡◌, ◌≢◌, ℕ, zero, suc, ◌+◌, ◌-◌, ◌<◌, ◌≤◌, ◌⊎◌, inl, inr, Bool, true, false, not, ◌||◌, ◌&&◌, ◌==◌, List, [], ◌∷◌, ◌++◌, length, get_or, take, drop, Option, Some, None, encode_utf8, encode_utf8_all, refl, sym, subst, ap, ◌∙◌, add-one, arith, length-append, length-drop, append_assoc}
-use Rattle.std.proofs.lemmas.Bool.Decides.{nat_tests}
+use Rattle.std.proofs.Common.{◌≡◌, ℕ, zero, suc, ◌+◌, ◌<◌, ◌≤◌, inl, inr, Bool, true, false, ◌&&◌, List, [], ◌∷◌, ◌++◌, length, get_or, take, drop, Some, None, encode_utf8, encode_utf8_all, refl, sym, ap, ◌∙◌, arith, length-drop, append_assoc}
 use Rattle.std.proofs.lemmas.Bool.{cases_lt}
 use Rattle.std.proofs.lemmas.List.{take-append-drop}
-use Rattle.std.proofs.Math.Seq.{take-append_seam, drop-append_seam}
 use Rattle.std.specs.List.{list_all}
-use Rattle.std.specs.Char.{is_ascii_alphabetic}
-use Rattle.esm_grammar.proofs.Tokens.{sign_char, start_no_sign, start_no_quote, quote_no_sign, slice_is, lengths, true_false, sign_part, word_part, one_body}
+use Rattle.esm_grammar.proofs.Tokens.{start_no_sign, start_no_quote, quote_no_sign, slice_is, lengths, true_false, sign_part, word_part, one_body}
 use Rattle.esm_tree.specs.declared.token.TokenKind.{TokenKind}
 use Rattle.esm_tree.specs.declared.token.TokenKind.TheVariants as kind
 use Rattle.esm_tree.specs.declared.lexeme.Terminal.{Terminal}
 use Rattle.esm_tree.specs.declared.lexeme.Terminal.TheVariants as t
 use Rattle.esm_grammar.specs.Characters.{starts, continues, is_quote}
-use Rattle.esm_grammar.specs.Reading.{pick}
-use Rattle.esm_grammar.specs.Strings.{Body, closed, more, piece, is_plain}
-use Rattle.esm_grammar.specs.Terminals.{word_terminal, single_sign, double_sign, triple_sign, sign_terminal}
-use Rattle.esm_grammar.specs.Lexes.{is_word_text, IsToken, a_word, a_literal, a_sign, Longest, NoToken}
+use Rattle.esm_grammar.specs.Strings.{Body}
+use Rattle.esm_grammar.specs.Terminals.{word_terminal, sign_terminal}
+use Rattle.esm_grammar.specs.Lexes.{is_word_text, IsToken, a_word, a_literal, a_sign, NoToken}
 use Rattle.esm_lexer.specs.Pieces.{IsLiteral}
 use Rattle.esm_lexer.specs.Tokens.{IsFound}
 

@@ -1,5 +1,6 @@
 // Loading the entry and all that it reaches.
 ghost use Rattle.std.specs.Prelude.{◌≡◌, ◌<◌, All, true, false, [], ◌∷◌, List, map, Ok, Err, Some, None, OnOk, cond, option_copied, slice_get};
+ghost use Rattle.std.specs.Arc.{arc_value};
 ghost use Rattle.esm_ast.specs.Outcome.{outcome_view};
 ghost use Rattle.esm_base.specs.declared.limits.Limit.{Limit as StopBy};
 ghost use Rattle.esm_base.specs.Urls.{has, is_usable, IsUsable};

@@ -507,21 +507,16 @@ fn verdict(alloc: Global, bytes: &[u8]) -> Result<String, AllocError> {
 #[test]
 fn rows(rt: HostRuntime) -> Result<(), Fail> {
     let alloc = rt.alloc();
-    let mut count = 0;
-    let mut wrong = 0;
+    let mut count = 0_usize;
     for row in ROWS.lines() {
         let Some((expected, text)) = row.split_once("|") else {
             continue;
         };
         let bytes = written(alloc, text)?;
         let found = verdict(alloc, &bytes)?;
-        count += 1;
-        if found.as_str() != expected {
-            wrong += 1;
-            println!(rt; "expected {expected}, found {found}: {text}")?;
-        }
+        assert_eq!(rt; found.as_str(), expected, "{text}");
+        count = count.saturating_add(1);
     }
-    assert_eq!(rt; wrong, 0);
     assert_eq!(rt; count, 402);
     Ok(())
 }

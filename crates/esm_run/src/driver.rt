@@ -2,7 +2,8 @@
 ghost use Rattle.std.specs.Prelude.{◌≡◌, ◌+◌, [], true, IfOk, IfSome, OnOk, length, slice_get};
 ghost use Rattle.esm_ast.specs.Outcome.{outcome_view};
 ghost use Rattle.esm_base.specs.Urls.{Url, has, is_usable};
-ghost use Rattle.esm_turn.specs.Stands.{Stands, StandsOn, asks_of};
+ghost use Rattle.esm_import_map.specs.ImportMap.{Maps};
+ghost use Rattle.esm_turn.specs.Stands.{StandsOn, asks_of, Stands};
 ghost use Rattle.esm_run.specs.Taken.{arrivals_of};
 ghost use Rattle.esm_run.specs.Inner.Driving.{IsAmong, IsOpenAsk, Drives, DrivesOn, IsDriven};
 
@@ -10,16 +11,19 @@ use crate::fetch::fetch_outcome;
 use crate::report::Delivery;
 use esm_ast::Outcome;
 use esm_base::{Memory, Text};
+use esm_import_map::ImportMap;
 use esm_ports::Source;
 use esm_turn::{Machine, TurnEnd, laws};
 use std::alloc::Global;
+use std::sync::Arc;
 
-// A machine that has asked for the entry.
-fn new_machine(alloc: Global, entry: &Text) -> Result<Machine, Memory>
+// A machine under this import map that has asked for the entry.
+fn new_machine(alloc: Global, map: ImportMap, entry: &Text) -> Result<Machine, Memory>
     requires { is_usable entry.now ≡ true }
-    ensures { IfOk result (λ m. Stands entry.now m []) }
+    ensures { IfOk result (λ m. Stands map entry.now m []) }
 {
-    Machine::new(alloc, entry.clone()?)
+    let map = Arc::new(alloc, map)?;
+    Machine::new(alloc, map, entry.clone()?)
 }
 
 // The first open ask, if there is one.
@@ -57,10 +61,10 @@ fn take_delivery<S: Source>(
 ) -> Result<(), Memory>
     requires found { has (asks_of machine.old) url ≡ true }
     requires open { IsOpenAsk machine.old url }
-    ensures drives { (entry : Url)
-        → IsDriven entry (S.holds source.old) (S.asked source.old) machine.old
+    ensures drives { (maps : Maps) (entry : Url)
+        → IsDriven maps entry (S.holds source.old) (S.asked source.old) machine.old
         (arrivals_of taken.old.items)
-        → DrivesOn entry (S.holds source.old) result (S.asked source.new) machine.new
+        → DrivesOn maps entry (S.holds source.old) result (S.asked source.new) machine.new
         (arrivals_of taken.new.items) }
     ensures holds { S.holds source.new ≡ S.holds source.old }
     ensures more { OnOk result (length taken.new.items ≡ length taken.old.items + 1) }
@@ -77,9 +81,10 @@ fn take_delivery<S: Source>(
     Ok(())
 }
 
-// Runs the entry over the source, until no ask is open or a limit has stopped the machine.
+// Runs the entry under an import map over the source, until no ask is open or a limit has stopped the machine.
 pub(crate) fn drive<S: Source>(
     alloc: Global,
+    map: ImportMap,
     entry: &Text,
     source: &mut S,
     taken: &mut Vec<Delivery>,
@@ -87,12 +92,12 @@ pub(crate) fn drive<S: Source>(
     requires usable { is_usable entry.now ≡ true }
     requires fresh { S.asked source.old ≡ [] }
     requires nothing { taken.old.items ≡ [] }
-    ensures drives { Drives entry.now (S.holds source.old) (S.asked source.new)
+    ensures drives { Drives map entry.now (S.holds source.old) (S.asked source.new)
         (arrivals_of taken.new.items) result }
     ensures holds { S.holds source.new ≡ S.holds source.old }
 {
     laws::deliveries();
-    let Ok(mut machine) = new_machine(alloc, entry) else {
+    let Ok(mut machine) = new_machine(alloc, map, entry) else {
         return Err(Memory);
     };
     loop {

@@ -1,9 +1,10 @@
 // How a run ends: its status, its text, and writing it.
 ghost use Rattle.std.specs.Prelude.{◌≡◌, ◌≢◌, ◌<◌, ◌-◌, ◌^◌, ◌++◌, List, IfOk, Some, is_some, true};
 ghost use Rattle.esm_base.specs.Urls.{Url};
+ghost use Rattle.esm_import_map.specs.ImportMap.{Maps};
 ghost use Rattle.esm_turn.specs.Run.{Shown, StandardRun};
-ghost use Rattle.esm_turn.specs.Run as runs;
 ghost use Rattle.esm_turn.specs.Stands.{Stands, ending_of};
+ghost use Rattle.esm_turn.specs.Run as runs;
 ghost use Rattle.esm_base.specs.declared.status.Status.TheVariants as statuses;
 ghost use Rattle.esm_run.specs.Written.{EndsWith, change_of, last_text};
 ghost use Rattle.esm_run.specs.Inner.Driving.{IsEndingOf};
@@ -38,8 +39,8 @@ fn with_last_line(text: Vec<u8>, line: &Text) -> Result<Vec<u8>, Memory>
 // The status and the text of a machine's run that has ended.
 pub(crate) fn ending_of_run(alloc: Global, machine: &Machine) -> Result<Ending, Memory>
     requires { is_some (ending_of machine.now) ≡ true }
-    ensures { (entry : Url) (deliveries : List runs.Delivery) (what : Shown)
-        → Stands entry machine.now deliveries → StandardRun entry deliveries what
+    ensures { (maps : Maps) (entry : Url) (deliveries : List runs.Delivery) (what : Shown)
+        → Stands maps entry machine.now deliveries → StandardRun maps entry deliveries what
         → IfOk result (IsEndingOf what) }
 {
     let Some(status) = machine.end() else {

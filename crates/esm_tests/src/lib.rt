@@ -9,6 +9,8 @@ mod graphs;
 #[cfg(test)]
 mod helpers;
 #[cfg(test)]
+mod maps;
+#[cfg(test)]
 mod orders;
 #[cfg(test)]
 mod runs;

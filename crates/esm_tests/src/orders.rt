@@ -7,10 +7,18 @@ use crate::helpers::{ENTRY, site};
 use crate::sites::{Row, SITES};
 use esm_ast::Outcome;
 use esm_base::{Memory, Status, Text};
+use esm_import_map::ImportMap;
 use esm_ports::SureSink;
 use esm_run::Delivery;
 use esm_turn::{Machine, TurnEnd};
 use std::alloc::Global;
+use std::sync::Arc;
+
+// A machine under the empty import map.
+fn new_machine(alloc: Global) -> Result<Machine, Memory> {
+    let map = Arc::new(alloc, ImportMap::empty(alloc))?;
+    Machine::new(alloc, map, Text::copy(alloc, ENTRY)?)
+}
 
 // Which of the open asks is delivered at a turn.
 #[derive(Drop)]
@@ -108,7 +116,7 @@ fn ends_so(
     choices: &mut Vec<Choice>,
     taken: &[Delivery],
 ) -> Result<bool, Memory> {
-    let mut machine = Machine::new(alloc, Text::copy(alloc, ENTRY)?)?;
+    let mut machine = new_machine(alloc)?;
     drive(&mut machine, choices, taken)?;
     match ended(alloc, &machine)? {
         Some((status, text)) => Ok(
@@ -155,7 +163,7 @@ fn the_missing_file_that_is_delivered_first_is_named(rt: HostRuntime) -> Result<
         (0, "Uncaught TypeError: cannot fetch https://a.test/a.js"),
         (1, "Uncaught TypeError: cannot fetch https://a.test/b.js"),
     ] {
-        let mut machine = Machine::new(alloc, Text::copy(alloc, ENTRY)?)?;
+        let mut machine = new_machine(alloc)?;
         assert!(rt; deliver_at(&mut machine, 0, &report.taken)?);
         assert!(rt; deliver_at(&mut machine, place, &report.taken)?);
         assert_eq!(rt; machine.end(), None);

@@ -1,5 +1,4 @@
-use Rattle.std.proofs.Common.{◌≡◌, ◌<◌, ◌≤◌, ◌+◌, ◌*◌, length, drop, refl, sym, ◌∙◌, arith}
-use Rattle.std.specs.Char.{digit_value}
+use Rattle.std.proofs.Common.{◌∙◌, arith}
 use Rattle.esm_lexer.proofs.Fronts.{at_is, past}
 use Rattle.esm_lexer.proofs.StringLemmas.{braced_more, braced_large, braced_end, braced_stuck, braced_over, code_of_end, no_half_at_all}
 use Rattle.esm_lexer.proofs.escapes.braced.Goals as goal

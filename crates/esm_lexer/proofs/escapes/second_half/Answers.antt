@@ -1,7 +1,7 @@
-use Rattle.std.proofs.Common.{◌≡◌, ℕ, List, ◌∷◌, drop, length, refl, sym, ap, ◌∙◌, inl, inr, arith, length-drop}
+use Rattle.std.proofs.Common.{refl, sym, inr, arith, length-drop}
 use Rattle.std.proofs.lemmas.List.{drop-drop}
 use Rattle.esm_grammar.specs.Reading.{◌>>=◌, pick}
-use Rattle.esm_grammar.specs.Strings.{hex_four, second_half}
+use Rattle.esm_grammar.specs.Strings.{second_half}
 use Rattle.esm_lexer.proofs.Fronts.{range_is, heads_are}
 use Rattle.esm_lexer.proofs.StringLemmas.{second_half_short, high_range, low_range}
 use Rattle.esm_lexer.proofs.escapes.second_half.Goals as goal

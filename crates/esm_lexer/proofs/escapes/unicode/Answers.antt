@@ -1,5 +1,4 @@
-use Rattle.std.proofs.Common.{◌≡◌, ℕ, ◌+◌, ◌==◌, true, false, List, ◌∷◌, drop, length, get_or, Option, Some, None, refl, sym, ap, ◌∙◌, arith, length-drop}
-use Rattle.std.proofs.lemmas.List.{drop-drop}
+use Rattle.std.proofs.Common.{◌≡◌, ℕ, ◌==◌, true, false, List, ◌∷◌, Some, refl, ap, ◌∙◌, arith, length-drop}
 use Rattle.esm_grammar.specs.Reading.{pick}
 use Rattle.esm_grammar.specs.Strings.{unicode, braced, four_digits}
 use Rattle.esm_lexer.proofs.Fronts.{skip, range_is, head_is, none_left}

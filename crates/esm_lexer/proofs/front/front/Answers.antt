@@ -1,4 +1,4 @@
-use Rattle.std.proofs.Common.{◌≡◌, ◌∙◌, length}
+use Rattle.std.proofs.Common.{◌∙◌}
 use Rattle.esm_lexer.proofs.FrontLemmas.{cut_at, front_is, behind_is, from_start}
 use Rattle.esm_lexer.proofs.front.front.Goals as goal
 

@@ -1,4 +1,4 @@
-use Rattle.std.proofs.Common.{◌≡◌, ℕ, ◌==◌, true, refl, sym, arith, ◌∙◌, drop, length}
+use Rattle.std.proofs.Common.{◌≡◌, ℕ, ◌==◌, true, sym, arith, ◌∙◌}
 use Rattle.std.proofs.lemmas.Bool.Decides.{nat_tests}
 use Rattle.std.proofs.lemmas.List.{get_or_read}
 use Rattle.esm_lexer.proofs.Fronts.{range_is}

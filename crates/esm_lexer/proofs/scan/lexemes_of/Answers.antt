@@ -1,4 +1,4 @@
-use Rattle.std.proofs.Common.{◌≡◌, sym}
+use Rattle.std.proofs.Common.{sym}
 use Rattle.std.proofs.lemmas.Str.{encodes-chars}
 use Rattle.esm_lexer.proofs.scan.lexemes_of.Goals as goal
 

@@ -1,4 +1,4 @@
-use Rattle.std.proofs.Common.{◌≡◌, ℕ, ◌<◌, ◌≤◌, ◌+◌, ◌-◌, List, ◌++◌, ◌∷◌, [], length, get_or, take, drop, encode_utf8_all, refl, sym, subst, ap, ◌∙◌, arith, rules, length-drop}
+use Rattle.std.proofs.Common.{◌≡◌, ℕ, ◌-◌, List, length, get_or, take, drop, encode_utf8_all, arith, rules, length-drop}
 use Rattle.std.proofs.lemmas.List.{get_or_default}
 use Rattle.esm_lexer.proofs.Fronts.{at_is, past, range_is}
 use Rattle.esm_lexer.proofs.LexLemmas.{scan_begins, scan_blank, scan_token, scan_stuck, scan_ends}

@@ -9,14 +9,3 @@ use Rattle.esm_parse_mod.proofs.module.derived.Goals as goal
 
 pub returns-in-Ok : goal.returns-in-Ok
 returns-in-Ok c = c.tree_of.ensures c.args.bytes.now c.if-bytes-gt-MAX_FILE_BYTES.false (rw c.deref.ensures.value c.in-Ok.ensures)
-
-refused : (bytes : List ℕ) (e : End TextFault) → length bytes ≤ 1048576 → IsRefusal bytes e → IsRefusedFor bytes e
-refused bytes (Fault P1) short h = (short, h)
-refused bytes (Fault P2) short h = absurd h
-refused bytes (Fault P3) short h = absurd h
-refused bytes (Fault P4) short h = absurd h
-refused bytes (Fault P6) short h = absurd h
-refused bytes Memory short h = tt
-
-pub returns-in-Err : goal.returns-in-Err
-returns-in-Err c = refused c.args.bytes.now c.in-Err.end c.if-bytes-gt-MAX_FILE_BYTES.false c.in-Err.ensures

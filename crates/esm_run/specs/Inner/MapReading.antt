@@ -1,0 +1,31 @@
+-- What the functions that fetch and read an import map answer.
+use Rattle.std.specs.Prelude.{◌≡◌, ◌⊎◌, Option, Some, None, Result, Ok, Err}
+use Rattle.url.specs.Parts.{Parts}
+use Rattle.esm_base.specs.declared.end.End.{End}
+use Rattle.esm_base.specs.declared.end.End.TheVariants.{Fault, Memory}
+use Rattle.esm_base.specs.Urls.{Url}
+use Rattle.esm_ports.specs.declared.asked.AskKind.TheVariants.{Body}
+use Rattle.esm_import_map.specs.ImportMap.{Maps}
+use Rattle.esm_run.specs.declared.arguments.Command.{Command}
+use Rattle.esm_run.specs.declared.command_map.MapRefusal.{MapRefusal}
+use Rattle.esm_run.specs.CommandMap.{DeskChange, IsUnasked, WasAsked, ReadsMap, MapOf}
+
+-- the desk wasn't asked, or it answered with a body that is lost
+abbrev pub AsksAtMost : Url → DeskChange → Type 0
+AsksAtMost url desk = IsUnasked desk ⊎ WasAsked desk url Body
+
+-- what one fetch of the map comes to
+abbrev pub Comes : Result Maps (End MapRefusal) → Parts → Url → DeskChange → Type 0
+Comes (Ok maps) base url desk = ReadsMap desk base url (Ok maps)
+Comes (Err (Fault refusal)) base url desk = ReadsMap desk base url (Err refusal)
+Comes (Err Memory) base url desk = AsksAtMost url desk
+
+abbrev pub MayHaveAsked : Option Url → DeskChange → Type 0
+MayHaveAsked None desk = IsUnasked desk
+MayHaveAsked (Some url) desk = AsksAtMost url desk
+
+-- what the map of a command comes to
+abbrev pub ComesTo : Result Maps (End MapRefusal) → Command → DeskChange → Type 0
+ComesTo (Ok maps) command desk = MapOf command desk (Ok maps)
+ComesTo (Err (Fault refusal)) command desk = MapOf command desk (Err refusal)
+ComesTo (Err Memory) command desk = MayHaveAsked command.map desk

@@ -1,0 +1,2 @@
+import "shop/cart.js";
+print("legacy page");

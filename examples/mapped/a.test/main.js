@@ -1,0 +1,4 @@
+import "log";
+import "shop/cart.js";
+import "./legacy/page.js";
+print("main");

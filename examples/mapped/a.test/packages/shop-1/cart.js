@@ -1,0 +1,1 @@
+print("cart of shop 1");
