@@ -1,4 +1,4 @@
--- The places of the open asks rise, and one of them is taken out where its URL is settled.
+-- The places of the open asks rise, and one of them is taken out where its URL is fetched.
 use Rattle.std.proofs.Common.{◌≡◌, ℕ, suc, zero, ◌+◌, ◌<◌, ◌≤◌, Bool, true, false, List, [], ◌∷◌, ◌++◌, length, get_or, Some, refl, ap, sym, ◌∙◌, arith, add-zero}
 use Rattle.std.specs.Prelude.{slice_get, slice_set, All}
 use Rattle.std.specs.List.{remove}
@@ -10,7 +10,7 @@ use Rattle.esm_load.specs.Asks.{open_places, open_place_by}
 use Rattle.esm_load.specs.TableView.{is_open, open_urls, open_by, urls_of}
 use Rattle.esm_load.specs.declared.table.Slot.{Slot}
 
--- one more slot that isn't settled
+-- one more slot that isn't fetched
 places_opened_from : (n : ℕ) (ss : List Slot) (s : Slot) → is_open s.stand ≡ true → open_places n (ss ++ s ∷ []) ≡ open_places n ss ++ (n + length ss) ∷ []
 places_opened_from n [] s o = ap (λ b. open_place_by b n []) o ∙ ap (λ k. k ∷ []) (omega arith)
 places_opened_from n (r ∷ ss) s o = by (is_open r.stand) (places_opened_from (suc n) ss s o)
@@ -45,7 +45,7 @@ from_on n (s ∷ ss) i k e = by (is_open s.stand) i e (λ j f. from_on (suc n) s
     by true (suc j) f rest = let h = rest j f in omega (arith, h)
     by false i f rest = let h = rest i f in omega (arith, h)
 
--- the place of a slot that isn't settled is there
+-- the place of a slot that isn't fetched is there
 pub place_listed : (n : ℕ) (ss : List Slot) (k : ℕ) (s : Slot) → slice_get ss k ≡ Some s → is_open s.stand ≡ true → (i : ℕ) × (slice_get (open_places n ss) i ≡ Some (n + k))
 place_listed n [] k s e o = cc
 place_listed n (r ∷ ss) zero s e o =
@@ -60,7 +60,7 @@ place_listed n (r ∷ ss) (suc k) s e o = by (is_open r.stand) (place_listed (su
     by true found = (suc found.0, found.1 ∙ ap (λ k. Some k) next)
     by false found = (found.0, found.1 ∙ ap (λ k. Some k) next)
 
--- what is taken out where a slot is settled
+-- what is taken out where a slot is fetched
 pub record IsTaken (n : ℕ) (ss : List Slot) (k : ℕ) (t : Slot) (i : ℕ) : Type 0 where
   pub urls : remove (open_urls ss) i ≡ open_urls (slice_set ss k t)
   pub places : remove (open_places n ss) i ≡ open_places n (slice_set ss k t)

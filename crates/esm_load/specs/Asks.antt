@@ -1,4 +1,4 @@
--- The URLs that are asked and not settled, with the places of their slots.
+-- The URLs that are asked and not fetched, with the places of their slots.
 use Rattle.std.specs.Prelude.{◌≡◌, ℕ, suc, Bool, true, false, List, [], ◌∷◌, Some, slice_get}
 use Rattle.std.specs.List.{remove}
 use Rattle.esm_load.specs.TableView.{is_open, open_urls}
@@ -9,7 +9,7 @@ abbrev pub open_place_by : Bool → ℕ → List ℕ → List ℕ
 open_place_by true place later = place ∷ later
 open_place_by false place later = later
 
--- the places of the URLs that aren't settled, where the first slot has this place
+-- the places of the URLs that aren't fetched, where the first slot has this place
 abbrev pub open_places : ℕ → List Slot → List ℕ
 open_places first [] = []
 open_places first (s ∷ ss) = open_place_by (is_open s.stand) first (open_places (suc first) ss)

@@ -1,4 +1,4 @@
-// The URLs that are asked and not settled, found by the place of their slot.
+// The URLs that are asked and not fetched, found by the place of their slot.
 ghost use Rattle.std.specs.Prelude.{◌≡◌, ℕ, [], ◌∷◌, ◌++◌, length, Some, OnOk, slice_get};
 ghost use Rattle.std.specs.List.Sorted.{IsNonDecreasing};
 ghost use Rattle.esm_load.specs.Asks.{Closes};
@@ -6,7 +6,7 @@ ghost use Rattle.esm_load.specs.Asks.{Closes};
 use esm_base::{Memory, Text};
 use std::alloc::Global;
 
-/// The URLs that are asked and not settled, in order of asking, and the places of their slots.
+/// The URLs that are asked and not fetched, in order of asking, and the places of their slots.
 #[derive(Drop)]
 pub struct OpenAsks {
     /// The URLs.
@@ -37,7 +37,7 @@ impl OpenAsks {
         Ok(())
     }
 
-    /// The URL whose slot has this place is settled. It is found by a binary search, and others move up.
+    /// The URL whose slot has this place is fetched. It is found by a binary search, and others move up.
     pub fn close(&mut self, place: usize)
         requires rise { IsNonDecreasing self.old.places.items }
         requires listed { (i : ℕ) × (slice_get self.old.places.items i ≡ Some place) }

@@ -4,12 +4,12 @@ ghost use Rattle.std.specs.Arc.{arc_value};
 ghost use Rattle.esm_ast.specs.Outcome.{outcome_view};
 ghost use Rattle.esm_base.specs.declared.limits.Limit.{Limit as StopBy};
 ghost use Rattle.esm_base.specs.Urls.{has, is_usable, IsUsable};
-ghost use Rattle.esm_realm.specs.Sound.{Sound, RecordParts, records_of};
+ghost use Rattle.esm_realm.specs.Sound.{IsSound, RecordParts, records_of};
 ghost use Rattle.esm_load.specs.Loading.{Loading, opening_loading};
-ghost use Rattle.esm_load.specs.Arrival.{settle, open_asks};
-ghost use Rattle.esm_load.specs.LoadsView.{AreOne, loading_of, no_loads};
+ghost use Rattle.esm_load.specs.Arrival.{after_fetch, open_asks};
+ghost use Rattle.esm_load.specs.LoadsView.{RecordsMatch, loading_of, no_loads};
 ghost use Rattle.esm_load.specs.TableView.{tree_items};
-ghost use Rattle.esm_load.specs.Steps.{AnswersNext, HasNoNext, IsEnd, IsModuleAt, askers_left, is_end};
+ghost use Rattle.esm_load.specs.Steps.{AnswersNext, HasNoNext, IsEnd, IsModuleAt, pending_left, is_end};
 
 use crate::LoadEnd;
 use crate::answering::answer_next;
@@ -40,16 +40,15 @@ impl Model for Loads {
     ghost Value = { LoadsView };
 
     ghost use Rattle.esm_load.specs.TableView.{view_of};
-
     ghost use Rattle.esm_import_map.specs.ImportMap.{maps_code};
 
     ghost coded = { Prim.hlevel (codes, maps_code, coded_item) };
 
     ghost view = { λ l. view_of l.table };
 
-    ghost use Rattle.esm_load.specs.Well.{IsWell};
+    ghost use Rattle.esm_load.specs.Consistent.{IsConsistent};
 
-    ghost invariant = { λ l. IsWell l.table };
+    ghost invariant = { λ l. IsConsistent l.table };
 }
 
 impl Loads {
@@ -70,7 +69,7 @@ impl Loads {
         requires empty { records_of realm.old ≡ [] }
         requires usable { is_usable url.now ≡ true }
         ensures ok { OnOk result (loading_of self.new (records_of realm.new) ≡ opening_loading self.old.maps url.now) }
-        ensures one { OnOk result (AreOne self.new (records_of realm.new)) }
+        ensures one { OnOk result (RecordsMatch self.new (records_of realm.new)) }
         ensures limit { (limit : StopBy) → result ≡ Err (LoadEnd.Limit limit) → ⊥ }
         ensures realm { records_of realm.new ≡ records_of realm.old }
     {
@@ -93,15 +92,15 @@ impl Loads {
         url: &Text,
         outcome: &Outcome,
     ) -> Result<(), LoadEnd>
-        requires sound { Sound (records_of realm.old) }
-        requires one { AreOne self.old (records_of realm.old) }
+        requires sound { IsSound (records_of realm.old) }
+        requires one { RecordsMatch self.old (records_of realm.old) }
         requires open { has (open_asks (loading_of self.old (records_of realm.old))) url.now ≡ true }
         requires answered { HasNoNext (loading_of self.old (records_of realm.old)) }
-        ensures ok { OnOk result (loading_of self.new (records_of realm.new) ≡ settle (loading_of self.old (records_of realm.old)) url.now (outcome_view outcome.now)) }
-        ensures goes_on { OnOk result ((settle (loading_of self.old (records_of realm.old)) url.now (outcome_view outcome.now)).stopped ≡ None) }
-        ensures one { OnOk result (AreOne self.new (records_of realm.new)) }
-        ensures limit { (limit : StopBy) → result ≡ Err (LoadEnd.Limit limit) → (settle (loading_of self.old (records_of realm.old)) url.now (outcome_view outcome.now)).stopped ≡ Some limit }
-        ensures sound { Sound (records_of realm.new) }
+        ensures ok { OnOk result (loading_of self.new (records_of realm.new) ≡ after_fetch (loading_of self.old (records_of realm.old)) url.now (outcome_view outcome.now)) }
+        ensures goes_on { OnOk result ((after_fetch (loading_of self.old (records_of realm.old)) url.now (outcome_view outcome.now)).stopped ≡ None) }
+        ensures one { OnOk result (RecordsMatch self.new (records_of realm.new)) }
+        ensures limit { (limit : StopBy) → result ≡ Err (LoadEnd.Limit limit) → (after_fetch (loading_of self.old (records_of realm.old)) url.now (outcome_view outcome.now)).stopped ≡ Some limit }
+        ensures sound { IsSound (records_of realm.new) }
     {
         match arrive(&mut self.table, realm, self.alloc, url, outcome) {
             Ok(()) => Ok(()),
@@ -112,18 +111,18 @@ impl Loads {
         }
     }
 
-    /// Answers the first asker of a settled URL, in order of asking; false exactly where there is none.
+    /// Answers the first pending_request of a fetched URL, in order of asking; false exactly where there is none.
     /// ECMA-262, FinishLoadingImportedModule. Limit L1 comes exactly where more than 4,096 URLs are asked for.
     pub fn step(&mut self, realm: &mut Realm) -> Result<bool, LoadEnd>
-        requires sound { Sound (records_of realm.old) }
-        requires one { AreOne self.old (records_of realm.old) }
+        requires sound { IsSound (records_of realm.old) }
+        requires one { RecordsMatch self.old (records_of realm.old) }
         ensures answers { result ≡ Ok true → AnswersNext (loading_of self.old (records_of realm.old)) (loading_of self.new (records_of realm.new)) }
-        ensures falls { result ≡ Ok true → askers_left (loading_of self.new (records_of realm.new)) < askers_left (loading_of self.old (records_of realm.old)) }
+        ensures falls { result ≡ Ok true → pending_left (loading_of self.new (records_of realm.new)) < pending_left (loading_of self.old (records_of realm.old)) }
         ensures none { result ≡ Ok false → HasNoNext (loading_of self.old (records_of realm.old)) }
         ensures unchanged { result ≡ Ok false → (self.new ≡ self.old) × (records_of realm.new ≡ records_of realm.old) }
-        ensures one { OnOk result (AreOne self.new (records_of realm.new)) }
+        ensures one { OnOk result (RecordsMatch self.new (records_of realm.new)) }
         ensures limit { (limit : StopBy) → result ≡ Err (LoadEnd.Limit limit) → (after : Loading) × AnswersNext (loading_of self.old (records_of realm.old)) after × (after.stopped ≡ Some limit) }
-        ensures sound { Sound (records_of realm.new) }
+        ensures sound { IsSound (records_of realm.new) }
     {
         match answer_next(&mut self.table, realm, self.alloc) {
             Ok(answered) => Ok(answered),
@@ -134,18 +133,18 @@ impl Loads {
         }
     }
 
-    /// The URLs that are asked and not settled, in order of asking. Each is canonical and at most 8,192 bytes long.
+    /// The URLs that are asked and not fetched, in order of asking. Each is canonical and at most 8,192 bytes long.
     /// It takes no memory.
     pub fn asks(&self) -> &[Text]
         ensures usable { All IsUsable result.now }
-        ensures asks { (records : List RecordParts) → AreOne self.now records → result.now ≡ open_asks (loading_of self.now records) }
+        ensures asks { (records : List RecordParts) → RecordsMatch self.now records → result.now ≡ open_asks (loading_of self.now records) }
     {
         self.table.asks.urls.as_slice()
     }
 
     /// How the entry's load has ended; none exactly where it hasn't. It takes no memory.
     pub fn ended(&self) -> Option<&Loaded>
-        ensures { (records : List RecordParts) → AreOne self.now records → IsEnd self.now.loads records (option_copied result) }
+        ensures { (records : List RecordParts) → RecordsMatch self.now records → IsEnd self.now.loads records (option_copied result) }
     {
         match &self.table.stage {
             Stage::Ended(end) => Some(end),
@@ -158,7 +157,7 @@ impl Loads {
         ensures before { self.old.jobs ≡ cond result (0 ∷ []) [] }
         ensures after { self.new ≡ record self.old { jobs = [] } }
         ensures ended { result ≡ true → is_end (slice_get self.old.loads 0) ≡ true }
-        ensures one { (records : List RecordParts) → AreOne self.old records → AreOne self.new records }
+        ensures one { (records : List RecordParts) → RecordsMatch self.old records → RecordsMatch self.new records }
     {
         let job = self.table.job;
         self.table.job = false;
@@ -174,7 +173,7 @@ impl Loads {
 
     /// The id of the module that stands under this URL; none exactly where no module stands there. It takes no memory.
     pub fn module_at(&self, url: &Text) -> Option<ModuleId>
-        ensures { (records : List RecordParts) → AreOne self.now records → IsModuleAt self.now records url.now result }
+        ensures { (records : List RecordParts) → RecordsMatch self.now records → IsModuleAt self.now records url.now result }
     {
         self.table.module_at(url)
     }

@@ -3,7 +3,7 @@ ghost use Rattle.std.specs.Prelude.{◌≡◌, ◌+◌, [], true, IfOk, IfSome, 
 ghost use Rattle.esm_ast.specs.Outcome.{outcome_view};
 ghost use Rattle.esm_base.specs.Urls.{Url, has, is_usable};
 ghost use Rattle.esm_import_map.specs.ImportMap.{Maps};
-ghost use Rattle.esm_turn.specs.Stands.{StandsOn, asks_of, Stands};
+ghost use Rattle.esm_turn.specs.Represents.{RepresentsOn, asks_of, Represents};
 ghost use Rattle.esm_run.specs.Taken.{arrivals_of};
 ghost use Rattle.esm_run.specs.Inner.Driving.{IsAmong, IsOpenAsk, Drives, DrivesOn, IsDriven};
 
@@ -20,7 +20,7 @@ use std::sync::Arc;
 // A machine under this import map that has asked for the entry.
 fn new_machine(alloc: Global, map: ImportMap, entry: &Text) -> Result<Machine, Memory>
     requires { is_usable entry.now ≡ true }
-    ensures { IfOk result (λ m. Stands map entry.now m []) }
+    ensures { IfOk result (λ m. Represents map entry.now m []) }
 {
     let map = Arc::new(alloc, map)?;
     Machine::new(alloc, map, entry.clone()?)
@@ -42,7 +42,7 @@ fn first_ask(alloc: Global, machine: &Machine) -> Result<Option<Text>, Memory>
 fn hand_over(machine: &mut Machine, url: &Text, outcome: &Outcome) -> Result<(), Memory>
     requires { has (asks_of machine.old) url.now ≡ true }
     ensures { OnOk result
-        (StandsOn machine.old url.now (outcome_view outcome.now) machine.new) }
+        (RepresentsOn machine.old url.now (outcome_view outcome.now) machine.new) }
 {
     match machine.deliver(url, outcome) {
         Ok(()) => Ok(()),

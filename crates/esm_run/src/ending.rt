@@ -3,7 +3,7 @@ ghost use Rattle.std.specs.Prelude.{◌≡◌, ◌≢◌, ◌<◌, ◌-◌, ◌^
 ghost use Rattle.esm_base.specs.Urls.{Url};
 ghost use Rattle.esm_import_map.specs.ImportMap.{Maps};
 ghost use Rattle.esm_turn.specs.Run.{Shown, StandardRun};
-ghost use Rattle.esm_turn.specs.Stands.{Stands, ending_of};
+ghost use Rattle.esm_turn.specs.Represents.{Represents, ending_of};
 ghost use Rattle.esm_turn.specs.Run as runs;
 ghost use Rattle.esm_base.specs.declared.status.Status.TheVariants as statuses;
 ghost use Rattle.esm_run.specs.Written.{EndsWith, change_of, last_text};
@@ -40,7 +40,7 @@ fn with_last_line(text: Vec<u8>, line: &Text) -> Result<Vec<u8>, Memory>
 pub(crate) fn ending_of_run(alloc: Global, machine: &Machine) -> Result<Ending, Memory>
     requires { is_some (ending_of machine.now) ≡ true }
     ensures { (maps : Maps) (entry : Url) (deliveries : List runs.Delivery) (what : Shown)
-        → Stands maps entry machine.now deliveries → StandardRun maps entry deliveries what
+        → Represents maps entry machine.now deliveries → StandardRun maps entry deliveries what
         → IfOk result (IsEndingOf what) }
 {
     let Some(status) = machine.end() else {

@@ -1,6 +1,6 @@
 // The machine, driven in every order in which fetches may end.
 ghost use Rattle.std.specs.Prelude.{◌≡◌, IfOk, IfSome};
-ghost use Rattle.esm_turn.specs.Stands.{MayTake};
+ghost use Rattle.esm_turn.specs.Represents.{MayTake};
 
 use crate::graphs::run_over;
 use crate::helpers::{ENTRY, site};

@@ -60,7 +60,12 @@ fn a_run_writes_what_its_file_prints(rt: HostRuntime) -> Result<(), Memory> {
             EARLY_ERROR,
             Status::EntryFailed,
         ),
-        (COMMAND, Some("const a = \"x\";"), NOT_BUILT, Status::EntryFailed),
+        (
+            COMMAND,
+            Some("const a = \"x\";"),
+            NOT_BUILT,
+            Status::EntryFailed,
+        ),
         (
             COMMAND,
             Some("import \"react\"; import {} from \"./a.js\";"),

@@ -10,7 +10,7 @@ use Rattle.esm_realm.specs.Walk.{Visits, leaves}
 use Rattle.esm_realm.specs.Walk.Mark.{Enter, Pass, Leave}
 use Rattle.esm_realm.proofs.Urls.{same_text, or_true, or_left, or_cases, has_own}
 use Rattle.esm_realm.proofs.WalkBy.{walk_found}
-use Rattle.esm_load.specs.Table.{targets_of}
+use Rattle.esm_load.specs.UrlTable.{targets_of}
 use Rattle.esm_turn.specs.Bodies.{run_bodies, opening_bodies}
 use Rattle.esm_turn.specs.Direct.{Closure, IsCleanFile, IsClean, DirectRun, MeetsNoLimit, file_targets, file_body}
 use Rattle.esm_turn.specs.Direct.Closure.{itself, requested}

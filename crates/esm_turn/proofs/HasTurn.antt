@@ -7,10 +7,10 @@ use Rattle.esm_base.specs.declared.limits.Limit.{Limit}
 use Rattle.esm_base.specs.Urls.{Text, Url, has}
 use Rattle.esm_realm.specs.Walk.{IsWalk, leaves}
 use Rattle.esm_ast.specs.Outcome.{OutcomeView}
-use Rattle.esm_load.specs.Loading.{Loading, LoadState, Whole, Thrown, Asker, targets, body}
+use Rattle.esm_load.specs.Loading.{Loading, LoadState, LoadComplete, Thrown, PendingRequest, targets, body}
 use Rattle.esm_load.specs.Load.{Answers}
-use Rattle.esm_load.specs.Arrival.{Next, next, settle}
-use Rattle.esm_load.specs.Steps.{AnswersNext, askers_left}
+use Rattle.esm_load.specs.Arrival.{Next, next, after_fetch}
+use Rattle.esm_load.specs.Steps.{AnswersNext, pending_left}
 use Rattle.esm_load.proofs.Left.{answers_fewer}
 use Rattle.esm_load.proofs.HasLoad.{has_answer, has_walk}
 use Rattle.esm_turn.specs.Bodies.{Bodies, run_bodies}
@@ -40,7 +40,7 @@ one_job w e follows = by (stopped w) refl
 has_follow_thrown : (v : World) (load : Option LoadState) (thrown : Text) → load ≡ Some (Thrown thrown) → (mid : World) × Follows v load mid × (mid.loading ≡ v.loading)
 has_follow_thrown v load thrown e = (v, subst (λ o. Follows v o v) (sym e) failed, refl)
 
-has_follow_whole : (v : World) (load : Option LoadState) (root : Url) → load ≡ Some (Whole root) → (mid : World) × Follows v load mid × (mid.loading ≡ v.loading)
+has_follow_whole : (v : World) (load : Option LoadState) (root : Url) → load ≡ Some (LoadComplete root) → (mid : World) × Follows v load mid × (mid.loading ≡ v.loading)
 has_follow_whole v load root e =
     let w = has_walk v.loading root in
     let mid : World = record v { bodies = run_bodies (body v.loading) (leaves w.0) v.bodies } in
@@ -61,36 +61,36 @@ HasTasks : World → Type 0
 HasTasks w = (a : World) × Tasks w a
 
 -- one task, and what is left
-tasks_at : (w : World) → Phase w → ((mid : World) → Phase mid → askers_left mid.loading < askers_left w.loading → HasTasks mid) → HasTasks w
+tasks_at : (w : World) → Phase w → ((mid : World) → Phase mid → pending_left mid.loading < pending_left w.loading → HasTasks mid) → HasTasks w
 unfolding HasTasks HasJobs
-tasks_at w p rest = by (stopped w) refl (next w.loading.entries w.loading.askers) refl p
+tasks_at w p rest = by (stopped w) refl (next w.loading.entries w.loading.pending) refl p
   where
-    by : (s : Option Limit) → stopped w ≡ s → (o : Option Next) → next w.loading.entries w.loading.askers ≡ o → Phase w → (a : World) × Tasks w a
+    by : (s : Option Limit) → stopped w ≡ s → (o : Option Next) → next w.loading.entries w.loading.pending ≡ o → Phase w → (a : World) × Tasks w a
     by (Some limit) s o g p = (w, Tasks.stops limit s)
     by None live None g p = (w, Tasks.none g)
     by None live (Some n) g (quiet k e) =
-        let v = has_answer (record w.loading { askers = n.others }) n.asker n.url n.entry in
-        let j = jobs_behind w (record w.loading { askers = n.others }) v.0 k.jobs (answered_next w n v.0 k (next_is w.loading.entries w.loading.askers n g) v.1) in
-        let same : askers_left j.0.loading ≡ askers_left v.0 = jobs_only (λ l. askers_left l ≡ askers_left v.0) (λ l jobs h. h) j.1 refl in
+        let v = has_answer (record w.loading { pending = n.others }) n.pending_request n.url n.entry in
+        let j = jobs_behind w (record w.loading { pending = n.others }) v.0 k.jobs (answered_next w n v.0 k (next_is w.loading.entries w.loading.pending n g) v.1) in
+        let same : pending_left j.0.loading ≡ pending_left v.0 = jobs_only (λ l. pending_left l ≡ pending_left v.0) (λ l jobs h. h) j.1 refl in
         let fewer = answers_fewer w.loading v.0 (record { who = n; is_next = g; answered = v.1 }) in
         let q = rest j.0 (task_phase w n v.0 k e g v.1 j.1) (omega (arith, same, fewer)) in
         (q.0, Tasks.task live g v.1 j.1 q.1)
     by None live (Some n) g (ran k z e) = absurd (nobody_next w n z g)
     by None live (Some n) g (halted limit s t) = cc
 
-tasks_by : (k : ℕ) (w : World) → Phase w → askers_left w.loading ≤ k → HasTasks w
+tasks_by : (k : ℕ) (w : World) → Phase w → pending_left w.loading ≤ k → HasTasks w
 tasks_by zero w p le = tasks_at w p (λ mid q lt. absurd (omega (arith, lt, le)))
 tasks_by (suc k) w p le = tasks_at w p (λ mid q lt. tasks_by k mid q (omega (arith, lt, le)))
 
 pub has_turn : (maps : Maps) (entry : Url) (ds : List Delivery) (w : World) (u : Url) (c : OutcomeView) → Runs (opening maps entry) ds w → has (asks w) u ≡ true → (after : World) × Turn w u c after
 unfolding HasTasks
-has_turn maps entry ds w u c r h = by (settle w.loading u c).stopped refl
+has_turn maps entry ds w u c r h = by (after_fetch w.loading u c).stopped refl
   where
     q : IsQuiet w
     q = asks_quiet w u (run_phase maps entry ds w r) h
 
-    by : (s : Option Limit) → (settle w.loading u c).stopped ≡ s → (after : World) × Turn w u c after
-    by (Some limit) s = (record w { loading = settle w.loading u c }, Turn.limit limit s)
+    by : (s : Option Limit) → (after_fetch w.loading u c).stopped ≡ s → (after : World) × Turn w u c after
+    by (Some limit) s = (record w { loading = after_fetch w.loading u c }, Turn.limit limit s)
     by None s =
-        let t = tasks_by (askers_left (settle w.loading u c)) (record w { loading = settle w.loading u c }) (quiet (settled_kept w u c q.kept) q.events) (omega arith) in
+        let t = tasks_by (pending_left (after_fetch w.loading u c)) (record w { loading = after_fetch w.loading u c }) (quiet (settled_kept w u c q.kept) q.events) (omega arith) in
         (t.0, Turn.turn s t.1)

@@ -9,10 +9,10 @@ use Rattle.esm_base.specs.Urls.{Text, Url, url_cmp, has, same_url}
 use Rattle.esm_realm.specs.Walk.{Mark, Visits, leaves}
 use Rattle.esm_realm.proofs.Urls.{cases, same_text, own_text, or_cases, not_both}
 use Rattle.esm_ast.specs.Outcome.{OutcomeView}
-use Rattle.esm_load.specs.Table.{Entry, entry_of}
-use Rattle.esm_load.specs.Loading.{Loading, Asked, Whole, Thrown, Asker, Root, load_of, targets, body, opening_loading}
+use Rattle.esm_load.specs.UrlTable.{TableEntry, table_entry_of}
+use Rattle.esm_load.specs.Loading.{Loading, Asked, LoadComplete, Thrown, PendingRequest, Root, load_of, targets, body, opening_loading}
 use Rattle.esm_load.specs.Load.{Answers}
-use Rattle.esm_load.specs.Arrival.{bytes_of, Next, next, settle, store, store_by, count, count_by, open_asks}
+use Rattle.esm_load.specs.Arrival.{bytes_of, Next, next, after_fetch, store, store_by, count, count_by, open_asks}
 use Rattle.esm_load.proofs.Kept.{answers_keeps}
 use Rattle.esm_load.proofs.Grows.{Has}
 use Rattle.esm_load.proofs.Grows.Has.{here}
@@ -40,7 +40,7 @@ pub record IsKept (w : World) : Type 0 where
 
 pub data Phase (w : World) : Type 0 where
   quiet : IsKept w → w.bodies.events ≡ [] → Phase w
-  ran : IsKept w → w.loading.askers ≡ [] → IsEvaluated w → Phase w
+  ran : IsKept w → w.loading.pending ≡ [] → IsEvaluated w → Phase w
   halted : (limit : Limit) → stopped w ≡ Some limit → (w.bodies.events ≡ []) ⊎ IsEvaluated w → Phase w
 
 -- ---- jobs
@@ -61,51 +61,51 @@ module _ (l : Loading) (single : IsSingle l) (wanted : IsWanted l) where
       let end : a ≡ with_jobs w rest = jobs_none (ap (λ (w : World). w.loading.jobs) same ∙ none) k ∙ same in
       subst Phase (sym end) (quiet (without_jobs w rest none (subst IsSingle (sym f) single) (subst IsWanted (sym f) wanted)) q)
 
-  after_whole : {w a : World} → w.loading ≡ l → w.bodies.events ≡ [] → l.jobs ≡ 0 ∷ [] → (root : Url) → l.loads ≡ Whole root ∷ [] → l.askers ≡ [] → Jobs w a → Phase a
+  after_whole : {w a : World} → w.loading ≡ l → w.bodies.events ≡ [] → l.jobs ≡ 0 ∷ [] → (root : Url) → l.loads ≡ LoadComplete root ∷ [] → l.pending ≡ [] → Jobs w a → Phase a
   after_whole {w} f q e root t z (Jobs.none n) = let j : w.loading.jobs ≡ 0 ∷ [] = ap (λ (l : Loading). l.jobs) f ∙ e in cc
   after_whole f q e root t z (Jobs.stops limit s) = halted limit s (inl q)
   after_whole {w} {a} f q e root t z (Jobs.job {mid = mid} {s = s} {rest = rest} live j g k) =
       let jobs : s ∷ rest ≡ 0 ∷ [] = sym j ∙ ap (λ (l : Loading). l.jobs) f ∙ e in
       let is : s ≡ 0 = cc in
       let none : rest ≡ [] = cc in
-      let load : slice_get w.loading.loads s ≡ Some (Whole root) = (λ i. slice_get (f i).loads (is i)) ∙ ap (λ ls. slice_get ls 0) t in
+      let load : slice_get w.loading.loads s ≡ Some (LoadComplete root) = (λ i. slice_get (f i).loads (is i)) ∙ ap (λ ls. slice_get ls 0) t in
       let ev = evaluates_is (follows_whole root g load) in
       let end : a ≡ mid = jobs_none (ap (λ (w : World). w.loading.jobs) ev.3 ∙ none) k in
       let kept : IsKept (with_jobs w rest) = without_jobs w rest none (subst IsSingle (sym f) single) (subst IsWanted (sym f) wanted) in
       subst Phase (sym (end ∙ ev.3)) (ran
       (record { single = kept.single; wanted = kept.wanted; jobs = kept.jobs })
-      (ap (λ (l : Loading). l.askers) f ∙ z)
+      (ap (λ (l : Loading). l.pending) f ∙ z)
       (record { root = root; marks = ev.0; after = ev.1; walk = ev.2; start = w.bodies; quiet = q; bodies = refl }))
 
 -- ---- tasks
 
 -- who waits is asked for the first load, and but for the one that goes on they are as before
-pub small_single : (l : Loading) (n : Next) → IsNext l.entries l.askers n → IsSingle l → IsSingle (record l { askers = n.others })
+pub small_single : (l : Loading) (n : Next) → IsNext l.entries l.pending n → IsSingle l → IsSingle (record l { pending = n.others })
 small_single l n is s = record { state = s.state; loads = s.loads; own = λ p h. s.own p (is.others p h) }
 
-pub small_wanted : (l : Loading) (n : Next) → IsNext l.entries l.askers n → IsWanted l → IsWanted (record l { askers = n.others })
+pub small_wanted : (l : Loading) (n : Next) → IsNext l.entries l.pending n → IsWanted l → IsWanted (record l { pending = n.others })
 small_wanted l n is k = record { wanted = λ u h none. let i = k.wanted u h none in (i.0, still u i.0 none (is.all _ i.1)) }
   where
-    still : (u : Url) (a : Asker) → get l.entries u ≡ None → Has (u, a) n.others ⊎ (◌≡◌ {A = Url × Asker} (u, a) (n.url, n.asker)) → Has (u, a) n.others
+    still : (u : Url) (a : PendingRequest) → get l.entries u ≡ None → Has (u, a) n.others ⊎ (◌≡◌ {A = Url × PendingRequest} (u, a) (n.url, n.pending_request)) → Has (u, a) n.others
     still u a none (inl h) = h
-    still u a none (inr f) = let at : u ≡ n.url = ap (λ (q : Url × Asker). q.0) f in let s : get l.entries u ≡ Some n.entry = ap (get l.entries) at ∙ is.stands in cc
+    still u a none (inr f) = let at : u ≡ n.url = ap (λ (q : Url × PendingRequest). q.0) f in let s : get l.entries u ≡ Some n.entry = ap (get l.entries) at ∙ is.stands in cc
 
--- an asker is answered
-pub answered_next : (w : World) (n : Next) (l : Loading) → IsKept w → IsNext w.loading.entries w.loading.askers n → Answers (record w.loading { askers = n.others }) n.asker n.url n.entry l → Answered (record w.loading { askers = n.others }) l
-answered_next w n l k is v = answers_single v (k.single.own (n.url, n.asker) is.among) (small_single w.loading n is k.single)
+-- an pending_request is answered
+pub answered_next : (w : World) (n : Next) (l : Loading) → IsKept w → IsNext w.loading.entries w.loading.pending n → Answers (record w.loading { pending = n.others }) n.pending_request n.url n.entry l → Answered (record w.loading { pending = n.others }) l
+answered_next w n l k is v = answers_single v (k.single.own (n.url, n.pending_request) is.among) (small_single w.loading n is k.single)
 
-pub wanted_next : (w : World) (n : Next) (l : Loading) → IsKept w → IsNext w.loading.entries w.loading.askers n → Answers (record w.loading { askers = n.others }) n.asker n.url n.entry l → IsWanted l
+pub wanted_next : (w : World) (n : Next) (l : Loading) → IsKept w → IsNext w.loading.entries w.loading.pending n → Answers (record w.loading { pending = n.others }) n.pending_request n.url n.entry l → IsWanted l
 wanted_next w n l k is v = answers_keeps IsWanted wanted_steps v (small_wanted w.loading n is k.wanted)
 
-pub task_phase : (w : World) (n : Next) (l : Loading) {a : World} → IsKept w → w.bodies.events ≡ [] → next w.loading.entries w.loading.askers ≡ Some n → Answers (record w.loading { askers = n.others }) n.asker n.url n.entry l → Jobs (record w { loading = l }) a → Phase a
-task_phase w n l {a} k e g v j = let is = next_is w.loading.entries w.loading.askers n g in by (wanted_next w n l k is v) (answered_next w n l k is v)
+pub task_phase : (w : World) (n : Next) (l : Loading) {a : World} → IsKept w → w.bodies.events ≡ [] → next w.loading.entries w.loading.pending ≡ Some n → Answers (record w.loading { pending = n.others }) n.pending_request n.url n.entry l → Jobs (record w { loading = l }) a → Phase a
+task_phase w n l {a} k e g v j = let is = next_is w.loading.entries w.loading.pending n g in by (wanted_next w n l k is v) (answered_next w n l k is v)
   where
-    by : IsWanted l → Answered (record w.loading { askers = n.others }) l → Phase a
+    by : IsWanted l → Answered (record w.loading { pending = n.others }) l → Phase a
     by wanted (goes s f) = subst Phase (sym (jobs_none (f ∙ k.jobs) j)) (quiet (record { single = s; wanted = wanted; jobs = f ∙ k.jobs }) e)
     by wanted (threw s t) = after_thrown l s wanted refl e (t.jobs ∙ ap (λ js. js ++ 0 ∷ []) k.jobs) t.thrown t.loads j
     by wanted (whole s f root t z) = after_whole l s wanted refl e (f ∙ ap (λ js. js ++ 0 ∷ []) k.jobs) root t z j
 
-pub nobody_next : (w : World) (n : Next) → w.loading.askers ≡ [] → next w.loading.entries w.loading.askers ≡ Some n → ⊥
+pub nobody_next : (w : World) (n : Next) → w.loading.pending ≡ [] → next w.loading.entries w.loading.pending ≡ Some n → ⊥
 nobody_next w n z g = let none : next w.loading.entries [] ≡ Some n = ap (λ ps. next w.loading.entries ps) (sym z) ∙ g in cc
 
 tasks_phase : {w a : World} → Tasks w a → Phase w → Phase a
@@ -121,11 +121,11 @@ stored_kept : (stop : Option Limit) (l : Loading) (u : Url) (c : OutcomeView) �
 stored_kept (Some limit) l u c k = k
 stored_kept None l u c k = record { wanted = λ v h n. by v h n (cases (same_url v u)) }
   where
-    by : (v : Url) → has l.asked v ≡ true → get (insert l.entries u (entry_of l.maps u c)) v ≡ None → (same_url v u ≡ true) ⊎ (same_url v u ≡ false) → (a : Asker) × Has (v, a) l.askers
+    by : (v : Url) → has l.asked v ≡ true → get (insert l.entries u (table_entry_of l.maps u c)) v ≡ None → (same_url v u ≡ true) ⊎ (same_url v u ≡ false) → (a : PendingRequest) × Has (v, a) l.pending
     by v h n (inl s) =
-        let at : get (insert l.entries u (entry_of l.maps u c)) v ≡ Some (entry_of l.maps u c) = ap (get (insert l.entries u (entry_of l.maps u c))) (same_text v u s) ∙ get_new l.entries u (entry_of l.maps u c) in
+        let at : get (insert l.entries u (table_entry_of l.maps u c)) v ≡ Some (table_entry_of l.maps u c) = ap (get (insert l.entries u (table_entry_of l.maps u c))) (same_text v u s) ∙ get_new l.entries u (table_entry_of l.maps u c) in
         cc
-    by v h n (inr f) = k.wanted v h (sym (get_old l.entries u v (entry_of l.maps u c) (λ same. not_both (same_url v u) (subst (λ x. same_url v x ≡ true) same (own_text v)) f)) ∙ n)
+    by v h n (inr f) = k.wanted v h (sym (get_old l.entries u v (table_entry_of l.maps u c) (λ same. not_both (same_url v u) (subst (λ x. same_url v x ≡ true) same (own_text v)) f)) ∙ n)
 
 counted_kept : (b : Bool) (l : Loading) (m : ℕ) → IsWanted l → IsWanted (count_by b l m)
 counted_kept true l m k = record { wanted = k.wanted }
@@ -134,25 +134,25 @@ counted_kept false l m k = record { wanted = k.wanted }
 -- what settling leaves as it was
 record IsSettling (l m : Loading) : Type 0 where
   loads : m.loads ≡ l.loads
-  askers : m.askers ≡ l.askers
+  pending : m.pending ≡ l.pending
   jobs : m.jobs ≡ l.jobs
 
-settling : (l : Loading) (u : Url) (c : OutcomeView) → IsSettling l (settle l u c)
+settling : (l : Loading) (u : Url) (c : OutcomeView) → IsSettling l (after_fetch l u c)
 settling l u c = by (nat_lt 16777216 (l.bytes + bytes_of c))
   where
     stores : (stop : Option Limit) (m : Loading) → IsSettling l m → IsSettling l (store_by stop m u c)
-    stores None m s = record { loads = s.loads; askers = s.askers; jobs = s.jobs }
+    stores None m s = record { loads = s.loads; pending = s.pending; jobs = s.jobs }
     stores (Some limit) m s = s
 
     by : (b : Bool) → IsSettling l (store (count_by b l (bytes_of c)) u c)
-    by true = record { loads = refl; askers = refl; jobs = refl }
-    by false = stores l.stopped (record l { bytes = l.bytes + bytes_of c }) (record { loads = refl; askers = refl; jobs = refl })
+    by true = record { loads = refl; pending = refl; jobs = refl }
+    by false = stores l.stopped (record l { bytes = l.bytes + bytes_of c }) (record { loads = refl; pending = refl; jobs = refl })
 
-pub settled_kept : (w : World) (u : Url) (c : OutcomeView) → IsKept w → IsKept (record w { loading = settle w.loading u c })
+pub settled_kept : (w : World) (u : Url) (c : OutcomeView) → IsKept w → IsKept (record w { loading = after_fetch w.loading u c })
 settled_kept w u c k =
     let s = settling w.loading u c in
     record {
-      single = record { state = k.single.state; loads = s.loads ∙ k.single.loads; own = λ p h. k.single.own p (subst (λ ps. Has p ps) s.askers h) };
+      single = record { state = k.single.state; loads = s.loads ∙ k.single.loads; own = λ p h. k.single.own p (subst (λ ps. Has p ps) s.pending h) };
       wanted = stored_kept (count w.loading (bytes_of c)).stopped (count w.loading (bytes_of c)) u c (counted_kept (nat_lt 16777216 (w.loading.bytes + bytes_of c)) w.loading (bytes_of c) k.wanted);
       jobs = s.jobs ∙ k.jobs;
     }
@@ -170,7 +170,7 @@ asks_quiet w u (ran k z e) h =
     let i = k.wanted.wanted u o.0 o.1 in
     absurd (none_waits i.0 (subst (λ ps. Has (u, i.0) ps) z i.1))
   where
-    none_waits : (a : Asker) → Has {A = Url × Asker} (u, a) [] → ⊥
+    none_waits : (a : PendingRequest) → Has {A = Url × PendingRequest} (u, a) [] → ⊥
     none_waits a h = elim h [ ]
 asks_quiet w u (halted limit s t) h = let live = asks_live (stopped w) (open_asks w.loading) u h in let n : stopped w ≡ None = live.0 in cc
 
@@ -185,12 +185,12 @@ runs_phase (d ∷ ds) w a r p = runs_phase ds r.1 a r.3 (turn_phase r.2 (asks_qu
 opening_kept : (maps : Maps) (entry : Url) → IsKept (opening maps entry)
 opening_kept maps entry = record {
   single = record { state = Asked; loads = refl; own = λ p h. by p (has_cons h) };
-  wanted = record { wanted = λ u h n. (Root 0, subst (λ v. Has {A = Url × Asker} (v, Root 0) ((entry, Root 0) ∷ [])) (sym (only u (or_cases (same_url u entry) false h))) here) };
+  wanted = record { wanted = λ u h n. (Root 0, subst (λ v. Has {A = Url × PendingRequest} (v, Root 0) ((entry, Root 0) ∷ [])) (sym (only u (or_cases (same_url u entry) false h))) here) };
   jobs = refl;
 }
   where
-    by : (p : Url × Asker) → (p ≡ (entry, Root 0)) ⊎ Has p [] → load_of p.1 ≡ 0
-    by p (inl e) = ap (λ (p : Url × Asker). load_of p.1) e
+    by : (p : Url × PendingRequest) → (p ≡ (entry, Root 0)) ⊎ Has p [] → load_of p.1 ≡ 0
+    by p (inl e) = ap (λ (p : Url × PendingRequest). load_of p.1) e
     by p (inr h) = elim h [ ]
 
     only : (u : Url) → (same_url u entry ≡ true) ⊎ (false ≡ true) → u ≡ entry

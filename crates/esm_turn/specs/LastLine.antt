@@ -5,7 +5,7 @@ use Rattle.esm_base.specs.declared.status.Status.{Status}
 use Rattle.esm_base.specs.declared.status.Status.TheVariants as statuses
 use Rattle.esm_base.specs.Limits.{limit_name}
 use Rattle.esm_base.specs.Urls.{Text, Url}
-use Rattle.esm_load.specs.Loading.{Loading, LoadState, Whole, Thrown}
+use Rattle.esm_load.specs.Loading.{Loading, LoadState, LoadComplete, Thrown}
 use Rattle.esm_load.specs.Arrival.{open_asks}
 
 -- how a run has ended
@@ -23,7 +23,7 @@ abbrev pub ending_by : Option Limit → List Url → Option LoadState → Option
 ending_by (Some limit) asks load = Some (Stopped limit)
 ending_by None (u ∷ us) load = None
 ending_by None [] (Some (Thrown thrown)) = Some (Uncaught thrown)
-ending_by None [] (Some (Whole root)) = Some Done
+ending_by None [] (Some (LoadComplete root)) = Some Done
 ending_by None [] _ = Some Pending
 
 -- of a run that no limit has stopped

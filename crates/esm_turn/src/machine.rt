@@ -6,9 +6,9 @@ ghost use Rattle.esm_base.specs.Urls.{is_usable, IsUsable};
 ghost use Rattle.esm_realm.specs.Sound.{RecordParts};
 ghost use Rattle.std.specs.Arc.{arc_value};
 ghost use Rattle.esm_load.specs.Loading.{Loading};
-ghost use Rattle.esm_load.specs.LoadsView.{AreOne, loading_of};
+ghost use Rattle.esm_load.specs.LoadsView.{RecordsMatch, loading_of};
 ghost use Rattle.esm_turn.specs.LastLine.{ending_by, last_line_by, live_ending, status_of};
-ghost use Rattle.esm_turn.specs.Stands.{IsEnded, MayTake, ShownBy, Stands, StoppedAs, Took, asks_of, ending_by_stop, ending_of};
+ghost use Rattle.esm_turn.specs.Represents.{IsEnded, MayTake, ShownBy, Represents, StoppedAs, Took, asks_of, ending_by_stop, ending_of};
 ghost use Rattle.esm_turn.specs.declared.turn_end.TurnEnd.{TurnEnd as EndOf};
 
 use crate::TurnEnd;
@@ -24,7 +24,7 @@ use std::marker::Model;
 use std::sync::Arc;
 
 /// An entry, and the deliveries that were taken. Contracts see what it holds of loading, its log, its steps and how
-/// it has stopped; `Stands` says for which lists of deliveries it stands.
+/// it has stopped; `Represents` says for which lists of deliveries it stands.
 ///
 /// HTML, "fetch the descendants of and link a module script" and "run a module script", over fetches that end in any
 /// order, each in one turn.
@@ -38,7 +38,7 @@ impl Model for Machine {
     ghost use Rattle.std.specs.Coded.{codes};
     ghost use Rattle.esm_tree.specs.Syntax.{coded_item};
     ghost use Rattle.std.specs.FinMap as maps;
-    ghost use Rattle.esm_turn.specs.Stands.{State};
+    ghost use Rattle.esm_turn.specs.Represents.{State};
 
     ghost Value = { State };
 
@@ -46,16 +46,16 @@ impl Model for Machine {
 
     ghost coded = { Prim.hlevel (codes, maps.code, maps_code) };
 
-    ghost use Rattle.esm_turn.specs.Parts.{AreKept, loading_in};
+    ghost use Rattle.esm_turn.specs.Parts.{PartsAgreeUnless, loading_in};
 
     ghost view = { λ m. record { loading = loading_in m.parts; log = m.parts.engine.log.items; steps = m.parts.engine.steps; stopped = m.stopped } };
 
-    ghost invariant = { λ m. AreKept m.stopped m.parts };
+    ghost invariant = { λ m. PartsAgreeUnless m.stopped m.parts };
 }
 
 // The status of a run that no limit has stopped; none while an ask is open.
 fn live_status(loads: &Loads) -> Option<Status>
-    ensures { (records : List RecordParts) → AreOne loads.now records
+    ensures { (records : List RecordParts) → RecordsMatch loads.now records
         → result ≡ option_map status_of (live_ending (loading_of loads.now records)) }
 {
     if !loads.asks().is_empty() {
@@ -108,7 +108,7 @@ fn stopped_line(alloc: Global, end: TurnEnd) -> Result<Text, Memory>
 
 // The last line of a run that no limit has stopped, and in which no ask is open.
 fn live_line(alloc: Global, loads: &Loads) -> Result<Text, Memory>
-    ensures { (records : List RecordParts) → AreOne loads.now records
+    ensures { (records : List RecordParts) → RecordsMatch loads.now records
         → let ending = ending_by None [] (slice_get loads.now.loads 0) in
         IfOk result (λ line. line ≡ last_line_by ending) }
 {
@@ -124,7 +124,7 @@ impl Machine {
     /// resolve by this import map.
     pub fn new(alloc: Global, map: Arc<ImportMap>, entry: Text) -> Result<Machine, Memory>
         requires { is_usable entry ≡ true }
-        ensures stands { IfOk result (λ m. Stands (arc_value map) entry m []) }
+        ensures stands { IfOk result (λ m. Represents (arc_value map) entry m []) }
         ensures live { IfOk result (λ m. m.stopped ≡ None) }
     {
         let mut realm = Realm::new(alloc);

@@ -4,7 +4,7 @@ use Rattle.std.specs.Prelude.{All}
 use Rattle.esm_base.specs.Urls.{IsUsable}
 use Rattle.esm_load.specs.Arrival.{open_asks}
 use Rattle.esm_load.specs.TableView.{view_of}
-use Rattle.esm_load.specs.LoadsView.{LoadsView, AreOne, loading_of}
+use Rattle.esm_load.specs.LoadsView.{LoadsView, RecordsMatch, loading_of}
 use Rattle.esm_load.proofs.Entries.{asks_are}
 use Rattle.esm_load.proofs.OpenPlaces.{open_usable}
 use Rattle.esm_load.proofs.loads.Loads.asks.Goals as goal
@@ -13,7 +13,7 @@ pub returns-clause-asks : goal.returns-clause-asks
 returns-clause-asks c records one =
     let t = c.self.inside.table in
     subst (λ (v : LoadsView). c.as_slice.result.now ≡ open_asks (loading_of v records)) c.self.view_is
-    (c.as_slice.ensures.value ∙ (c.self.invariant.asks.urls ∙ sym (asks_are (view_of t) records (subst (λ v. AreOne v records) (sym c.self.view_is) one) c.self.invariant.indexed.distinct)))
+    (c.as_slice.ensures.value ∙ (c.self.invariant.asks.urls ∙ sym (asks_are (view_of t) records (subst (λ v. RecordsMatch v records) (sym c.self.view_is) one) c.self.invariant.indexed.distinct)))
 
 pub returns-clause-usable : goal.returns-clause-usable
 returns-clause-usable c =

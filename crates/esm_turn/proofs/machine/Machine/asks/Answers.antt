@@ -1,7 +1,7 @@
 use Rattle.std.proofs.Common.{ap, ◌∙◌, sym}
 use Rattle.esm_realm.specs.Sound.{records_of}
 use Rattle.esm_load.specs.Arrival.{open_asks}
-use Rattle.esm_turn.specs.Stands.{State}
+use Rattle.esm_turn.specs.Represents.{State}
 use Rattle.esm_turn.proofs.Told.{asks_told, asks_live, asks_stopped}
 use Rattle.esm_turn.proofs.machine.Machine.asks.Goals as goal
 

@@ -7,14 +7,14 @@ use Rattle.std.proofs.lemmas.Option.{slice_get_within}
 use Rattle.esm_load.specs.declared.table.Slot.{Slot}
 use Rattle.esm_load.proofs.OpenPlaces.{places_rise, place_listed, as_many, taken}
 use Rattle.esm_load.proofs.Standings.{index_get, some_is}
-use Rattle.esm_load.proofs.arriving.settle.Goals as goal
+use Rattle.esm_load.proofs.arriving.after_fetch.Goals as goal
 
 pub close-requires-clause-rise : goal.close-requires-clause-rise
 close-requires-clause-rise c = subst IsNonDecreasing (sym c.requires.asks.places) (places_rise c.args.table.now.slots.items)
 
 pub close-requires-clause-listed : goal.close-requires-clause-listed
 close-requires-clause-listed c =
-    let found = place_listed 0 c.args.table.now.slots.items c.args.place c.requires.open.slot c.requires.open.at c.requires.open.unsettled in
+    let found = place_listed 0 c.args.table.now.slots.items c.args.place c.requires.open.slot c.requires.open.at c.requires.open.fetching in
     (found.0, ap (λ ks. slice_get ks found.0) c.requires.asks.places ∙ (found.1 ∙ ap (λ k. Some k) (zero-add c.args.place)))
 
 pub close-requires-clause-as_many : goal.close-requires-clause-as_many
@@ -29,7 +29,7 @@ returns c =
     let same : c.index_mut.result.now ≡ c.requires.open.slot = some_is (sym at ∙ c.requires.open.at) in
     let put : Slot = record { url = c.index_mut.result.now.url; stand = c.args.stand } in
     let here = ap (λ ks. slice_get ks c.close.ensures.at) (sym c.requires.asks.places) ∙ (c.close.ensures.found ∙ ap (λ k. Some k) (sym (zero-add c.args.place))) in
-    let out = taken 0 ss c.args.place c.requires.open.slot put c.close.ensures.at c.requires.open.at c.requires.open.unsettled c.requires.settled here in
+    let out = taken 0 ss c.args.place c.requires.open.slot put c.close.ensures.at c.requires.open.at c.requires.open.fetching c.requires.fetched here in
     record {
       slots = λ s e. ap (λ (s : Slot). slice_set ss c.args.place (record s { stand = c.args.stand })) (some_is (sym at ∙ e));
       asks = record {
