@@ -1,4 +1,7 @@
 //! What a dev server wants to know: which URL a specifier in one of its modules names.
+ghost use Rattle.std.specs.Prelude.{IfOk};
+ghost use Rattle.esm_base.specs.Urls.{IsUsable};
+
 use esm_base::{End, Memory, Text, is_canonical, parse_absolute};
 use esm_import_map::{ImportMap, MapFault};
 use esm_specifier::{SpecFault, resolve};
@@ -22,7 +25,9 @@ pub fn resolve_under(
     map: &[u8],
     referrer: &str,
     specifier: &str,
-) -> Result<Text, End<Unresolved>> {
+) -> Result<Text, End<Unresolved>>
+    ensures usable { IfOk result IsUsable }
+{
     let Some(base) = parse_absolute(alloc, page)? else {
         return Err(End::Fault(Unresolved::Address));
     };
