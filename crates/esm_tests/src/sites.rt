@@ -152,7 +152,7 @@ pub const FAILING: &[Row] = &[
         name: "no module text",
         files: &[
             ("main.js", "import \"./a.js\";print(\"m\");"),
-            ("a.js", "let x;"),
+            ("a.js", "let;"),
         ],
         output: "Uncaught SyntaxError: https://a.test/a.js: P2 no module text\n",
         status: Status::EntryFailed,

@@ -44,7 +44,7 @@ impl Model for Machine {
 
     ghost use Rattle.esm_import_map.specs.ImportMap.{maps_code};
 
-    ghost coded = { Prim.hlevel (codes, maps.code, maps_code) };
+    ghost coded = { Prim.hlevel (codes, maps.code, maps_code, coded_item) };
 
     ghost use Rattle.esm_turn.specs.Parts.{PartsAgreeUnless, loading_in};
 
