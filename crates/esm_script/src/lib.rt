@@ -6,6 +6,7 @@ mod entries;
 mod exports;
 mod imports;
 mod index;
+pub mod laws;
 mod listing;
 mod read;
 mod requests;
