@@ -1,5 +1,5 @@
 -- A text has a tree or a fault.
-use Rattle.std.proofs.Common.{◌≡◌, ℕ, ◌<◌, ◌≤◌, ◌⊎◌, inl, inr, Bool, true, false, List, length, drop, Option, Some, None, refl, sym, ◌∙◌, arith}
+use Rattle.std.proofs.Common.{◌≡◌, ℕ, ◌≤◌, ◌⊎◌, inl, inr, Bool, true, false, List, length, drop, Option, Some, None, refl, sym, ◌∙◌, arith}
 use Rattle.std.specs.Prelude.{IsUtf8, chars}
 use Rattle.std.specs.Str.{is_utf8}
 use Rattle.std.proofs.lemmas.Str.{IsUtf8-from_is_utf8, is_utf8-from_IsUtf8}
@@ -12,7 +12,7 @@ use Rattle.esm_grammar.specs.Lexes.{AreTokens, without_mark, hashbang_len, too_d
 use Rattle.esm_grammar.specs.Items.{ItemsAt}
 use Rattle.esm_grammar.specs.ReadingItems.{module_items}
 use Rattle.esm_grammar.specs.EarlyErrors.{has_early_error}
-use Rattle.esm_grammar.specs.ModuleText.{HasTokens, Spells, SpellsNothing, NestsTooDeep, HasEarlyError, FaultOf}
+use Rattle.esm_grammar.specs.ModuleText.{HasTokens, Spells, FaultOf}
 use Rattle.esm_grammar.proofs.SoundItems as sound
 use Rattle.esm_grammar.proofs.CompleteItems.{module_complete}
 use Rattle.esm_script.proofs.Lexed.{has_lexemes}

@@ -1,18 +1,17 @@
 -- At the front of a text stands a longest token, or none.
-use Rattle.std.proofs.Common.{◌≡◌, ℕ, zero, suc, ◌+◌, ◌<◌, ◌≤◌, ◌⊎◌, inl, inr, Bool, true, false, ◌==◌, List, [], ◌∷◌, length, get_or, take, drop, Option, Some, None, encode_utf8_all, refl, sym, ap, ◌∙◌, arith, length-drop}
+use Rattle.std.proofs.Common.{◌≡◌, ℕ, zero, suc, ◌<◌, ◌≤◌, ◌⊎◌, inl, inr, Bool, true, false, List, [], ◌∷◌, length, get_or, take, drop, Option, Some, None, encode_utf8_all, refl, ap, ◌∙◌, arith, length-drop}
 use Rattle.std.proofs.lemmas.Bool.{cases_lt}
 use Rattle.esm_tree.specs.declared.token.TokenKind.{TokenKind}
 use Rattle.esm_tree.specs.declared.token.TokenKind.TheVariants as kind
 use Rattle.esm_tree.specs.declared.lexeme.Terminal.{Terminal}
 use Rattle.esm_tree.specs.declared.lexeme.Terminal.TheVariants as t
 use Rattle.esm_grammar.specs.Characters.{starts, continues, is_quote}
-use Rattle.esm_grammar.specs.Strings.{Body}
-use Rattle.esm_grammar.specs.Terminals.{sign_terminal, word_terminal}
+use Rattle.esm_grammar.specs.Terminals.{sign_terminal}
 use Rattle.esm_grammar.specs.Lexes.{IsToken, a_word, a_literal, a_sign, Longest, NoToken}
 use Rattle.esm_grammar.proofs.Tokens.{quote_no_sign, sign_part, word_part, one_body}
 use Rattle.esm_lexer.specs.Tokens.{IsFound}
 use Rattle.esm_lexer.proofs.TokenLemmas.{word_found, sign_found, sign_missing, no_literal_found}
-use Rattle.esm_script.proofs.Literals.{HasBody, NoBody, body_or_none}
+use Rattle.esm_script.proofs.Literals.{HasBody, body_or_none}
 
 -- a longest token, which takes a character at least
 pub record HasToken (text : List ℕ) : Type 0 where

@@ -1,8 +1,7 @@
 -- The characters of a text have tokens, up to the end or a place where none can be read.
-use Rattle.std.proofs.Common.{◌≡◌, ℕ, zero, suc, ◌+◌, ◌-◌, ◌<◌, ◌≤◌, ◌⊎◌, inl, inr, Bool, true, false, ◌||◌, List, [], ◌∷◌, length, drop, Option, Some, None, refl, arith, length-drop}
+use Rattle.std.proofs.Common.{◌≡◌, ℕ, zero, suc, ◌-◌, ◌<◌, ◌≤◌, ◌⊎◌, inl, inr, Bool, true, false, ◌||◌, List, [], ◌∷◌, length, drop, Some, None, refl, arith, length-drop}
 use Rattle.esm_tree.specs.Lexeme.{Lexeme, lexeme}
-use Rattle.esm_grammar.specs.Reading.{◌>>=◌, pick}
-use Rattle.esm_grammar.specs.Lexes.{Gap, line_len, block_len, comment, gap, widths, Lexes, all_read, stuck, blank, token, NoToken}
+use Rattle.esm_grammar.specs.Lexes.{Gap, comment, gap, widths, Lexes, all_read, stuck, blank, token, NoToken}
 use Rattle.esm_grammar.proofs.Basics.{bind_ok, chosen, guard_ok, from_some}
 use Rattle.esm_script.proofs.Fronts.{HasToken, token_or_none}
 

@@ -1,11 +1,10 @@
 -- A piece of a string literal leaves fewer characters, so that a literal's body is there or isn't.
-use Rattle.std.proofs.Common.{◌≡◌, ℕ, zero, suc, ◌+◌, ◌*◌, ◌-◌, ◌<◌, ◌≤◌, ◌⊎◌, inl, inr, Bool, true, false, not, ◌&&◌, ◌||◌, ◌==◌, List, [], ◌∷◌, ◌++◌, length, get_or, Option, Some, None, refl, sym, subst, ap, ◌∙◌, arith}
+use Rattle.std.proofs.Common.{◌≡◌, ℕ, zero, suc, ◌+◌, ◌*◌, ◌<◌, ◌≤◌, ◌⊎◌, inl, inr, Bool, true, false, ◌==◌, List, [], ◌∷◌, ◌++◌, length, get_or, Some, None, refl, sym, subst, ap, ◌∙◌, arith}
 use Rattle.std.proofs.lemmas.Bool.Decides.{nat_tests}
-use Rattle.std.specs.Prelude.{nat_le}
 use Rattle.std.specs.Char.{digit_value}
-use Rattle.esm_grammar.specs.Characters.{is_line_terminator, is_digit, is_hex, is_high, is_low, is_quote}
-use Rattle.esm_grammar.specs.Reading.{◌>>=◌, pick}
-use Rattle.esm_grammar.specs.Strings.{Piece, Code, hex_two, hex_four, braced, second_half, four_digits, unicode, begins_digit, skip_line_feed, single, one, escape, is_plain, piece, Body, closed, more}
+use Rattle.esm_grammar.specs.Characters.{is_quote}
+use Rattle.esm_grammar.specs.Reading.{pick}
+use Rattle.esm_grammar.specs.Strings.{Piece, Code, hex_two, hex_four, braced, second_half, four_digits, unicode, skip_line_feed, one, escape, piece, Body, closed, more}
 use Rattle.esm_grammar.proofs.Basics.{bind_ok, chosen, guard_ok, from_some}
 use Rattle.esm_grammar.proofs.Tokens.{quote_no_piece, none_some, value}
 
