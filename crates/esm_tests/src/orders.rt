@@ -3,7 +3,7 @@ ghost use Rattle.std.specs.Prelude.{◌≡◌, IfOk, IfSome};
 ghost use Rattle.esm_turn.specs.Represents.{MayTake};
 
 use crate::graphs::run_over;
-use crate::helpers::{ENTRY, site};
+use crate::helpers::site;
 use crate::sites::{Row, SITES};
 use esm_ast::Outcome;
 use esm_base::{Memory, Status, Text};
@@ -17,7 +17,7 @@ use std::sync::Arc;
 // A machine under the empty import map.
 fn new_machine(alloc: Global) -> Result<Machine, Memory> {
     let map = Arc::new(alloc, ImportMap::empty(alloc))?;
-    Machine::new(alloc, map, Text::copy(alloc, ENTRY)?)
+    Machine::new(alloc, map, Text::copy(alloc, "https://a.test/main.js")?)
 }
 
 // Which of the open asks is delivered at a turn.
