@@ -4,7 +4,7 @@ use Rattle.esm_base.specs.Urls.{Url, is_usable}
 use Rattle.esm_realm.proofs.PlainRecords.{main_usable}
 use Rattle.esm_tests.proofs.orders.new_machine.Goals as goal
 
-pub new-2-requires : goal.new-2-requires
-new-2-requires c =
+pub new-requires-2 : goal.new-requires-2
+new-requires-2 c =
     let same : c.in_ok-copy.field-0 ≡ codes "https://a.test/main.js" = c.in_ok-copy.ensures in
     subst (λ (u : Url). is_usable u ≡ true) (sym same) main_usable
