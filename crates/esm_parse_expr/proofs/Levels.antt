@@ -1,6 +1,6 @@
 -- From one level of operators to the next.
-use Rattle.std.proofs.Common.{◌≡◌, ℕ, zero, suc, ◌+◌, Bool, true, false, List, Some, None, refl, sym, ap, ◌∙◌}
-use Rattle.esm_tree.specs.Syntax.{Expr, Exprs, none, Sum, And, Or, last}
+use Rattle.std.proofs.Common.{◌≡◌, ℕ, zero, suc, false, List, Some, None, refl, ◌∙◌}
+use Rattle.esm_tree.specs.Syntax.{Expr, Exprs, Sum, And, Or}
 use Rattle.esm_tree.specs.declared.lexeme.Terminal.{Terminal}
 use Rattle.esm_tree.specs.declared.lexeme.Terminal.TheVariants as t
 use Rattle.esm_tree.specs.Lexeme.{Lexeme}
