@@ -9,8 +9,8 @@ use Rattle.esm_grammar.specs.Lexeme.{terminal_at}
 use Rattle.esm_grammar.specs.Grammar.{compares}
 use Rattle.esm_grammar.specs.Reading.{Read, ◌>>=◌, pick, same}
 use Rattle.esm_grammar.specs.Reading as read
-use Rattle.esm_parse_expr.specs.Outcome.{Grows, Compares, EndsComparison}
-use Rattle.esm_parse_expr.specs.Operators.{compared_with}
+use Rattle.esm_parse_expr.specs.Outcome.{Grows}
+use Rattle.esm_parse_expr.specs.Inner.Operators.{compared_with, Compares, EndsComparison}
 
 abbrev pub append : Compared → Compared → Compared
 append last ds = ds

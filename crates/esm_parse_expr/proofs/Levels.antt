@@ -7,7 +7,7 @@ use Rattle.esm_tree.specs.Lexeme.{Lexeme}
 use Rattle.esm_grammar.specs.Lexeme.{terminal_at}
 use Rattle.esm_grammar.specs.Reading.{Read, ◌>>=◌, pick, same}
 use Rattle.esm_grammar.specs.Reading as read
-use Rattle.esm_parse_expr.specs.Operators.{joined_with, compared_with, is_operator}
+use Rattle.esm_parse_expr.specs.Inner.Operators.{joined_with, compared_with, is_operator}
 
 module _ (ts : List Lexeme) (whole : ℕ → Read Expr) (n i : ℕ) where
   pub sum_gone : read.unary ts whole n n i ≡ None → read.sum ts whole n i ≡ None

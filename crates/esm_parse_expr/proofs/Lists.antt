@@ -16,7 +16,7 @@ use Rattle.esm_grammar.specs.Lexeme.{terminal_at, text_at, is_word}
 use Rattle.esm_grammar.specs.Reading.{Read, ◌>>=◌, pick, same, arguments, after_argument}
 use Rattle.esm_grammar.specs.Reading as read
 use Rattle.esm_parse_expr.specs.Outcome.{Grows}
-use Rattle.esm_parse_expr.specs.Operators.{joined_with}
+use Rattle.esm_parse_expr.specs.Inner.Operators.{joined_with}
 use Rattle.esm_parse_expr.proofs.OutcomeLemmas.{longer}
 
 pub turn_more : {X : Type 0} {x : X} (f : ℕ → X) (n at : ℕ) → at < n → x ≡ f (n - at) → x ≡ f (suc (n - (at + 1)))
