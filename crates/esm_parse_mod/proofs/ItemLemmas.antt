@@ -13,8 +13,8 @@ use Rattle.esm_grammar.specs.ReadingStatements.{block}
 use Rattle.esm_grammar.specs.ReadingItems as r
 use Rattle.esm_parse_expr.specs.declared.reader.Stop.{Stop}
 use Rattle.esm_parse_expr.specs.declared.reader.Stop.TheVariants as end
-use Rattle.esm_parse_mod.specs.Outcome.{ReadsItem}
-use Rattle.esm_parse_mod.specs.Items.{ReadsBare, body}
+use Rattle.esm_parse_mod.specs.Inner.Outcome.{ReadsItem}
+use Rattle.esm_parse_mod.specs.Inner.Items.{ReadsBare, body}
 use Rattle.esm_parse_expr.specs.Outcome.{Refuses}
 use Rattle.esm_parse_mod.proofs.OutcomeLemmas.{grew_none}
 use Rattle.esm_parse_mod.proofs.NameLemmas.{refuses}

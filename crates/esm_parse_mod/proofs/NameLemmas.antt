@@ -13,7 +13,7 @@ use Rattle.esm_grammar.proofs.Basics.{same_is, is_same}
 use Rattle.esm_parse_expr.specs.declared.reader.Stop.{Stop}
 use Rattle.esm_parse_expr.specs.declared.reader.Stop.TheVariants as end
 use Rattle.esm_parse_expr.specs.Outcome.{Refuses}
-use Rattle.esm_parse_mod.specs.Lists.{ReadsSame, ReadsList, after, GoesOn, ahead}
+use Rattle.esm_parse_mod.specs.Inner.Lists.{ReadsSame, ReadsList, after, GoesOn, ahead}
 
 value : {X : Type 0} {x y : X} → Some x ≡ Some y → x ≡ y
 value e = cc

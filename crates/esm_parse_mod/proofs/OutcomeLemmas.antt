@@ -13,7 +13,7 @@ use Rattle.esm_parse_expr.specs.declared.reader.Stop.{Stop}
 use Rattle.esm_parse_expr.specs.declared.reader.Stop.TheVariants as end
 use Rattle.esm_parse_expr.specs.Outcome.{Refuses, Grows}
 use Rattle.esm_parse_expr.specs.Outcome as e
-use Rattle.esm_parse_mod.specs.Outcome.{Grew, Gives, Reads, ReadsModule}
+use Rattle.esm_parse_mod.specs.Inner.Outcome.{Grew, Gives, Reads, ReadsModule}
 
 pub grew_none : (t : Parts) → Grew t t
 grew_none t = record {

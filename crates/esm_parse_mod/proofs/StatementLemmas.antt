@@ -14,7 +14,7 @@ use Rattle.esm_tree.specs.declared.lexeme.Terminal.{Terminal}
 use Rattle.esm_tree.specs.declared.lexeme.Terminal.TheVariants as t
 use Rattle.esm_grammar.specs.ReadingStatements as r
 use Rattle.esm_grammar.specs.ReadingStatements.{end_of}
-use Rattle.esm_parse_mod.specs.Outcome.{Grew, ReadsStmt}
+use Rattle.esm_parse_mod.specs.Inner.Outcome.{Grew, ReadsStmt}
 use Rattle.esm_parse_mod.proofs.OutcomeLemmas.{more_stmts, more_exprs, stmt_later, init_later}
 use Rattle.esm_parse_mod.proofs.Lists.{onto}
 

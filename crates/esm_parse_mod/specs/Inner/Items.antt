@@ -12,7 +12,7 @@ use Rattle.esm_grammar.specs.ReadingStatements.{block}
 use Rattle.esm_grammar.specs.ReadingItems.{listed, parameter}
 use Rattle.esm_parse_expr.specs.declared.reader.Stop.{Stop}
 use Rattle.esm_parse_expr.specs.Outcome.{Refuses}
-use Rattle.esm_parse_mod.specs.Outcome.{Reads}
+use Rattle.esm_parse_mod.specs.Inner.Outcome.{Reads}
 
 -- an item that names no statement
 abbrev pub ReadsBare : Result (ItemNode × ℕ) Stop → Read Item → Type 0

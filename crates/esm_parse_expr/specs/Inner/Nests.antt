@@ -11,7 +11,9 @@ use Rattle.esm_parse_expr.specs.declared.reader.Stop.{Stop}
 use Rattle.esm_parse_expr.specs.Outcome.{ReadsExpr}
 
 pub record Nests (room : ℕ) (pre : Global → Bor (List Lexeme) → MutBor Parts → ℕ → ℕ → Type 0)
-    (post : Global → Bor (List Lexeme) → MutBor Parts → ℕ → ℕ → Result (ExprId × ℕ) Stop → MutBor Parts → Type 0) : Type 0 where
+    (post : Global → Bor (List Lexeme) → MutBor Parts → ℕ → ℕ
+    → Result (ExprId × ℕ) Stop → MutBor Parts → Type 0) : Type 0 where
   pub callable : (alloc : Global) (tokens : Bor (List Lexeme)) (tree : MutBor Parts) (at : ℕ) → pre alloc tokens tree room at
-  pub reads : (alloc : Global) (tokens : Bor (List Lexeme)) (old new : MutBor Parts) (at : ℕ) (r : Result (ExprId × ℕ) Stop) → post alloc tokens old room at r new
+  pub reads : (alloc : Global) (tokens : Bor (List Lexeme)) (old new : MutBor Parts) (at : ℕ)
+      (r : Result (ExprId × ℕ) Stop) → post alloc tokens old room at r new
       → ReadsExpr old.now new.now r (expr tokens.now room at)

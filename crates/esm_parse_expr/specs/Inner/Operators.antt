@@ -1,10 +1,10 @@
 -- What operators join to an operand.
-use Rattle.std.specs.Prelude.{Bool, true, false, Some}
+use Rattle.std.specs.Prelude.{◌≡◌, Bool, true, false, Some}
 use Rattle.esm_tree.specs.Syntax.{Expr, Exprs, Compared}
 use Rattle.esm_tree.specs.declared.lexeme.Terminal.{Terminal}
 use Rattle.esm_tree.specs.declared.lexeme.Terminal.TheVariants as t
 use Rattle.esm_grammar.specs.Grammar.{joined, compares}
-use Rattle.esm_grammar.specs.Reading.{Read, ◌>>=◌}
+use Rattle.esm_grammar.specs.Reading.{Read, ◌>>=◌, same}
 
 -- the operand and the further ones
 unfoldable pub joined_with : (Expr → Exprs → Expr) → Expr → Read Exprs → Read Expr
@@ -20,3 +20,11 @@ is_operator t.Differs = true
 is_operator t.AndAnd = true
 is_operator t.OrOr = true
 is_operator _ = false
+
+-- the sign of a comparison stands there, or none
+abbrev pub Compares : Bool → Terminal → Type 0
+Compares true tok = true ≡ same tok t.Same
+Compares false tok = (false ≡ same tok t.Same) × (true ≡ same tok t.Differs)
+
+abbrev pub EndsComparison : Terminal → Type 0
+EndsComparison tok = (false ≡ same tok t.Same) × (false ≡ same tok t.Differs)
