@@ -1,9 +1,8 @@
 -- Bytes are read as one outcome.
-use Rattle.std.proofs.Common.{◌≡◌, ℕ, List, ap, sym, ◌∙◌}
+use Rattle.std.proofs.Common.{ℕ, List, ap, sym, ◌∙◌}
 use Rattle.esm_base.specs.declared.fault.TextFault.{TextFault}
 use Rattle.esm_tree.specs.Syntax.{Item}
-use Rattle.esm_ast.specs.Script.{SpelledText, BrokenParts}
-use Rattle.esm_ast.specs.Outcome.{OutcomeView, Script, Broken, Absent, Failed, OutcomeOf}
+use Rattle.esm_ast.specs.Outcome.{OutcomeView, Script, Broken, Absent, Failed}
 use Rattle.esm_ast.specs.Laws.{SpellsOneTree, HasOneFault, HasNoTreeBesideAFault, HasOneOutcome}
 
 module _ (one_tree : SpellsOneTree) (one_fault : HasOneFault) (no_tree : HasNoTreeBesideAFault) where
