@@ -16,7 +16,7 @@ use crate::literal::literal;
 use crate::signs::sign;
 use crate::words::word_terminal;
 use bumpalo::Bump;
-use esm_base::{MAX_NESTING, Memory, ReadEnd, TextFault};
+use esm_base::{MAX_NESTING, Memory, ReadEnd, TextFault, without_mark};
 use esm_tree::{Lexeme, Terminal, Token, TokenKind};
 use std::alloc::Global;
 
@@ -189,19 +189,6 @@ fn chars_of(alloc: Global, text: &str) -> Result<Vec<char>, Memory>
 {
     let characters = text.chars().collect(alloc)?;
     Ok(characters)
-}
-
-fn without_mark(bytes: &[u8]) -> &[u8]
-    ensures { result.now ≡ lexes.without_mark bytes.now }
-{
-    if bytes.len() < 3 {
-        return bytes;
-    }
-    if bytes[0] == 0xef && bytes[1] == 0xbb && bytes[2] == 0xbf {
-        &bytes[3..]
-    } else {
-        bytes
-    }
 }
 
 fn lexemes_of<'a>(
