@@ -2,11 +2,10 @@
 use Rattle.std.proofs.Common.{ℕ, zero, suc, ◌+◌, ◌*◌, ◌-◌, ◌≤◌, Bool, true, false, cond, List, [], ◌∷◌, ◌++◌, length, drop, Option, Some, None, arith, length-append}
 use Rattle.std.proofs.lemmas.List.{length-drop}
 use Rattle.std.specs.Str.{chars, chars_after, continuation_len, lead_bits}
-use Rattle.std.specs.Prelude.{bytes_eq}
+use Rattle.std.specs.Prelude.{bytes_eq, if◌then◌else◌}
 use Rattle.std.specs.List.{list_any}
 use Rattle.esm_tree.specs.Syntax.{Item}
 use Rattle.esm_tree.specs.declared.lexeme.Lexeme.{Lexeme}
-use Rattle.esm_grammar.specs.Reading.{pick}
 use Rattle.esm_base.specs.Mark.{has_mark, without_mark}
 use Rattle.esm_grammar.specs.Lexes.{Lexes, hashbang_len}
 use Rattle.esm_grammar.specs.Lexes.Lexes.{all_read, stuck, blank, token}
