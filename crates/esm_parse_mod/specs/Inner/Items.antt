@@ -1,5 +1,5 @@
 -- What a function that reads a part of an item did.
-use Rattle.std.specs.Prelude.{◌≡◌, ℕ, ◌+◌, Bool, true, false, List, length, Option, Some, None, Result, Ok, Err, Vec}
+use Rattle.std.specs.Prelude.{◌≡◌, ℕ, ◌+◌, Bool, true, false, List, length, Some, None, Result, Ok, Err, Vec}
 use Rattle.std.specs.declared.alloc.Global.{Global}
 use Rattle.esm_tree.specs.Syntax.{Stmt, Stmts, Item, ExportFunction, Function, Parts}
 use Rattle.esm_tree.specs.Flat.{stmt_parts, AllStmtsBelow, item_of, item_need}

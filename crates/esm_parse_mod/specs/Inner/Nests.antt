@@ -1,5 +1,5 @@
 -- A function value that reads blocks.
-use Rattle.std.specs.Prelude.{ℕ, Bool, List, Result, Vec}
+use Rattle.std.specs.Prelude.{ℕ, List, Result, Vec}
 use Rattle.std.specs.declared.alloc.Global.{Global}
 use denote.Ref.{MutBor}
 use Rattle.std.specs.Borrow.{Bor}

@@ -1,9 +1,8 @@
 -- What a function that reads statements or items did.
-use Rattle.std.specs.Prelude.{◌≡◌, ◌≤◌, ◌<◌, ◌⊎◌, Bool, true, false, ℕ, List, ◌++◌, length, map, Option, Some, None, Result, Ok, Err, Vec, ⊤}
+use Rattle.std.specs.Prelude.{◌≡◌, ◌≤◌, ◌<◌, Bool, false, ℕ, List, ◌++◌, length, Option, Some, None, Result, Ok, Err, Vec}
 use Rattle.std.specs.declared.alloc.Global.{Global}
 use Rattle.esm_tree.specs.Syntax.{Expr, Init, Bindings, Stmt, Stmts, Item, Parts}
-use Rattle.esm_tree.specs.Flat.{init_of, init_need, bindings_of, bindings_need, stmt_part, stmt_parts, AllStmtsBelow, item_of, item_need, items_of, items_need, AllAtMost}
-use Rattle.esm_tree.specs.declared.node.ExprId.{ExprId}
+use Rattle.esm_tree.specs.Flat.{init_of, init_need, bindings_of, bindings_need, stmt_part, stmt_parts, AllStmtsBelow, item_of, item_need}
 use Rattle.esm_tree.specs.declared.node.StmtId.{StmtId}
 use Rattle.esm_tree.specs.declared.node.Initializer.{Initializer}
 use Rattle.esm_tree.specs.declared.node.LexicalBinding.{LexicalBinding}

@@ -1,4 +1,4 @@
-use Rattle.std.proofs.Common.{◌≡◌, ◌<◌, ◌∙◌, ◌+◌, arith, ◌||◌, ◌++◌, [], ◌∷◌, drop, get_or, sym, ap, refl, subst}
+use Rattle.std.proofs.Common.{◌≡◌, ◌<◌, ◌∙◌, ◌+◌, arith, ◌||◌, ◌++◌, [], ◌∷◌, drop, get_or, sym, ap, subst}
 use Rattle.esm_tree.specs.Flat.{stmt_parts}
 use Rattle.esm_tree.specs.declared.node.StmtId.{StmtId}
 use Rattle.esm_grammar.specs.EarlyErrors.{has_repeat, block_names, stmts_scopes, stmt_scopes, scopes_of}

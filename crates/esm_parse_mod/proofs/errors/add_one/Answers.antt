@@ -1,4 +1,4 @@
-use Rattle.std.proofs.Common.{◌≡◌, ◌∙◌, ◌++◌, ◌∷◌, [], sym, ap, refl}
+use Rattle.std.proofs.Common.{◌∙◌, ap}
 use Rattle.esm_parse_mod.specs.Inner.Names.{texts}
 use Rattle.esm_parse_mod.proofs.NamesLemmas.{texts_push}
 use Rattle.esm_parse_mod.proofs.errors.add_one.Goals as goal

@@ -1,4 +1,4 @@
-use Rattle.std.proofs.Common.{◌≡◌, ◌∙◌, ◌++◌, [], ◌∷◌, sym, ap, refl, subst}
+use Rattle.std.proofs.Common.{◌≡◌, ◌∙◌, ◌++◌, sym, ap, subst}
 use Rattle.std.specs.Result.{OnOk}
 use Rattle.esm_grammar.specs.EarlyErrors.{statement_exported}
 use Rattle.esm_parse_mod.specs.Inner.Names.{texts}

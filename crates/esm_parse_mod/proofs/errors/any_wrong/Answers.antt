@@ -1,4 +1,4 @@
-use Rattle.std.proofs.Common.{◌≡◌, ◌∙◌, ◌+◌, ◌||◌, drop, sym, ap}
+use Rattle.std.proofs.Common.{◌∙◌, ◌+◌, ◌||◌, drop, sym, ap}
 use Rattle.esm_tree.specs.Flat.{items_of, item_of}
 use Rattle.esm_grammar.specs.EarlyErrors.{item_scopes}
 use Rattle.esm_parse_mod.specs.Inner.Names.{any_item_wrong, any_clashes, held}

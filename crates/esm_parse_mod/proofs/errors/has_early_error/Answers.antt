@@ -1,4 +1,4 @@
-use Rattle.std.proofs.Common.{◌≡◌, ◌∙◌, sym, ap, refl, subst, codes}
+use Rattle.std.proofs.Common.{◌≡◌, ◌∙◌, sym, ap, subst, codes}
 use Rattle.std.specs.Result.{IfOk}
 use Rattle.esm_grammar.specs.Names.{has_text}
 use Rattle.esm_grammar.specs.EarlyErrors.{has_repeat, exported_names, module_names, exports_twice, exports_then, declares_twice}

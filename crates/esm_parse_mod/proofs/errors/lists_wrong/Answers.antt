@@ -1,4 +1,4 @@
-use Rattle.std.proofs.Common.{◌≡◌, ◌∙◌, [], sym, ap, refl}
+use Rattle.std.proofs.Common.{◌∙◌, sym, ap}
 use Rattle.std.specs.List.{list_any}
 use Rattle.esm_grammar.specs.EarlyErrors.{listed_of}
 use Rattle.esm_parse_mod.specs.Inner.Names.{is_unlisted, held}
