@@ -5,8 +5,8 @@ use Rattle.std.specs.List.{remove}
 use Rattle.std.specs.List.Sorted.{IsNonDecreasing}
 use Rattle.std.proofs.lemmas.Option.{slice_get_within}
 use Rattle.esm_load.specs.declared.table.Slot.{Slot}
-use Rattle.esm_load.proofs.OpenPlaces.{places_rise, place_listed, as_many, taken}
-use Rattle.esm_load.proofs.Standings.{index_get, some_is}
+use Rattle.esm_load.proofs.Indices.OpenPlaces.{places_rise, place_listed, as_many, taken}
+use Rattle.esm_load.proofs.Records.States.{index_get, some_is}
 use Rattle.esm_load.proofs.arriving.after_fetch.Goals as goal
 
 pub close-requires-clause-rise : goal.close-requires-clause-rise

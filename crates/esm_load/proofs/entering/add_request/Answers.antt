@@ -2,15 +2,15 @@
 use Rattle.std.proofs.Common.{◌≡◌, ◌<◌, ◌≤◌, refl, arith, length, [], ◌∷◌, ◌++◌, rules, true}
 use Rattle.std.proofs.lemmas.Option.{slice_get_within}
 use Rattle.esm_load.specs.Inner.TableView.{count_pending}
-use Rattle.esm_load.proofs.Standings.{index_get}
-use Rattle.esm_load.proofs.Waiting.{waits_few}
-use Rattle.esm_load.proofs.Waited.{well_waited}
+use Rattle.esm_load.proofs.Records.States.{index_get}
+use Rattle.esm_load.proofs.Indices.Queues.{pending_few}
+use Rattle.esm_load.proofs.Indices.AddedRequest.{well_waited}
 use Rattle.esm_load.specs.declared.table.ModuleRequest.{ModuleRequest}
 use Rattle.esm_load.proofs.entering.add_request.Goals as goal
 
 pub overflow_add-table : goal.overflow_add-table
 overflow_add-table c =
-    let few : count_pending c.args.table.now.requests.items ≤ length c.args.table.now.requests.items = waits_few c.args.table.now.requests.items in
+    let few : count_pending c.args.table.now.requests.items ≤ length c.args.table.now.requests.items = pending_few c.args.table.now.requests.items in
     let counted : c.args.table.now.pending_count ≡ count_pending c.args.table.now.requests.items = c.requires.well.queued.counted in
     omega (arith, few, counted)
 
