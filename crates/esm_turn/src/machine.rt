@@ -1,6 +1,7 @@
 // The machine: an entry, and the deliveries that it has taken.
 ghost use Rattle.std.specs.Prelude.{◌≡◌, All, List, [], ◌∷◌, ◌++◌, true, IfOk, IfErr, OnOk, Some, None, Err, is_some, option_map, slice_get, codes, IsSome, ◌↔◌};
 ghost use Rattle.esm_ast.specs.Outcome.{outcome_view};
+ghost use Rattle.esm_base.specs.declared.end.End.TheVariants as ends;
 ghost use Rattle.esm_base.specs.Limits.{limit_name};
 ghost use Rattle.esm_base.specs.Urls.{is_usable, IsUsable};
 ghost use Rattle.esm_realm.specs.Sound.{RecordParts};
@@ -211,7 +212,7 @@ impl Machine {
         ensures state { result ≡ option_map status_of (ending_of self.now) }
         ensures known { is_some result ≡ is_some (ending_of self.now) }
         ensures exactly { IsSome result ↔ IsEnded self.now }
-        ensures memory { self.now.stopped ≡ Some TurnEnd.Memory → result ≡ None }
+        ensures memory { self.now.stopped ≡ Some ends.Memory → result ≡ None }
         ensures standard { ShownBy self.now (λ what. result ≡ what.status) }
         ensures ended { ShownBy self.now (λ what. is_some result ≡ what.ended) }
     {

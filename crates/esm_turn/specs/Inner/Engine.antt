@@ -1,5 +1,5 @@
 -- What contracts of private functions see of the bodies that run, and of the world that they leave.
-use Rattle.std.specs.Prelude.{◌≡◌, ℕ, Some, None, Result, Ok, Err}
+use Rattle.std.specs.Prelude.{◌≡◌, ℕ, Some, Result, Ok, Err}
 use Rattle.esm_base.specs.declared.limits.Limit.{Limit}
 use Rattle.esm_base.specs.Urls.{Text}
 use Rattle.esm_load.specs.Loading.{Loading}
