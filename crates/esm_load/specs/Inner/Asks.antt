@@ -1,7 +1,7 @@
 -- The URLs that are asked and not fetched, with the places of their slots.
 use Rattle.std.specs.Prelude.{◌≡◌, ℕ, suc, Bool, true, false, List, [], ◌∷◌, Some, slice_get}
 use Rattle.std.specs.List.{remove}
-use Rattle.esm_load.specs.TableView.{is_open, open_urls}
+use Rattle.esm_load.specs.Inner.TableView.{is_open, open_urls}
 use Rattle.esm_load.specs.declared.asks.OpenAsks.{OpenAsks}
 use Rattle.esm_load.specs.declared.table.Slot.{Slot}
 
@@ -12,7 +12,7 @@ open_place_by false place later = later
 -- the places of the URLs that aren't fetched, where the first slot has this place
 abbrev pub open_places : ℕ → List Slot → List ℕ
 open_places first [] = []
-open_places first (s ∷ ss) = open_place_by (is_open s.stand) first (open_places (suc first) ss)
+open_places first (s ∷ ss) = open_place_by (is_open s.state) first (open_places (suc first) ss)
 
 -- these are the open asks of these slots
 pub record AreOpen (asks : OpenAsks) (slots : List Slot) : Type 0 where
