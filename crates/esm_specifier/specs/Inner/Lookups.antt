@@ -13,7 +13,8 @@ pub record Decides (prefixes : Bool) (normal : List ℕ) (map : SpecifierMap) (k
   pub cut : IsCharBoundary normal key_len
 
 -- the same in the scope that decides
-pub record IsInScope (referrer : List ℕ) (prefixes : Bool) (normal : List ℕ) (scopes : TextMapView SpecifierMap) (key_len : ℕ) (address : Option Parts) : Type 0 where
+pub record IsInScope (referrer : List ℕ) (prefixes : Bool) (normal : List ℕ) (scopes : TextMapView SpecifierMap)
+    (key_len : ℕ) (address : Option Parts) : Type 0 where
   pub prefix : List ℕ
   pub scope : deciding_scope referrer prefixes normal scopes ≡ Some prefix
   pub decides : Decides prefixes normal (scope_at prefix scopes) key_len address

@@ -13,7 +13,7 @@ use Rattle.std.specs.Str.{IsUtf8}
 use Rattle.esm_base.proofs.CodeUnits.{code_unit_order_total, code_unit_order_same}
 use Rattle.esm_base.specs.TextMap.{TextMapView, at}
 use Rattle.esm_specifier.specs.Resolution.{greater, greatest}
-use Rattle.esm_specifier.proofs.Prefixes.{IsFront, front_order}
+use Rattle.esm_specifier.proofs.Keys.Prefixes.{IsFront, front_order}
 
 -- ---- the keys of a map
 

@@ -11,11 +11,11 @@ use Rattle.atomic_table.proofs.Lists.{set_here, exchanged}
 use Rattle.esm_hlock.specs.declared.view.View.{View}
 use Rattle.esm_hlock.specs.Makers.{Continues}
 use Rattle.esm_hlock.specs.Rule.{Fits, Kept}
-use Rattle.esm_hlock.specs.Views.{with_ticket, with_state}
-use Rattle.esm_hlock.specs.Steps.{DrewTicket, LoadedServing}
-use Rattle.esm_hlock.proofs.Lists.{false-true, at_length}
-use Rattle.esm_hlock.proofs.Growing.{continues_self}
-use Rattle.esm_hlock.proofs.Seats.{SeatOf, none_there, each_set, apart_set, apart_same, out_same, out_idle, place_set, same_shares, same_makers, stays, has_all_makers, home}
+use Rattle.esm_hlock.specs.Inner.Seats.{with_ticket, with_state}
+use Rattle.esm_hlock.specs.Inner.Steps.{DrewTicket, LoadedServing}
+use Rattle.esm_hlock.proofs.Basics.Lists.{false-true, at_length}
+use Rattle.esm_hlock.proofs.Keeps.Growing.{continues_self}
+use Rattle.esm_hlock.proofs.Keeps.Seats.{SeatOf, none_there, each_set, apart_set, apart_same, out_same, out_idle, place_set, same_shares, same_makers, stays, has_all_makers, home}
 
 module _ {T E : Type 0} (story : T → List E) (maker : E → Option ℕ) where
   -- a compare and exchange on the ticket word

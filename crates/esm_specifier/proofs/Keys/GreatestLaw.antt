@@ -1,10 +1,10 @@
 -- What `greatest` finds, by places.
-use Rattle.std.proofs.Common.{◌≡◌, ℕ, ◌+◌, List, [], ◌∷◌, length, inl, inr, refl, sym, add-one, arith}
-use Rattle.std.specs.Prelude.{All, Contains, slice_index_or}
+use Rattle.std.proofs.Common.{ℕ, ◌+◌, List, [], ◌∷◌, inl, inr, refl, sym, add-one, arith}
+use Rattle.std.specs.Prelude.{All, Contains}
 use Rattle.std.proofs.lemmas.List.Elements.{All-nil, All-cons}
-use Rattle.esm_specifier.specs.Resolution.{greater, greatest}
-use Rattle.esm_specifier.specs.Laws.{IsGreatest, GreatestIs}
-use Rattle.esm_specifier.proofs.Greatest.{IsIn, IsGreatestIn, greatest_is}
+use Rattle.esm_specifier.specs.Resolution.{greatest}
+use Rattle.esm_specifier.specs.Laws.{GreatestIs}
+use Rattle.esm_specifier.proofs.Keys.Greatest.{IsIn, greatest_is}
 
 contains_of : (text : List ℕ) (texts : List (List ℕ)) → IsIn text texts → Contains texts text
 contains_of text [] h = absurd h

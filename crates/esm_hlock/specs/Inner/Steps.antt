@@ -6,7 +6,8 @@ use Rattle.atomic_table.specs.Table.{Me, Step, rest}
 use Rattle.esm_hlock.specs.declared.view.View.{View}
 use Rattle.esm_hlock.specs.declared.view.Joined.{Joined}
 use Rattle.esm_hlock.specs.Makers.{Continues}
-use Rattle.esm_hlock.specs.Views.{with_ticket, with_state, without_ticket, with_history, HasAllMakers}
+use Rattle.esm_hlock.specs.Views.{HasAllMakers}
+use Rattle.esm_hlock.specs.Inner.Seats.{with_ticket, with_state, without_ticket, with_history}
 
 module _ {S E : Type 0} where
   -- the seat has the ticket where it was still the next, and else is as it was
@@ -20,12 +21,17 @@ module _ {S E : Type 0} where
 module _ {E : Type 0} (maker : E → Option ℕ) where
   -- what the seat has seen continues what each of its two parts had seen
   abbrev pub LookedBack : {S : Type 0} → Step S → Me S (View E) → ℕ → Me S (View E) → Type 0
-  LookedBack st m r n = (n ≡ (without_ticket m.0, m.1)) × ((j : ℕ) (o : Joined E) → get_elem? m.0.joined j ≡ some o → Continues maker m.0.seen o.seen o.number) × HasAllMakers maker m.0
+  LookedBack st m r n =
+      (n ≡ (without_ticket m.0, m.1))
+      × ((j : ℕ) (o : Joined E) → get_elem? m.0.joined j ≡ some o → Continues maker m.0.seen o.seen o.number)
+      × HasAllMakers maker m.0
 
 module _ {T E : Type 0} (story : T → List E) (maker : E → Option ℕ) where
   -- the seat has got a state, and has seen its entries, which continue what it had seen
   abbrev pub GotState : Me (Option T) (View E) → Me (Option T) (View E) → Type 0
-  GotState m n = (state : T) × (n ≡ (with_state m.0 (story state), (0, Some state) ∷ m.1)) × Continues maker (story state) m.0.seen m.0.number × HasAllMakers maker n.0
+  GotState m n =
+      (state : T) × (n ≡ (with_state m.0 (story state), (0, Some state) ∷ m.1))
+      × Continues maker (story state) m.0.seen m.0.number × HasAllMakers maker n.0
 
   -- the seat has got the state where its ticket is served, and else is as it was
   abbrev pub LoadedServing : Step (Option T) → Me (Option T) (View E) → ℕ → Me (Option T) (View E) → Type 0

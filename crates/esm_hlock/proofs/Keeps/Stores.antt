@@ -7,11 +7,11 @@ use Rattle.atomic_table.proofs.Lists.{set_here, set_else}
 use Rattle.esm_hlock.specs.declared.view.View.{View}
 use Rattle.esm_hlock.specs.Makers.{times, Continues, IsStep}
 use Rattle.esm_hlock.specs.Rule.{Fits, Kept}
-use Rattle.esm_hlock.specs.Views.{without_ticket, with_history}
-use Rattle.esm_hlock.specs.Steps.{EndedTurn, story_in, StoredLength}
-use Rattle.esm_hlock.proofs.Lists.{false-true, at_length, same_at, total_set}
-use Rattle.esm_hlock.proofs.Growing.{continues_self, grows}
-use Rattle.esm_hlock.proofs.Seats.{SeatOf, none_there, each_set, apart_idle, apart_same, out_same, same_shares, same_makers, has_all_makers, away, alone}
+use Rattle.esm_hlock.specs.Inner.Seats.{without_ticket, with_history}
+use Rattle.esm_hlock.specs.Inner.Steps.{EndedTurn, story_in, StoredLength}
+use Rattle.esm_hlock.proofs.Basics.Lists.{false-true, at_length, same_at, total_set}
+use Rattle.esm_hlock.proofs.Keeps.Growing.{continues_self, grows}
+use Rattle.esm_hlock.proofs.Keeps.Seats.{SeatOf, none_there, each_set, apart_idle, apart_same, out_same, same_shares, same_makers, has_all_makers, away, alone}
 
 module _ {T E : Type 0} (story : T → List E) (maker : E → Option ℕ) where
   -- a store of the length word, with the state of the new history in the slot

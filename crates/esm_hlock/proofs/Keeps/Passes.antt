@@ -10,12 +10,13 @@ use Rattle.esm_hlock.specs.declared.view.View.{View}
 use Rattle.esm_hlock.specs.declared.view.Joined.{Joined}
 use Rattle.esm_hlock.specs.Makers.{times, names, Continues}
 use Rattle.esm_hlock.specs.Rule.{Fits, Kept}
-use Rattle.esm_hlock.specs.Views.{spent, without_ticket, after_split, split_off, longer, joined_from, after_join}
-use Rattle.esm_hlock.specs.Steps.{LookedBack}
-use Rattle.esm_hlock.proofs.Lists.{false-true, cut, total_set, total_snoc}
-use Rattle.esm_hlock.proofs.Counts.{times-append, names_left, names_right}
-use Rattle.esm_hlock.proofs.Growing.{continues_self}
-use Rattle.esm_hlock.proofs.Seats.{SeatOf, none_there, each_set, each_snoc, apart_idle, apart_snoc, out_idle, out_snoc, place_set, place_snoc, same_shares, same_makers, has_all_makers}
+use Rattle.esm_hlock.specs.Views.{longer}
+use Rattle.esm_hlock.specs.Inner.Seats.{spent, without_ticket, after_split, split_off, joined_from, after_join}
+use Rattle.esm_hlock.specs.Inner.Steps.{LookedBack}
+use Rattle.esm_hlock.proofs.Basics.Lists.{false-true, cut, total_set, total_snoc}
+use Rattle.esm_hlock.proofs.Basics.Counts.{times-append, names_left, names_right}
+use Rattle.esm_hlock.proofs.Keeps.Growing.{continues_self}
+use Rattle.esm_hlock.proofs.Keeps.Seats.{SeatOf, none_there, each_set, each_snoc, apart_idle, apart_snoc, out_idle, out_snoc, place_set, place_snoc, same_shares, same_makers, has_all_makers}
 
 module _ {T E : Type 0} (story : T → List E) (maker : E → Option ℕ) where
   -- a seat with two shares or more is cut in two

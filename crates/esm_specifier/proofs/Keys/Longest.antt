@@ -10,10 +10,10 @@ use Rattle.url.specs.Parts.{Parts}
 use Rattle.esm_import_map.specs.ImportMap.{SpecifierMap}
 use Rattle.esm_import_map.specs.Specifier.{begins_with, ends_in_slash}
 use Rattle.esm_base.specs.TextMap.{TextMapView, at}
-use Rattle.esm_specifier.specs.Lookups.{Decides, IsInScope}
+use Rattle.esm_specifier.specs.Inner.Lookups.{Decides, IsInScope}
 use Rattle.esm_specifier.specs.Resolution.{greatest, reaches, deciding_key, decides, scope_at}
-use Rattle.esm_specifier.proofs.Greatest.{all_keys, in_keys, greatest_longest, greatest_none}
-use Rattle.esm_specifier.proofs.Prefixes.{IsSlashed, reaches_cases, front_reached, front_length, slash_at, slashed_length}
+use Rattle.esm_specifier.proofs.Keys.Greatest.{all_keys, in_keys, greatest_longest, greatest_none}
+use Rattle.esm_specifier.proofs.Keys.Prefixes.{IsSlashed, reaches_cases, front_reached, front_length, slash_at, slashed_length}
 
 -- no text that passes is longer than n
 pub record NoneLonger (c : List ℕ → Bool) (n : ℕ) : Type 0 where

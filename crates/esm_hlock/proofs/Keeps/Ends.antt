@@ -8,12 +8,13 @@ use Rattle.atomic_table.specs.Table.{Final, Seen, opening}
 use Rattle.esm_hlock.specs.declared.view.View.{View}
 use Rattle.esm_hlock.specs.Makers.{Continues}
 use Rattle.esm_hlock.specs.Rule.{Fits, AtHome, Away, Kept}
-use Rattle.esm_hlock.specs.Views.{newcomer, HasAllMakers}
+use Rattle.esm_hlock.specs.Views.{HasAllMakers}
+use Rattle.esm_hlock.specs.Inner.Seats.{newcomer}
 use Rattle.esm_hlock.specs.Closing.{ClosedWith}
-use Rattle.esm_hlock.proofs.Lists.{false-true, same_at, at_get, total_two}
-use Rattle.esm_hlock.proofs.Counts.{times_makers}
-use Rattle.esm_hlock.proofs.Growing.{continues_self}
-use Rattle.esm_hlock.proofs.Seats.{none_there}
+use Rattle.esm_hlock.proofs.Basics.Lists.{false-true, same_at, at_get, total_two}
+use Rattle.esm_hlock.proofs.Basics.Counts.{times_makers}
+use Rattle.esm_hlock.proofs.Keeps.Growing.{continues_self}
+use Rattle.esm_hlock.proofs.Keeps.Seats.{none_there}
 
 module _ {T E : Type 0} (story : T → List E) (maker : E → Option ℕ) where
   -- the last table, with its two words

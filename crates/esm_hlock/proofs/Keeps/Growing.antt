@@ -9,8 +9,8 @@ use Rattle.esm_hlock.specs.declared.view.View.{View}
 use Rattle.esm_hlock.specs.Makers.{times, is_maker, enlisted, names, Continues, number_after, numbers_after, MayMake, IsStep}
 use Rattle.esm_hlock.specs.Rule.{Kept, total}
 use Rattle.esm_hlock.specs.Views.{HasAllMakers}
-use Rattle.esm_hlock.proofs.Lists.{drop_all, total_at, total_two}
-use Rattle.esm_hlock.proofs.Counts.{times_self, times_other, names_at_most_one, names_other, names_own}
+use Rattle.esm_hlock.proofs.Basics.Lists.{drop_all, total_at, total_two}
+use Rattle.esm_hlock.proofs.Basics.Counts.{times_self, times_other, names_at_most_one, names_other, names_own}
 
 module _ {E : Type 0} (maker : E → Option ℕ) where
   -- a history continues itself
