@@ -1,5 +1,6 @@
 -- What a run took, and what the sources were asked.
 use Rattle.std.specs.Prelude.{◌≡◌, ◌≢◌, ℕ, List, map, Option, None, IfSome, IsSomeAnd, take, drop, Any, All, AllPairs, Contains, flat_map, true, ⊤}
+use Rattle.esm_base.specs.declared.limits.TheConstants.{MAX_BODY_BYTES}
 use Rattle.esm_ports.specs.declared.asked.Asked.{Asked}
 use Rattle.esm_ports.specs.declared.asked.AskKind.{AskKind}
 use Rattle.esm_ports.specs.declared.asked.AskKind.TheVariants.{Body, Absent, Failed}
@@ -43,8 +44,8 @@ Contents = List ℕ → Option (List ℕ)
 
 -- the outcome is that of a source with these contents
 abbrev pub IsToldOutcome : Contents → List ℕ → OutcomeView → Type 0
-IsToldOutcome contents url (fetched.Script script) = IsSomeAnd (contents url) (λ bytes. script.bytes ≡ take 1048577 bytes)
-IsToldOutcome contents url (fetched.Broken broken) = IsSomeAnd (contents url) (λ bytes. broken.bytes ≡ take 1048577 bytes)
+IsToldOutcome contents url (fetched.Script script) = IsSomeAnd (contents url) (λ bytes. script.bytes ≡ take MAX_BODY_BYTES bytes)
+IsToldOutcome contents url (fetched.Broken broken) = IsSomeAnd (contents url) (λ bytes. broken.bytes ≡ take MAX_BODY_BYTES bytes)
 IsToldOutcome contents url fetched.Absent = contents url ≡ None
 IsToldOutcome contents url fetched.Failed = ⊤
 

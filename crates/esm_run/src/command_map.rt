@@ -2,7 +2,7 @@
 ghost use Rattle.std.specs.Prelude.{◌≡◌, IfOk};
 ghost use Rattle.esm_base.specs.Ends.{Gives};
 ghost use Rattle.esm_run.specs.CommandMap as spec;
-ghost use Rattle.esm_run.specs.Inner.MapReading.{Comes, ComesTo};
+ghost use Rattle.esm_run.specs.Inner.MapReading.{FetchesMap, GivesMapOf};
 
 use crate::arguments::Command;
 use esm_base::{End, Memory, Text};
@@ -38,9 +38,9 @@ fn fetch_map<S: Source>(
     url: &Text,
     base: &Url,
 ) -> Result<ImportMap, End<MapRefusal>>
-    ensures comes { Comes result base.now url.now
-        (spec.desk_change S.asked S.holds desk.old desk.new) }
-    ensures holds { S.holds desk.new ≡ S.holds desk.old }
+    ensures comes { FetchesMap result base.now url.now
+        (spec.desk_change S.asked S.holds desk.asked_before desk.asked_after) }
+    ensures holds { S.holds desk.asked_after ≡ S.holds desk.asked_before }
 {
     match desk.fetch(alloc, url.as_str()) {
         Ok(body) => read_map(alloc, &body, base),
@@ -57,9 +57,9 @@ pub(crate) fn map_of<S: Source>(
     desk: &mut S,
     command: &Command,
 ) -> Result<ImportMap, End<MapRefusal>>
-    ensures comes { ComesTo result command.now
-        (spec.desk_change S.asked S.holds desk.old desk.new) }
-    ensures holds { S.holds desk.new ≡ S.holds desk.old }
+    ensures comes { GivesMapOf result command.now
+        (spec.desk_change S.asked S.holds desk.asked_before desk.asked_after) }
+    ensures holds { S.holds desk.asked_after ≡ S.holds desk.asked_before }
 {
     match &command.map {
         Some(url) => fetch_map(alloc, desk, url, &command.base),
