@@ -85,18 +85,18 @@ impl ExportGraph for Modules {
 pub fn binding_of(
     alloc: Global,
     modules: &Modules,
-    module: u32,
+    number: u32,
     name: &str,
 ) -> Result<Option<Resolution>, Memory>
     ensures found { IfOk result (λ found. IfSome found
-        (IsResolutionOf (⟦<Modules as ExportGraph>⟧.graph modules.now) (pair_of module name.now))) }
+        (IsResolutionOf (⟦<Modules as ExportGraph>⟧.graph modules.now) (pair_of number name.now))) }
     ensures held { IfOk result (λ found. AreAllSound (⟦<Modules as ExportGraph>⟧.graph modules.now)
-        → module < (⟦<Modules as ExportGraph>⟧.graph modules.now).size → IsSome found) }
+        → number < (⟦<Modules as ExportGraph>⟧.graph modules.now).size → IsSome found) }
 {
-    if !is_sound(modules) || module >= modules.size() {
+    if !is_sound(modules) || number >= modules.size() {
         return Ok(None);
     }
-    let resolution = resolve_export(alloc, modules, ModuleId(module), name)?;
+    let resolution = resolve_export(alloc, modules, ModuleId(number), name)?;
     Ok(Some(resolution))
 }
 

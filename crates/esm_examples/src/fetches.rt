@@ -1,9 +1,9 @@
 //! What a server or a test runner wants: the run of an entry over fetches of its own.
-ghost use Rattle.std.specs.Prelude.{◌≡◌, ◌+◌, ◌∷◌, [], ◌++◌, IfOk, OnOk};
-ghost use Rattle.std.specs.Arc.{arc_value};
+ghost use Rattle.std.specs.Prelude.{◌≡◌, ◌∷◌, [], ◌++◌, IfOk, OnOk};
 ghost use Rattle.esm_ast.specs.Outcome.{outcome_view};
 ghost use Rattle.esm_base.specs.Urls.{Url, IsUsable};
 ghost use Rattle.esm_import_map.specs.ImportMap.{Maps};
+ghost use Rattle.esm_turn.specs.Represents.{RepresentsOn};
 ghost use Rattle.esm_examples.specs.Fetches.{ComesFrom, IsRunOver};
 ghost use Rattle.esm_examples.specs.Inner.Driving.{IsOpen, IsNext, IsDriven};
 
@@ -11,7 +11,7 @@ use esm_ast::{BrokenText, Outcome};
 use esm_base::{Memory, ReadEnd, Status, Text, TextMap};
 use esm_import_map::ImportMap;
 use esm_script::read_script;
-use esm_turn::{Machine, laws};
+use esm_turn::{Machine, TurnEnd, laws};
 use std::alloc::Global;
 use std::sync::Arc;
 
@@ -44,7 +44,7 @@ fn fetch(alloc: Global, files: &TextMap<Vec<u8>>, url: &Text) -> Result<Outcome,
     }
 }
 
-// An open ask, the oldest, if there is one.
+// The oldest open ask, if there is one.
 fn next_ask(machine: &Machine) -> Result<Option<Text>, Memory>
     ensures { IfOk result (IsNext machine.now) }
 {
@@ -54,8 +54,21 @@ fn next_ask(machine: &Machine) -> Result<Option<Text>, Memory>
     }
 }
 
-// Fetches an open ask, and delivers what came. Where a limit stops the machine it has no ask any more.
-fn turn(
+// Delivers what came of a fetch. Where a limit stops the machine it asks for nothing more.
+fn hand_over(machine: &mut Machine, url: &Text, outcome: &Outcome) -> Result<(), Memory>
+    requires { IsOpen machine.old url.now }
+    ensures { OnOk result
+        (RepresentsOn machine.old url.now (outcome_view outcome.now) machine.new) }
+{
+    match machine.deliver(url, outcome) {
+        Ok(()) => Ok(()),
+        Err(TurnEnd::Fault(_limit)) => Ok(()),
+        Err(TurnEnd::Memory) => Err(Memory),
+    }
+}
+
+// One turn: fetches an open ask, and delivers what came.
+fn take_turn(
     alloc: Global,
     files: &TextMap<Vec<u8>>,
     machine: &mut Machine,
@@ -69,7 +82,7 @@ fn turn(
     ensures more { OnOk result (fetched.new.items ≡ fetched.old.items ++ url ∷ []) }
 {
     let outcome = fetch(alloc, files, &url)?;
-    let _ = machine.deliver(&url, &outcome);
+    hand_over(machine, &url, &outcome)?;
     fetched.push(url)?;
     Ok(())
 }
@@ -90,15 +103,70 @@ pub fn run_over(
     let mut machine = Machine::new(alloc, map, entry.clone()?)?;
     let mut fetched = Vec::new(alloc);
     while let Some(url) = next_ask(&machine)? {
-        turn(alloc, files, &mut machine, url, &mut fetched)?;
+        take_turn(alloc, files, &mut machine, url, &mut fetched)?;
     }
     let Some(status) = machine.end() else {
         return Err(Memory);
     };
+    let last_line = machine.last_line()?;
     Ok(Ran {
-        log: Vec::from_slice(alloc, machine.log())?,
+        log: machine.into_log(),
         status,
-        last_line: machine.last_line()?,
+        last_line,
         fetched,
     })
+}
+
+#[cfg(test)]
+mod tests {
+    use super::*;
+    use esm_base::is_usable;
+    use std::test::Fail;
+
+    fn files(alloc: Global) -> Result<TextMap<Vec<u8>>, Memory> {
+        let mut files = TextMap::empty(alloc);
+        let rows = [
+            (
+                "https://a.test/main.js",
+                "import './a.js';\nimport './b.js';\nprint(\"main\");\n",
+            ),
+            ("https://a.test/a.js", "import './b.js';\nprint(\"a\");\n"),
+            ("https://a.test/b.js", "print(\"b\");\n"),
+            ("https://a.test/lost.js", "import './gone.js';\n"),
+        ];
+        for (url, text) in rows {
+            let url = String::from_str(alloc, url)?;
+            let _ = files.insert_new(url, Vec::from_slice(alloc, text.as_bytes())?)?;
+        }
+        Ok(files)
+    }
+
+    // ECMA-262, InnerModuleEvaluation: a module's requests run before it, in order, each once. HTML, "fetch the
+    // descendants of a module script": what isn't fetched fails the entry.
+    #[test]
+    fn entries_run(rt: HostRuntime) -> Result<(), Fail> {
+        let alloc = rt.alloc();
+        let files = files(alloc)?;
+        let rows = [
+            (
+                "https://a.test/main.js",
+                "b\na\nmain\n",
+                Status::Fulfilled,
+                3,
+            ),
+            ("https://a.test/lost.js", "", Status::EntryFailed, 2),
+            ("https://a.test/none.js", "", Status::EntryFailed, 1),
+        ];
+        for (url, log, status, fetched) in rows {
+            let entry = Text::copy(alloc, url)?;
+            if !is_usable(alloc, entry.as_str())? {
+                return Err(Fail::from("no URL of a module"));
+            }
+            let ran = run_over(alloc, &files, ImportMap::empty(alloc), &entry)?;
+            assert!(rt; ran.log.as_slice() == log.as_bytes());
+            assert_eq!(rt; ran.status, status);
+            assert_eq!(rt; ran.fetched.len(), fetched);
+        }
+        Ok(())
+    }
 }

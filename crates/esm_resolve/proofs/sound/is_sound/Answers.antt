@@ -1,4 +1,4 @@
-use Rattle.std.proofs.Common.{◌≡◌, arith, rules, sym, ◌∙◌, true, false}
+use Rattle.std.proofs.Common.{◌≡◌, arith, rules, true}
 use Rattle.esm_resolve.specs.Inner.Inside.{is_sound_at}
 use Rattle.esm_resolve.proofs.AllSound.{all_sound, passes}
 use Rattle.esm_resolve.proofs.sound.is_sound.Goals as goal
