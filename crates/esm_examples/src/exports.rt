@@ -29,11 +29,7 @@ pub enum Unusable {
 
 impl Module {
     /// The module with these bytes, whose requests, in order of first appearance, lead to these modules.
-    pub fn read(
-        alloc: Global,
-        bytes: Vec<u8>,
-        targets: Vec<u32>,
-    ) -> Result<Module, End<Unusable>> {
+    pub fn read(alloc: Global, bytes: Vec<u8>, targets: Vec<u32>) -> Result<Module, End<Unusable>> {
         match read_script(alloc, bytes) {
             Ok(script) => {
                 if script.entries().requests().len() != targets.len() {
@@ -109,10 +105,14 @@ mod tests {
 
     // Two modules that are held: `shop.js`, which exports of `cart.js`, and `cart.js`.
     fn shop(alloc: Global) -> Result<Modules, Fail> {
-        let shop = b"export * from './cart.js';\nexport { total as sum } from './cart.js';\nexport * as cart from './cart.js';\nexport { gone } from './cart.js';\n";
+        let shop =
+            b"export * from './cart.js';\nexport { total as sum } from './cart.js';\nexport * as cart from './cart.js';\nexport { gone } from './cart.js';\n";
         let cart = b"export function total() {}\nexport default 'cart';\n";
         let mut modules = Vec::new(alloc);
-        for (text, targets) in [(shop.as_slice(), [1].as_slice()), (cart.as_slice(), [].as_slice())] {
+        for (text, targets) in [
+            (shop.as_slice(), [1].as_slice()),
+            (cart.as_slice(), [].as_slice()),
+        ] {
             let bytes = Vec::from_slice(alloc, text)?;
             match Module::read(alloc, bytes, Vec::from_slice(alloc, targets)?) {
                 Ok(module) => modules.push(module)?,

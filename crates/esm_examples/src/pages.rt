@@ -148,7 +148,7 @@ pub fn run_on_page<R: Threads + Wait + Sync>(
     requires room { page.old.faults < 2 ^ 64 - 1 }
     ensures standard { (c : Command) → command_of (map string_bytes words.now) ≡ Some c → c.map ≡ None
         → IfOk result (λ report. IsStandard no_maps c.entry (arrivals_of report.taken.items)
-            report.status (change_of (λ (p : PageParts). Some p.text) (λ p. p.faults) page.old page.new)) }
+        report.status (change_of (λ (p : PageParts). Some p.text) (λ p. p.faults) page.old page.new)) }
 {
     let mut desk = OpenText::new(alloc, Text::copy(alloc, "")?, Vec::new(alloc));
     let mut sources = Vec::new(alloc);
@@ -178,9 +178,27 @@ mod tests {
     fn an_open_text_runs(rt: HostRuntime) -> Result<(), Fail> {
         let alloc = rt.alloc();
         let rows = [
-            ("print('one');\nprint('two');\n", 100, "one\ntwo\n", Status::Fulfilled, 0),
-            ("print('one');\nprint('two');\n", 5, "one\nt", Status::WriteFault, 1),
-            ("import './other.js';\n", 100, UNCAUGHT, Status::EntryFailed, 0),
+            (
+                "print('one');\nprint('two');\n",
+                100,
+                "one\ntwo\n",
+                Status::Fulfilled,
+                0,
+            ),
+            (
+                "print('one');\nprint('two');\n",
+                5,
+                "one\nt",
+                Status::WriteFault,
+                1,
+            ),
+            (
+                "import './other.js';\n",
+                100,
+                UNCAUGHT,
+                Status::EntryFailed,
+                0,
+            ),
         ];
         for (text, room, wanted, status, faults) in rows {
             let url = Text::copy(alloc, "https://a.test/main.js")?;
