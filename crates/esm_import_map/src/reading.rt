@@ -31,7 +31,8 @@ fn json_of(alloc: Global, bytes: &[u8]) -> Result<Option<Value>, Memory>
 
 // The key under which an entry is kept, if it is.
 fn normalized_key(alloc: Global, base: &Url, key: &str) -> Result<Option<String>, Memory>
-    ensures { IfOk result (λ kept. option_map string_bytes kept ≡ spec.normalized_key base.now key.now) }
+    ensures { IfOk result (λ kept.
+        option_map string_bytes kept ≡ spec.normalized_key base.now key.now) }
 {
     if key.is_empty() {
         return Ok(None);
@@ -66,7 +67,10 @@ fn enter(
     value: &Value,
     map: &mut SpecifierMap,
 ) -> Result<bool, Memory>
-    ensures { IfOk result (λ fresh. spec.with_entry (spec.normalized_key base.now key.now) (spec.address_of base.now key.now (view value.now)) map.old ≡ (if fresh then Some map.new else None)) }
+    ensures { let kept = spec.normalized_key base.now key.now in
+        let address = spec.address_of base.now key.now (view value.now) in
+        IfOk result (λ fresh.
+        spec.with_entry kept address map.old ≡ (if fresh then Some map.new else None)) }
 {
     let Some(kept) = normalized_key(alloc, base, key)? else {
         return Ok(true);
@@ -81,7 +85,8 @@ fn read_specifiers(
     base: &Url,
     members: &Map<String, Value>,
 ) -> Result<Option<SpecifierMap>, Memory>
-    ensures { IfOk result (λ map. map ≡ spec.normalized base.now (members_view members.now.entries) []) }
+    ensures { IfOk result (λ map.
+        map ≡ spec.normalized base.now (members_view members.now.entries) []) }
 {
     let mut map = TextMap::empty(alloc);
     for (key, value) in members.iter() {
@@ -94,7 +99,8 @@ fn read_specifiers(
 
 // The specifier map of a scope.
 fn read_scope(alloc: Global, base: &Url, value: &Value) -> Result<Option<SpecifierMap>, Memory>
-    ensures { IfOk result (λ map. map ≡ spec.normalized base.now (spec.members_in (view value.now)) []) }
+    ensures { IfOk result (λ map.
+        map ≡ spec.normalized base.now (spec.members_in (view value.now)) []) }
 {
     match value.as_object() {
         Some(members) => read_specifiers(alloc, base, members),
@@ -110,7 +116,10 @@ fn enter_scope(
     value: &Value,
     scopes: &mut TextMap<SpecifierMap>,
 ) -> Result<bool, Memory>
-    ensures { IfOk result (λ fresh. spec.with_scope (url_of (Some base.now) prefix.now) (spec.normalized base.now (spec.members_in (view value.now)) []) scopes.old ≡ (if fresh then Some scopes.new else None)) }
+    ensures { let map = spec.normalized base.now (spec.members_in (view value.now)) [] in
+        IfOk result (λ fresh.
+        spec.with_scope (url_of (Some base.now) prefix.now) map scopes.old
+        ≡ (if fresh then Some scopes.new else None)) }
 {
     let Some(url) = parse_against(base, prefix)? else {
         return Ok(true);
@@ -128,7 +137,8 @@ fn read_scopes(
     base: &Url,
     members: &Map<String, Value>,
 ) -> Result<Option<TextMap<SpecifierMap>>, Memory>
-    ensures { IfOk result (λ scopes. scopes ≡ spec.normalized_scopes base.now (members_view members.now.entries) []) }
+    ensures { IfOk result (λ scopes.
+        scopes ≡ spec.normalized_scopes base.now (members_view members.now.entries) []) }
 {
     let mut scopes = TextMap::empty(alloc);
     for (prefix, value) in members.iter() {
@@ -157,7 +167,8 @@ fn part_of<'a>(
     none: &'a Map<String, Value>,
 ) -> Option<&'a Map<String, Value>>
     requires { none.now.entries ≡ [] }
-    ensures { option_map (λ m. members_view m.now.entries) result ≡ spec.part_of (option_map (λ v. view v.now) part.entry) }
+    ensures { option_map (λ m. members_view m.now.entries) result
+        ≡ spec.part_of (option_map (λ v. view v.now) part.entry) }
 {
     match part {
         Some(value) => value.as_object(),
@@ -172,7 +183,9 @@ fn read_parts(
     imports: Option<&Value>,
     scopes: Option<&Value>,
 ) -> Result<ImportMap, MapReadEnd>
-    ensures { Gives result (spec.of_parts base.now (spec.part_of (option_map (λ v. view v.now) imports.entry)) (spec.part_of (option_map (λ v. view v.now) scopes.entry))) }
+    ensures { Gives result (spec.of_parts base.now
+        (spec.part_of (option_map (λ v. view v.now) imports.entry))
+        (spec.part_of (option_map (λ v. view v.now) scopes.entry))) }
 {
     let none = Map::new(alloc);
     let Some(imports) = part_of(imports, &none) else {
