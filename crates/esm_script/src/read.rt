@@ -14,7 +14,8 @@ use std::sync::Arc;
 
 // The tree that the bytes spell, to be shared. It keeps no room for further parts.
 fn shared_tree(alloc: Global, bytes: &[u8]) -> Result<Arc<Tree>, ReadEnd>
-    ensures { MatchResult result (λ tree. Spells bytes.now (arc_value tree).items) (IsRefusedFor bytes.now) }
+    ensures { MatchResult result
+        (λ tree. Spells bytes.now (arc_value tree).items) (IsRefusedFor bytes.now) }
 {
     match parse(alloc, bytes) {
         Ok(mut tree) => {
