@@ -23,7 +23,6 @@ pub struct Script {
 impl Model for Script {
     ghost use Rattle.std.specs.Prelude.{◌≡◌};
     ghost use Rattle.esm_ast.specs.Script.{ScriptParts, script_parts};
-    ghost use Rattle.esm_base.specs.declared.limits.TheConstants.{MAX_FILE_BYTES};
     ghost use Rattle.esm_grammar.specs.ModuleText.{Spells};
     ghost use Rattle.esm_ast.specs.Entries.{entries_of};
     ghost use Rattle.std.specs.Coded.{codes};
