@@ -1,3 +1,2 @@
 pub mod Fetches
 pub mod Inner
-pub mod Pages

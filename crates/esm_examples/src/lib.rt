@@ -4,4 +4,3 @@
 pub mod exports;
 pub mod fetches;
 pub mod import_maps;
-pub mod pages;
