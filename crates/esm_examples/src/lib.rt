@@ -4,3 +4,4 @@
 pub mod exports;
 pub mod fetches;
 pub mod import_maps;
+pub mod pages;
