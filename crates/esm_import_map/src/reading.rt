@@ -8,22 +8,10 @@ ghost use Rattle.esm_base.specs.Urls.{url_of};
 use crate::fault::{MapFault, MapReadEnd};
 use crate::import_map::{ImportMap, SpecifierMap};
 use crate::specifier::{ends_in_slash, url_like};
-use esm_base::{MAX_FILE_BYTES, Memory, TextMap, parse_against};
+use esm_base::{MAX_FILE_BYTES, Memory, TextMap, parse_against, without_mark};
 use serde_json::{Category, Map, Value};
 use std::alloc::Global;
 use url::Url;
-
-// The text without a byte order mark at its front.
-fn without_mark(bytes: &[u8]) -> &[u8]
-    ensures { result.now ≡ spec.without_mark bytes.now }
-{
-    if bytes.starts_with(b"\xEF\xBB\xBF") {
-        let (_, text) = bytes.split_at(3);
-        text
-    } else {
-        bytes
-    }
-}
 
 // The JSON value that a text is, if it is one.
 fn json_of(alloc: Global, bytes: &[u8]) -> Result<Option<Value>, Memory>

@@ -39,8 +39,8 @@ fn fetch_map<S: Source>(
     base: &Url,
 ) -> Result<ImportMap, End<MapRefusal>>
     ensures comes { FetchesMap result base.now url.now
-        (spec.desk_change S.asked S.holds desk.asked_before desk.asked_after) }
-    ensures holds { S.holds desk.asked_after ≡ S.holds desk.asked_before }
+        (spec.desk_change S.asked S.holds desk.old desk.new) }
+    ensures holds { S.holds desk.new ≡ S.holds desk.old }
 {
     match desk.fetch(alloc, url.as_str()) {
         Ok(body) => read_map(alloc, &body, base),
@@ -58,8 +58,8 @@ pub(crate) fn map_of<S: Source>(
     command: &Command,
 ) -> Result<ImportMap, End<MapRefusal>>
     ensures comes { GivesMapOf result command.now
-        (spec.desk_change S.asked S.holds desk.asked_before desk.asked_after) }
-    ensures holds { S.holds desk.asked_after ≡ S.holds desk.asked_before }
+        (spec.desk_change S.asked S.holds desk.old desk.new) }
+    ensures holds { S.holds desk.new ≡ S.holds desk.old }
 {
     match &command.map {
         Some(url) => fetch_map(alloc, desk, url, &command.base),

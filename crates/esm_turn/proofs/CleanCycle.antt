@@ -87,9 +87,9 @@ clean : IsClean no_maps cycle_files main_url
 unfolding IsSpelled
 clean = record {
   spelled = λ u c. each IsSpelled
-      (record { script = _; urls = a_url ∷ b_url ∷ []; file = refl; built = refl; resolves = main_resolves })
-      (record { script = _; urls = b_url ∷ []; file = refl; built = refl; resolves = a_resolves })
-      (record { script = _; urls = main_url ∷ []; file = refl; built = refl; resolves = b_resolves })
+      (record { text = _; urls = a_url ∷ b_url ∷ []; file = refl; built = refl; resolves = main_resolves })
+      (record { text = _; urls = b_url ∷ []; file = refl; built = refl; resolves = a_resolves })
+      (record { text = _; urls = main_url ∷ []; file = refl; built = refl; resolves = b_resolves })
       u (reached u c);
 }
 

@@ -180,7 +180,7 @@ turn_phase {w} {u} {c} (Turn.turn live t) q = tasks_phase t (quiet (settled_kept
 
 runs_phase : (ds : List Delivery) (w a : World) → Runs w ds a → Phase w → Phase a
 runs_phase [] w a r p = subst Phase (sym r) p
-runs_phase (d ∷ ds) w a r p = runs_phase ds r.1 a r.3 (turn_phase r.2 (asks_quiet w d.0 p r.0))
+runs_phase (d ∷ ds) w a r p = runs_phase ds r.1 a r.3 (turn_phase r.2 (asks_quiet w d.url p r.0))
 
 opening_kept : (maps : Maps) (entry : Url) → IsKept (opening maps entry)
 opening_kept maps entry = record {

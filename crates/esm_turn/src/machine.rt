@@ -46,9 +46,9 @@ impl Model for Machine {
 
     ghost coded = { Prim.hlevel (codes, maps.code, maps_code, coded_item) };
 
-    ghost use Rattle.esm_turn.specs.Inner.Parts.{PartsAgreeUnless, loading_in};
+    ghost use Rattle.esm_turn.specs.Inner.Parts.{PartsAgreeUnless, parts_loading};
 
-    ghost view = { λ m. record { loading = loading_in m.parts; log = m.parts.engine.log.items; steps = m.parts.engine.steps; stopped = m.stopped } };
+    ghost view = { λ m. record { loading = parts_loading m.parts; log = m.parts.engine.log.items; steps = m.parts.engine.steps; stopped = m.stopped } };
 
     ghost invariant = { λ m. PartsAgreeUnless m.stopped m.parts };
 }
