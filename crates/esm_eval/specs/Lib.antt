@@ -1,0 +1,6 @@
+pub mod Nodes
+pub mod Evaluation
+pub mod Evaluate
+pub mod BodyEnd
+pub mod Waiting
+pub mod Laws

@@ -1,0 +1,6 @@
+//! Evaluation of modules, as definitions with their laws.
+#![tactic(auto)]
+
+pub mod laws;
+
+pub use laws::AnyWorld;
