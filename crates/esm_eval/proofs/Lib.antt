@@ -1,1 +1,3 @@
 pub mod OneEvaluation
+pub mod SmallWorlds
+pub mod runs

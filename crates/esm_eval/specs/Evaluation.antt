@@ -120,18 +120,18 @@ module _ {N V W : Type 0} (E : Evaluation N V W) where
     pub fulfill : (w : W) (p : ℕ) → IsAlike w (E.fulfill w p)
     pub reject : (w : W) (p : ℕ) (v : V) → IsAlike w (E.reject w p v)
 
+  pub record IsSteadyCall (w : W) (m : N) (v : W) : Type 0 where
+    pub nodes : (x : N) → E.node v x ≡ E.node w x
+    pub stamps : E.stamps v ≡ E.stamps w
+    pub starts : E.begun v m ≡ true
+    pub begun : (x : N) → E.begun w x ≡ true → E.begun v x ≡ true
+    pub awaits : (x : N) → has_begun (phase w x) ≡ true → E.awaits v x ≡ E.awaits w x
+
   module _ {S : Type 0} (acts : Acts N V W S) where
     -- a call for a body has one outcome
     pub record HasOneOutcome : Type 0 where
       pub one : {w x y : W} {c : Call N} {r s : Result (Answer V c) S} → acts w c r x → acts w c s y → (s ≡ r) × (y ≡ x)
 
-    pub record IsSteadyCall (w : W) (m : N) (v : W) : Type 0 where
-      pub nodes : (x : N) → E.node v x ≡ E.node w x
-      pub stamps : E.stamps v ≡ E.stamps w
-      pub starts : E.begun v m ≡ true
-      pub begun : (x : N) → E.begun w x ≡ true → E.begun v x ≡ true
-      pub awaits : (x : N) → has_begun (phase w x) ≡ true → E.awaits v x ≡ E.awaits w x
-
     -- a call for a body begins it, and writes nothing that evaluation writes. It may load modules, whose evaluation hasn't begun
     pub record IsSteady : Type 0 where
-      pub call : {w v : W} {c : Call N} {r : Result (Answer V c) S} → acts w c r v → IsSteadyCall w (module_of c) v
+      pub call : (w v : W) (c : Call N) (r : Result (Answer V c) S) → acts w c r v → IsSteadyCall w (module_of c) v

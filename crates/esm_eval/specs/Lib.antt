@@ -4,3 +4,5 @@ pub mod Evaluate
 pub mod BodyEnd
 pub mod Waiting
 pub mod Laws
+pub mod SmallWorld
+pub mod Examples
