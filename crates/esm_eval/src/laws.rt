@@ -1,5 +1,5 @@
 // Laws of the definitions, as functions without effect.
-ghost use Rattle.esm_eval.specs.Laws.{OneEvaluation};
+ghost use Rattle.esm_eval.specs.Laws.{OneEvaluation, WaitsStayOpen};
 
 /// A world of any kind, with a relation for what the calls for bodies do in it. The laws range over all of them.
 pub trait AnyWorld {
@@ -24,4 +24,9 @@ pub trait AnyWorld {
 /// Where each call for a body has one outcome, an evaluation has one, and so has what follows the end of a body.
 pub fn one_evaluation<A: AnyWorld>()
     ensures { OneEvaluation A.evaluation A.acts }
+{}
+
+/// Between two calls of evaluation a module that waits has a wait that isn't done.
+pub fn waits_stay_open<A: AnyWorld>()
+    ensures { WaitsStayOpen A.evaluation A.acts }
 {}
