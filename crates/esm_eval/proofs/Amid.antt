@@ -1,12 +1,13 @@
 -- What holds amid a walk of evaluation, and what keeps it.
 use Rattle.std.proofs.Common.{◌≡◌, ◌≢◌, ℕ, Bool, true, false, List, [], ◌∷◌, ◌++◌, Option, Some, None, refl, ap, subst, sym, ◌∙◌, inl, inr}
-use Rattle.std.specs.Prelude.{◌⊎◌, ◌||◌, cond}
+use Rattle.std.specs.Prelude.{◌⊎◌, ◌||◌, if◌then◌else◌}
+use Rattle.std.specs.Option.{unwrap_or}
 use Rattle.esm_realm.specs.Walk.{is_in}
 use Rattle.esm_realm.proofs.Urls.{cases, not_true, not_both, or_true, or_left}
 use Rattle.esm_realm.proofs.Lists as lists
 use Rattle.esm_realm.proofs.Lists.{either}
 use Rattle.esm_eval.specs.Nodes.{Phase, NotBegun, Evaluating, EvaluatingAsync, Evaluated, has_begun, Node}
-use Rattle.esm_eval.specs.Evaluation.{Evaluation, IsLawful, IsAlike, IsStamped, phase, waits, waiters, is_done, is_stamped, root_of, or_itself, put_wait, put_waiter, add_wait, wait_on, wait_by}
+use Rattle.esm_eval.specs.Evaluation.{Evaluation, IsLawful, IsAlike, IsStamped, phase, waits, waiters, is_done, is_stamped, root_of, put_wait, put_waiter, add_wait, wait_on, wait_by}
 use Rattle.esm_eval.specs.Evaluate.{enter, closed_phase, close, fail, keep}
 use Rattle.esm_eval.specs.Waiting.{HasOpenWait, IsBetweenCalls}
 
@@ -83,7 +84,7 @@ module _ {N V W : Type 0} (E : Evaluation N V W) where
   }
 
   pub root_error_like : (w v : W) → IsLike w v → (x : N) → root_error v x ≡ root_error w x
-  root_error_like w v l x = l.errors (root_of E v x) ∙ ap (λ r. (E.node w (or_itself x r)).error) (l.roots x)
+  root_error_like w v l x = l.errors (root_of E v x) ∙ ap (λ r. (E.node w (unwrap_or r x)).error) (l.roots x)
 
   pub begun_before : (w v : W) → HasGrown w v → (x : N) → E.begun v x ≡ false → E.begun w x ≡ false
   begun_before w v g x h = not_true (E.begun w x) (λ k. not_both (E.begun v x) (g.begun x k) h)

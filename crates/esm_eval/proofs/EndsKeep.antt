@@ -1,11 +1,12 @@
 -- What follows the end of a body keeps what holds between calls.
 use Rattle.std.proofs.Common.{◌≡◌, ◌≢◌, ℕ, Bool, true, false, List, [], ◌∷◌, ◌++◌, Option, Some, None, refl, ap, subst, sym, ◌∙◌, inl, inr}
 use Rattle.std.specs.Prelude.{◌⊎◌, Result, Ok, Err}
+use Rattle.std.specs.Option.{unwrap_or}
 use Rattle.esm_realm.specs.Walk.{is_in}
 use Rattle.esm_realm.proofs.Urls.{cases, not_true, not_both}
 use Rattle.esm_realm.proofs.Lists.{either, in_first, in_later, in_cons}
 use Rattle.esm_eval.specs.Nodes.{Phase, NotBegun, Evaluating, EvaluatingAsync, Evaluated, has_begun, Node, Acts}
-use Rattle.esm_eval.specs.Evaluation.{Evaluation, IsLawful, IsSteady, IsSteadyCall, IsAlike, phase, waits, waiters, is_done, is_stamped, root_of, or_itself, fulfill_kept, reject_kept}
+use Rattle.esm_eval.specs.Evaluation.{Evaluation, IsLawful, IsSteady, IsSteadyCall, IsAlike, phase, waits, waiters, is_done, is_stamped, root_of, fulfill_kept, reject_kept}
 use Rattle.esm_eval.specs.Evaluate.{Ends, Throws, StartsBody, RunsBody}
 use Rattle.esm_eval.specs.BodyEnd.{IsReady, AreOver, ReadyAmong, Rejects, RejectsAll, GoOn, Fulfills, finish, refuse}
 use Rattle.esm_eval.specs.Waiting.{HasOpenWait, IsBetweenCalls}
@@ -61,7 +62,7 @@ module _ {N V W : Type 0} (E : Evaluation N V W) where
   later_same w = later_nodes w w (λ y. refl) (record { stamps = refl; begun = λ y h. h }) (λ y h. refl)
 
   root_error_back : (w v : W) → Later w v → (x : N) → root_error E v x ≡ None → root_error E w x ≡ None
-  root_error_back w v l x h = l.errors (root_of E w x) (sym (ap (λ r. (E.node v (or_itself x r)).error) (l.roots x)) ∙ h)
+  root_error_back w v l x h = l.errors (root_of E w x) (sym (ap (λ r. (E.node v (unwrap_or r x)).error) (l.roots x)) ∙ h)
 
   -- all that wait for y are Evaluated in v
   abbrev AllOver : W → W → N → Type 0

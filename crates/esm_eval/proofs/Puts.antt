@@ -1,13 +1,14 @@
 -- What each write of evaluation keeps amid a walk.
 use Rattle.std.proofs.Common.{◌≡◌, ◌≢◌, ℕ, Bool, true, false, List, [], ◌∷◌, ◌++◌, Option, Some, None, refl, ap, subst, sym, ◌∙◌, inl, inr}
-use Rattle.std.specs.Prelude.{◌⊎◌, ◌||◌, cond}
+use Rattle.std.specs.Prelude.{◌⊎◌, ◌||◌, if◌then◌else◌}
+use Rattle.std.specs.Option.{unwrap_or}
 use Rattle.esm_realm.specs.Walk.{is_in}
 use Rattle.esm_realm.specs.Components.{opened_before, opened_from, before_by, onwards_by}
 use Rattle.esm_realm.proofs.Urls.{cases, not_true, not_both, or_true, or_left}
 use Rattle.esm_realm.proofs.Lists as lists
 use Rattle.esm_realm.proofs.Lists.{either}
 use Rattle.esm_eval.specs.Nodes.{Phase, NotBegun, Evaluating, EvaluatingAsync, Evaluated, has_begun, Node}
-use Rattle.esm_eval.specs.Evaluation.{Evaluation, IsLawful, IsAlike, phase, waits, waiters, is_done, is_stamped, root_of, or_itself, put_wait, put_waiter, add_wait, wait_on, wait_by}
+use Rattle.esm_eval.specs.Evaluation.{Evaluation, IsLawful, IsAlike, phase, waits, waiters, is_done, is_stamped, root_of, put_wait, put_waiter, add_wait, wait_on, wait_by}
 use Rattle.esm_eval.specs.Evaluate.{enter, closed_phase, close, fail, keep}
 use Rattle.esm_eval.specs.Waiting.{HasOpenWait}
 use Rattle.esm_eval.proofs.Amid.{In, Amid, IsLike, HasGrown, HasWait, root_error, in_like, some_is, not_begun}
@@ -18,9 +19,9 @@ module _ {N V W : Type 0} (E : Evaluation N V W) (L : IsLawful E) where
   put_at w x n y = by (cases (E.same y x)) (cases (E.same x y))
     where
       by : (E.same y x ≡ true) ⊎ (E.same y x ≡ false) → (E.same x y ≡ true) ⊎ (E.same x y ≡ false) → ((y ≡ x) × (E.node (E.put w x n) y ≡ n)) ⊎ ((E.same y x ≡ false) × (E.node (E.put w x n) y ≡ E.node w y))
-      by (inl h) q = let e : y ≡ x = L.equal y x h in inl (e, (L.put w x n).node y ∙ ap (λ b. cond b n (E.node w y)) (subst (λ z. E.same x z ≡ true) (sym e) (L.own x)))
+      by (inl h) q = let e : y ≡ x = L.equal y x h in inl (e, (L.put w x n).node y ∙ ap (λ b. if b then n else E.node w y) (subst (λ z. E.same x z ≡ true) (sym e) (L.own x)))
       by (inr h) (inl k) = let e : x ≡ y = L.equal x y k in absurd (not_both (E.same y x) (subst (λ z. E.same z x ≡ true) e (L.own x)) h)
-      by (inr h) (inr k) = inr (h, (L.put w x n).node y ∙ ap (λ b. cond b n (E.node w y)) k)
+      by (inr h) (inr k) = inr (h, (L.put w x n).node y ∙ ap (λ b. if b then n else E.node w y) k)
 
   pub same_field : {A : Type 0} (f : Node N V → A) (w : W) (x : N) (n : Node N V) → f n ≡ f (E.node w x) → (y : N) → f (E.node (E.put w x n) y) ≡ f (E.node w y)
   same_field f w x n e y = by (put_at w x n y)
@@ -117,7 +118,7 @@ module _ {N V W : Type 0} (E : Evaluation N V W) (L : IsLawful E) where
       none y z e k = let empty : In E [] z = subst (λ zs. In E zs z) (a.free x fresh) (subst (λ v. In E (waits E w v) z) e k) in cc
 
       error : (y : N) → root_error E (E.put w x n) y ≡ root_error E w y
-      error y = same_field (λ m. m.error) w x n refl (root_of E (E.put w x n) y) ∙ ap (λ r. (E.node w (or_itself y r)).error) (same_field (λ m. m.cycle_root) w x n refl y)
+      error y = same_field (λ m. m.error) w x n refl (root_of E (E.put w x n) y) ∙ ap (λ r. (E.node w (unwrap_or r y)).error) (same_field (λ m. m.cycle_root) w x n refl y)
 
   -- one module of the stack is closed
   close_one : (w : W) (bs ys : List N) (x y : N) → Amid E w (bs ++ y ∷ ys) → Amid E (E.put w y (record (E.node w y) { phase = closed_phase E (is_stamped E w y); cycle_root = Some x })) (bs ++ ys)
@@ -175,7 +176,7 @@ module _ {N V W : Type 0} (E : Evaluation N V W) (L : IsLawful E) where
       mine b s = either (a.moves y here s) (λ k. absurd (not_both (E.begun w y) k (begun_back w y n refl refl refl y b))) (λ k. open_wait w y n refl refl refl y (k.0, k.1, a.shut y k.0 here k.1))
 
       error : (z : N) → E.node (E.put w y n) z ≡ E.node w z → root_error E (E.put w y n) z ≡ root_error E w z
-      error z e = same_field (λ m. m.error) w y n refl (root_of E (E.put w y n) z) ∙ ap (λ m. (E.node w (or_itself z m.cycle_root)).error) e
+      error z e = same_field (λ m. m.error) w y n refl (root_of E (E.put w y n) z) ∙ ap (λ m. (E.node w (unwrap_or m.cycle_root z)).error) e
 
   close_all : (bs : List N) (x : N) (ys : List N) (w : W) → Amid E w (bs ++ ys) → Amid E (close E w x ys) (bs ++ [])
   close_all bs x [] w a = a
@@ -270,7 +271,7 @@ module _ {N V W : Type 0} (E : Evaluation N V W) (L : IsLawful E) where
       error_at r e = either (at r) (λ q. let k = sym (ap (λ m. m.error) q.1) ∙ e in cc) (λ q. sym (ap (λ m. m.error) q.1) ∙ e)
 
       error : (z : N) → E.node (E.put w y n) z ≡ E.node w z → root_error E (E.put w y n) z ≡ None → root_error E w z ≡ None
-      error z e h = error_at (root_of E w z) (sym (ap (λ m. (E.node (E.put w y n) (or_itself z m.cycle_root)).error) e) ∙ h)
+      error z e h = error_at (root_of E w z) (sym (ap (λ m. (E.node (E.put w y n) (unwrap_or m.cycle_root z)).error) e) ∙ h)
 
   pub amid_fail : (ys : List N) (w : W) (v : V) → Amid E w ys → Amid E (fail E w v ys) []
   amid_fail [] w v a = a
@@ -318,7 +319,7 @@ module _ {N V W : Type 0} (E : Evaluation N V W) (L : IsLawful E) where
 
       error : (z : N) → root_error E v z ≡ root_error E w z
       error z = (same_field (λ m. m.error) u y k refl (root_of E v z) ∙ same_field (λ m. m.error) w x n refl (root_of E v z))
-          ∙ ap (λ r. (E.node w (or_itself z r)).error) (same_field (λ m. m.cycle_root) u y k refl z ∙ same_field (λ m. m.cycle_root) w x n refl z)
+          ∙ ap (λ r. (E.node w (unwrap_or r z)).error) (same_field (λ m. m.cycle_root) u y k refl z ∙ same_field (λ m. m.cycle_root) w x n refl z)
 
       at : (z : N) → ((z ≡ x) × (waits E v z ≡ waits E w x ++ y ∷ [])) ⊎ (waits E v z ≡ waits E w z)
       at z = either (put_at w x n z) (λ q. inl (q.0, same_field (λ m. m.waits) u y k refl z ∙ ap (λ m. m.waits) q.1)) (λ q. inr (same_field (λ m. m.waits) u y k refl z ∙ ap (λ m. m.waits) q.1))

@@ -1,6 +1,6 @@
 -- The world of the examples meets the conditions of the laws.
 use Rattle.std.proofs.Common.{◌≡◌, Bool, true, false, List, [], ◌∷◌, refl, subst, sym}
-use Rattle.std.specs.Prelude.{◌||◌, cond, Result}
+use Rattle.std.specs.Prelude.{◌||◌, if◌then◌else◌, Result}
 use Rattle.std.specs.List.{list_any}
 use Rattle.esm_realm.proofs.Urls.{or_left}
 use Rattle.esm_realm.proofs.Lists.{in_first, in_left, in_right}
@@ -33,7 +33,7 @@ equal D B h = cc
 equal D C h = cc
 equal D D h = refl
 
-read_back : (ns : Nodes) (x : Name) (n : Node Name Name) (y : Name) → node_at (with_node ns x n) y ≡ cond (same_name x y) n (node_at ns y)
+read_back : (ns : Nodes) (x : Name) (n : Node Name Name) (y : Name) → node_at (with_node ns x n) y ≡ if same_name x y then n else node_at ns y
 read_back ns A n A = refl
 read_back ns A n B = refl
 read_back ns A n C = refl

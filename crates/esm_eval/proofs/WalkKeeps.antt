@@ -6,7 +6,8 @@ use Rattle.esm_realm.specs.Walk.{Mark, Enter, Pass, Leave, Visits, is_in}
 use Rattle.esm_realm.specs.Components.{opened_before, opened_from}
 use Rattle.esm_realm.proofs.Urls.{cases, not_true, not_both}
 use Rattle.esm_realm.proofs.Lists.{either, in_first}
-use Rattle.esm_eval.specs.Nodes.{Phase, NotBegun, Evaluating, EvaluatingAsync, Evaluated, has_begun, Node, Acts, Start, Run, Normal, Thrown}
+use Rattle.esm_values.specs.Ran.Ran.{Normal, Thrown}
+use Rattle.esm_eval.specs.Nodes.{Phase, NotBegun, Evaluating, EvaluatingAsync, Evaluated, has_begun, Node, Acts, Start, Run}
 use Rattle.esm_eval.specs.Evaluation.{Evaluation, IsLawful, IsSteady, IsSteadyCall, IsAlike, phase, waits, is_stamped, root_of, add_wait, wait_on}
 use Rattle.esm_eval.specs.Evaluate.{End, Ends, Throws, Stops, StartsBody, RunsBody, Leaves, Marks, Walks, EvaluatesRoot, Evaluates, enter, close, fail, keep, fulfill_by}
 use Rattle.esm_eval.specs.Evaluate.Marks.{done, enters, passes, pass_throws, stays, component, leave_throws, leave_stops}

@@ -3,7 +3,8 @@
 use Rattle.std.specs.Prelude.{◌≡◌, ℕ, Bool, true, false, List, [], ◌∷◌, ◌++◌, slice_get, Some, None, Result, Ok, Err}
 use Rattle.esm_realm.specs.Walk.{Mark, Enter, Pass, Leave, is_in, IsWalkOf}
 use Rattle.esm_realm.specs.Components.{closes, opened_before, opened_from}
-use Rattle.esm_eval.specs.Nodes.{Phase, Evaluating, EvaluatingAsync, Evaluated, has_begun, Start, Run, Acts, Normal, Thrown}
+use Rattle.esm_values.specs.Ran.Ran.{Normal, Thrown}
+use Rattle.esm_eval.specs.Nodes.{Phase, Evaluating, EvaluatingAsync, Evaluated, has_begun, Start, Run, Acts}
 use Rattle.esm_eval.specs.Evaluation.{Evaluation, phase, waits, is_stamped, root_of, error_of, wait_on, add_wait}
 
 -- how a part of an evaluation ends

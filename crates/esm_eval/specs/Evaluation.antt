@@ -1,5 +1,6 @@
 -- What evaluation reads and writes of a world W: any kind of record that has these parts.
-use Rattle.std.specs.Prelude.{◌≡◌, ℕ, Bool, true, false, List, [], ◌∷◌, ◌++◌, cond, Option, Some, None, Result}
+use Rattle.std.specs.Prelude.{◌≡◌, ℕ, Bool, true, false, List, [], ◌∷◌, ◌++◌, if◌then◌else◌, Option, Some, None, Result}
+use Rattle.std.specs.Option.{unwrap_or, option_or}
 use Rattle.esm_realm.specs.Walk.{is_in}
 use Rattle.esm_eval.specs.Nodes.{Phase, Evaluating, has_begun, Node, Call, Answer, Acts, module_of}
 
@@ -28,14 +29,6 @@ pub record Evaluation (N V W : Type 0) : Type 0 where
   pub fulfill : W → ℕ → W
   pub reject : W → ℕ → V → W
 
-abbrev pub or_itself : {N : Type 0} → N → Option N → N
-or_itself m None = m
-or_itself m (Some root) = root
-
-abbrev pub first_error : {V : Type 0} → Option V → Option V → Option V
-first_error (Some v) other = Some v
-first_error None other = other
-
 module _ {N V W : Type 0} (E : Evaluation N V W) where
   abbrev pub phase : W → N → Phase
   phase w x = (E.node w x).phase
@@ -54,11 +47,11 @@ module _ {N V W : Type 0} (E : Evaluation N V W) where
 
   -- [[CycleRoot]] of x. own: x itself where there is none, which a throw in a cycle leaves so
   abbrev pub root_of : W → N → N
-  root_of w x = or_itself x (E.node w x).cycle_root
+  root_of w x = unwrap_or (E.node w x).cycle_root x
 
   -- the error of x, or else that of its cycle root
   abbrev pub error_of : W → N → Option V
-  error_of w x = first_error (E.node w x).error (E.node w (root_of w x)).error
+  error_of w x = option_or (E.node w x).error (E.node w (root_of w x)).error
 
   abbrev pub fulfill_kept : W → Option ℕ → W
   fulfill_kept w None = w
@@ -98,7 +91,7 @@ module _ {N V W : Type 0} (E : Evaluation N V W) where
     pub awaits : (x : N) → E.awaits v x ≡ E.awaits w x
 
   pub record IsPut (w : W) (x : N) (n : Node N V) (v : W) : Type 0 where
-    pub node : (y : N) → E.node v y ≡ cond (E.same x y) n (E.node w y)
+    pub node : (y : N) → E.node v y ≡ if E.same x y then n else E.node w y
     pub stamps : E.stamps v ≡ E.stamps w
     pub begun : (y : N) → E.begun v y ≡ E.begun w y
     pub awaits : (y : N) → E.awaits v y ≡ E.awaits w y

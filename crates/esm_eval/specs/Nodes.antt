@@ -1,5 +1,6 @@
 -- What evaluation keeps of modules. ECMA-262, Cyclic Module Records. Modules have names of any kind N, bodies throw values of any kind V.
 use Rattle.std.specs.Prelude.{ℕ, Bool, true, false, List, [], Option, None, Result}
+use Rattle.esm_values.specs.Ran.{Ran}
 
 -- how far the evaluation of a module has come. The standard's seven values of [[Status]] are read off thus: where evaluation hasn't
 -- begun it is new, unlinked, linking or linked, as loading and linking say; evaluating, evaluating-async and evaluated are the rest
@@ -46,11 +47,6 @@ has_begun _ = true
 pub data Call (N : Type 0) : Type 0 where
   Start : (m : N) (end : ℕ) → Call N
   Run : (m : N) → Call N
-
--- how a body that doesn't await ended
-pub data Ran (V : Type 0) : Type 0 where
-  Normal : Ran V
-  Thrown : (v : V) → Ran V
 
 -- what a call answers: a start nothing, since the promise tells the end
 abbrev pub Answer : {N : Type 0} → Type 0 → Call N → Type 0
