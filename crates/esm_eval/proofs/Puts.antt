@@ -2,8 +2,9 @@
 use Rattle.std.proofs.Common.{◌≡◌, ◌≢◌, ℕ, Bool, true, false, List, [], ◌∷◌, ◌++◌, Option, Some, None, refl, ap, subst, sym, ◌∙◌, inl, inr}
 use Rattle.std.specs.Prelude.{◌⊎◌, ◌||◌, if◌then◌else◌}
 use Rattle.std.specs.Option.{unwrap_or}
+use Rattle.std.proofs.lemmas.List.{append-nil}
 use Rattle.esm_realm.specs.Walk.{is_in}
-use Rattle.esm_realm.specs.Components.{opened_before, opened_from, before_by, onwards_by}
+use Rattle.esm_realm.specs.Components.{opened_before, opened_from}
 use Rattle.esm_realm.proofs.Urls.{cases, not_true, not_both, or_true, or_left}
 use Rattle.esm_realm.proofs.Lists as lists
 use Rattle.esm_realm.proofs.Lists.{either}
@@ -208,28 +209,16 @@ module _ {N V W : Type 0} (E : Evaluation N V W) (L : IsLawful E) where
       begun : (u : N) → has_begun (phase E w u) ≡ true → has_begun (phase E (E.put w y n) u) ≡ true
       begun u k = either (put_at w y n u) (λ q. ap (λ m. has_begun m.phase) q.1 ∙ begins (is_stamped E w y)) (λ q. ap (λ m. has_begun m.phase) q.1 ∙ k)
 
-  split_is : (xs : List N) (x : N) → opened_before E.same xs x ++ opened_from E.same xs x ≡ xs
-  split_is [] x = refl
-  split_is (y ∷ ys) x = by (E.same y x) (split_is ys x)
-    where
-      by : (b : Bool) → opened_before E.same ys x ++ opened_from E.same ys x ≡ ys → before_by E.same b y (opened_before E.same ys x) ++ onwards_by E.same b (y ∷ ys) (opened_from E.same ys x) ≡ y ∷ ys
-      by true e = refl
-      by false e = ap (λ zs. y ∷ zs) e
-
-  nil_is : (xs : List N) → xs ++ [] ≡ xs
-  nil_is [] = refl
-  nil_is (x ∷ xs) = ap (λ ys. x ∷ ys) (nil_is xs)
-
   pub amid_close : (w : W) (opened : List N) (x : N) → Amid E w opened → Amid E (close E w x (opened_from E.same opened x)) (opened_before E.same opened x)
-  amid_close w opened x a = subst (λ o. Amid E (close E w x (opened_from E.same opened x)) o) (nil_is (opened_before E.same opened x))
-      (close_all (opened_before E.same opened x) x (opened_from E.same opened x) w (subst (λ o. Amid E w o) (sym (split_is opened x)) a))
+  amid_close w opened x a = subst (λ o. Amid E (close E w x (opened_from E.same opened x)) o) (append-nil (opened_before E.same opened x))
+      (close_all (opened_before E.same opened x) x (opened_from E.same opened x) w (subst (λ o. Amid E w o) (sym (lists.split_is E.same L.own L.equal opened x)) a))
 
   -- what has begun, and no other module, still has
   pub close_known : (w : W) (opened : List N) (x : N) → Amid E w opened → (z : N) → has_begun (phase E (close E w x (opened_from E.same opened x)) z) ≡ has_begun (phase E w z)
   close_known w opened x a z = by (cases (has_begun (phase E w z)))
     where
       inside : (y : N) → In E (opened_from E.same opened x) y → has_begun (phase E w y) ≡ true
-      inside y h = a.entered y (subst (λ o. In E o y) (split_is opened x) (lists.in_right E.same L.own L.equal (opened_before E.same opened x) (opened_from E.same opened x) y h))
+      inside y h = a.entered y (subst (λ o. In E o y) (lists.split_is E.same L.own L.equal opened x) (lists.in_right E.same L.own L.equal (opened_before E.same opened x) (opened_from E.same opened x) y h))
 
       by : (has_begun (phase E w z) ≡ true) ⊎ (has_begun (phase E w z) ≡ false) → has_begun (phase E (close E w x (opened_from E.same opened x)) z) ≡ has_begun (phase E w z)
       by (inl h) = close_begun x (opened_from E.same opened x) w z h ∙ sym h

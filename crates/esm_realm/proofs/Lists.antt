@@ -88,3 +88,11 @@ module _ {N : Type 0} (same : N → N → Bool) (own : (x : N) → same x x ≡ 
       other : (same y x ≡ true) ⊎ (same y x ≡ false) → same y x ≡ false
       other (inl e) = absurd (not_both (same x y) (subst (λ z. same x z ≡ true) (sym (equal y x e)) (own x)) (or_false (same x y) _ h).0)
       other (inr e) = e
+
+  pub split_is : (opened : List N) (x : N) → opened_before same opened x ++ opened_from same opened x ≡ opened
+  split_is [] x = refl
+  split_is (y ∷ ys) x = by (same y x) (split_is ys x)
+    where
+      by : (b : Bool) → opened_before same ys x ++ opened_from same ys x ≡ ys → before_by same b y (opened_before same ys x) ++ onwards_by same b (y ∷ ys) (opened_from same ys x) ≡ y ∷ ys
+      by true e = refl
+      by false e = ap (λ zs. y ∷ zs) e
