@@ -1,14 +1,13 @@
 -- What holds amid a walk of evaluation, and what keeps it.
-use Rattle.std.proofs.Common.{◌≡◌, ◌≢◌, ℕ, Bool, true, false, List, [], ◌∷◌, ◌++◌, Option, Some, None, refl, ap, subst, sym, ◌∙◌, inl, inr}
-use Rattle.std.specs.Prelude.{◌⊎◌, ◌||◌, if◌then◌else◌}
+use Rattle.std.proofs.Common.{◌≡◌, true, false, List, [], ◌∷◌, ◌++◌, Option, Some, None, refl, ap, subst, sym, ◌∙◌, inl, inr}
+use Rattle.std.specs.Prelude.{◌⊎◌}
 use Rattle.std.specs.Option.{unwrap_or}
 use Rattle.esm_realm.specs.Walk.{is_in}
-use Rattle.esm_realm.proofs.Urls.{cases, not_true, not_both, or_true, or_left}
+use Rattle.esm_realm.proofs.Urls.{not_true, not_both}
 use Rattle.esm_realm.proofs.Lists as lists
 use Rattle.esm_realm.proofs.Lists.{either}
-use Rattle.esm_eval.specs.Nodes.{Phase, NotBegun, Evaluating, EvaluatingAsync, Evaluated, has_begun, Node}
-use Rattle.esm_eval.specs.Evaluation.{Evaluation, IsLawful, IsAlike, IsStamped, phase, waits, waiters, is_done, is_stamped, root_of, put_wait, put_waiter, add_wait, wait_on, wait_by}
-use Rattle.esm_eval.specs.Evaluate.{enter, closed_phase, close, fail, keep}
+use Rattle.esm_eval.specs.Nodes.{Phase, NotBegun, Evaluating, EvaluatingAsync, Evaluated, has_begun}
+use Rattle.esm_eval.specs.Evaluation.{Evaluation, IsLawful, IsAlike, phase, waits, waiters, is_done, is_stamped, root_of}
 use Rattle.esm_eval.specs.Waiting.{HasOpenWait, IsBetweenCalls}
 
 pub not_begun : (p : Phase) → has_begun p ≡ false → p ≡ NotBegun

@@ -1,11 +1,11 @@
 -- What follows the end of a body keeps what holds between calls.
-use Rattle.std.proofs.Common.{◌≡◌, ◌≢◌, ℕ, Bool, true, false, List, [], ◌∷◌, ◌++◌, Option, Some, None, refl, ap, subst, sym, ◌∙◌, inl, inr}
-use Rattle.std.specs.Prelude.{◌⊎◌, Result, Ok, Err}
+use Rattle.std.proofs.Common.{◌≡◌, ℕ, true, false, List, [], ◌∷◌, Option, Some, None, refl, ap, subst, sym, ◌∙◌, inl, inr}
+use Rattle.std.specs.Prelude.{◌⊎◌, Ok}
 use Rattle.std.specs.Option.{unwrap_or}
 use Rattle.esm_realm.specs.Walk.{is_in}
 use Rattle.esm_realm.proofs.Urls.{cases, not_true, not_both}
 use Rattle.esm_realm.proofs.Lists.{either, in_first, in_later, in_cons}
-use Rattle.esm_eval.specs.Nodes.{Phase, NotBegun, Evaluating, EvaluatingAsync, Evaluated, has_begun, Node, Acts}
+use Rattle.esm_eval.specs.Nodes.{NotBegun, EvaluatingAsync, Evaluated, has_begun, Node, Acts}
 use Rattle.esm_eval.specs.Evaluation.{Evaluation, IsLawful, IsSteady, IsSteadyCall, IsAlike, phase, waits, waiters, is_done, is_stamped, root_of, fulfill_kept, reject_kept}
 use Rattle.esm_eval.specs.Evaluate.{Ends, Throws, StartsBody, RunsBody}
 use Rattle.esm_eval.specs.BodyEnd.{IsReady, AreOver, ReadyAmong, Rejects, RejectsAll, GoOn, Fulfills, finish, refuse}
@@ -353,7 +353,7 @@ module _ {N V W S : Type 0} (E : Evaluation N V W) (acts : Acts N V W S) (L : Is
         by (inl h) = h
         by (inr d) = absurd (went_off x a s (ready_among E L r x stamped
             (IsReady.ready stamped (async_before E L went.later x a) (begun_before E L went.later x s) (root_error_back E mid v went.later x e)
-              (are_over x a (waits E mid x) (λ y h. d y (in_like E y (sym (went.later.all_waits x)) h)) joined))))
+            (are_over x a (waits E mid x) (λ y h. d y (in_like E y (sym (went.later.all_waits x)) h)) joined))))
 
     went_keeps : IsBetweenCalls E v
     went_keeps = between_later E L w v whole b waiting

@@ -1,18 +1,18 @@
 -- What each write of evaluation keeps amid a walk.
-use Rattle.std.proofs.Common.{◌≡◌, ◌≢◌, ℕ, Bool, true, false, List, [], ◌∷◌, ◌++◌, Option, Some, None, refl, ap, subst, sym, ◌∙◌, inl, inr}
-use Rattle.std.specs.Prelude.{◌⊎◌, ◌||◌, if◌then◌else◌}
+use Rattle.std.proofs.Common.{◌≡◌, Bool, true, false, List, [], ◌∷◌, ◌++◌, Option, Some, None, refl, ap, subst, sym, ◌∙◌, inl, inr}
+use Rattle.std.specs.Prelude.{◌⊎◌, if◌then◌else◌}
 use Rattle.std.specs.Option.{unwrap_or}
 use Rattle.std.proofs.lemmas.List.{append-nil}
 use Rattle.esm_realm.specs.Walk.{is_in}
 use Rattle.esm_realm.specs.Components.{opened_before, opened_from}
-use Rattle.esm_realm.proofs.Urls.{cases, not_true, not_both, or_true, or_left}
+use Rattle.esm_realm.proofs.Urls.{cases, not_both}
 use Rattle.esm_realm.proofs.Lists as lists
 use Rattle.esm_realm.proofs.Lists.{either}
 use Rattle.esm_eval.specs.Nodes.{Phase, NotBegun, Evaluating, EvaluatingAsync, Evaluated, has_begun, Node}
-use Rattle.esm_eval.specs.Evaluation.{Evaluation, IsLawful, IsAlike, phase, waits, waiters, is_done, is_stamped, root_of, put_wait, put_waiter, add_wait, wait_on, wait_by}
-use Rattle.esm_eval.specs.Evaluate.{enter, closed_phase, close, fail, keep}
+use Rattle.esm_eval.specs.Evaluation.{Evaluation, IsLawful, phase, waits, waiters, is_done, is_stamped, root_of, put_wait, put_waiter, add_wait, wait_on, wait_by}
+use Rattle.esm_eval.specs.Evaluate.{enter, closed_phase, close, fail}
 use Rattle.esm_eval.specs.Waiting.{HasOpenWait}
-use Rattle.esm_eval.proofs.Amid.{In, Amid, IsLike, HasGrown, HasWait, root_error, in_like, some_is, not_begun}
+use Rattle.esm_eval.proofs.Amid.{In, Amid, IsLike, HasGrown, HasWait, root_error, in_like, some_is}
 
 module _ {N V W : Type 0} (E : Evaluation N V W) (L : IsLawful E) where
   -- what stands at y after a put at x

@@ -1,8 +1,6 @@
 -- The world of the examples meets the conditions of the laws.
-use Rattle.std.proofs.Common.{◌≡◌, Bool, true, false, List, [], ◌∷◌, refl, subst, sym}
-use Rattle.std.specs.Prelude.{◌||◌, if◌then◌else◌, Result}
-use Rattle.std.specs.List.{list_any}
-use Rattle.esm_realm.proofs.Urls.{or_left}
+use Rattle.std.proofs.Common.{◌≡◌, Bool, true, List, [], ◌∷◌, refl, subst, sym}
+use Rattle.std.specs.Prelude.{if◌then◌else◌, Result}
 use Rattle.esm_realm.proofs.Lists.{in_first, in_left, in_right}
 use Rattle.esm_eval.specs.Nodes.{Node, Call, Start, Run, Answer, module_of}
 use Rattle.esm_eval.specs.Evaluation.{IsLawful, IsSteady, IsSteadyCall}

@@ -1,8 +1,8 @@
 -- Between two calls a module that waits has a wait that isn't done.
-use Rattle.std.proofs.Common.{◌≡◌, Bool, true, false, List, [], refl, ap, sym, ◌∙◌}
+use Rattle.std.proofs.Common.{◌≡◌, true, [], ap, sym, ◌∙◌}
 use Rattle.esm_realm.specs.Walk.{is_in}
 use Rattle.esm_eval.specs.Nodes.{Acts}
-use Rattle.esm_eval.specs.Evaluation.{Evaluation, IsLawful, IsSteady, waits}
+use Rattle.esm_eval.specs.Evaluation.{Evaluation}
 use Rattle.esm_eval.specs.Waiting.{IsBetweenCalls, IsOpening}
 use Rattle.esm_eval.specs.Laws.{WaitsStayOpen}
 use Rattle.esm_eval.proofs.Amid.{in_like}

@@ -1,20 +1,19 @@
 -- An evaluation keeps what holds between calls.
-use Rattle.std.proofs.Common.{◌≡◌, ℕ, Bool, true, false, List, [], ◌∷◌, ◌++◌, Option, Some, None, refl, ap, subst, sym, ◌∙◌, inl, inr}
-use Rattle.std.specs.Prelude.{◌⊎◌, ◌||◌, Result, Ok, Err}
+use Rattle.std.proofs.Common.{◌≡◌, ℕ, true, false, List, [], ◌∷◌, Some, ap, subst, sym, ◌∙◌, inl, inr}
+use Rattle.std.specs.Prelude.{◌⊎◌, ◌||◌, Ok}
 use Rattle.std.proofs.lemmas.List.{append-nil}
-use Rattle.esm_realm.specs.Walk.{Mark, Enter, Pass, Leave, Visits, is_in}
-use Rattle.esm_realm.specs.Components.{opened_before, opened_from}
-use Rattle.esm_realm.proofs.Urls.{cases, not_true, not_both}
-use Rattle.esm_realm.proofs.Lists.{either, in_first}
-use Rattle.esm_values.specs.Ran.Ran.{Normal, Thrown}
-use Rattle.esm_eval.specs.Nodes.{Phase, NotBegun, Evaluating, EvaluatingAsync, Evaluated, has_begun, Node, Acts, Start, Run}
-use Rattle.esm_eval.specs.Evaluation.{Evaluation, IsLawful, IsSteady, IsSteadyCall, IsAlike, phase, waits, is_stamped, root_of, add_wait, wait_on}
-use Rattle.esm_eval.specs.Evaluate.{End, Ends, Throws, Stops, StartsBody, RunsBody, Leaves, Marks, Walks, EvaluatesRoot, Evaluates, enter, close, fail, keep, fulfill_by}
+use Rattle.esm_realm.specs.Walk.{Mark, is_in}
+use Rattle.esm_realm.specs.Components.{opened_from}
+use Rattle.esm_realm.proofs.Urls.{cases, not_both}
+use Rattle.esm_realm.proofs.Lists.{in_first}
+use Rattle.esm_eval.specs.Nodes.{Phase, NotBegun, Evaluating, EvaluatingAsync, Evaluated, has_begun, Node, Acts}
+use Rattle.esm_eval.specs.Evaluation.{Evaluation, IsLawful, IsSteady, IsSteadyCall, IsAlike, phase, waits, add_wait, wait_on}
+use Rattle.esm_eval.specs.Evaluate.{End, Ends, Throws, Stops, StartsBody, RunsBody, Leaves, Marks, Walks, EvaluatesRoot, Evaluates, enter, close, keep, fulfill_by}
 use Rattle.esm_eval.specs.Evaluate.Marks.{done, enters, passes, pass_throws, stays, component, leave_throws, leave_stops}
 use Rattle.esm_eval.specs.Waiting.{IsBetweenCalls}
 use Rattle.esm_eval.proofs.Fits.{Fits, walk_fits}
-use Rattle.esm_eval.proofs.Amid.{In, Amid, IsLike, HasGrown, HasWait, of_between, to_between, like_nodes, like_on, grown_on, grown_alike, amid_like, amid_stamp, not_begun}
-use Rattle.esm_eval.proofs.Puts.{put_at, put_like, put_grown, same_field, amid_enter, amid_close, close_known, amid_fail, amid_pass}
+use Rattle.esm_eval.proofs.Amid.{Amid, IsLike, HasGrown, of_between, to_between, like_nodes, like_on, grown_on, grown_alike, amid_like, amid_stamp, not_begun}
+use Rattle.esm_eval.proofs.Puts.{put_at, put_like, put_grown, amid_enter, amid_close, close_known, amid_fail, amid_pass}
 
 module _ {N V W S : Type 0} (E : Evaluation N V W) (acts : Acts N V W S) (L : IsLawful E) (steady : IsSteady E acts) where
   -- a list of the modules whose evaluation has begun
@@ -112,8 +111,8 @@ module _ {N V W S : Type 0} (E : Evaluation N V W) (acts : Acts N V W S) (L : Is
       let p = L.make_promise w in
       let n : Node N V = record (E.node w m) { promise = Some (E.next_promise w) } in
       like_on E w (E.make_promise w) (keep E w m) (like_nodes E w (E.make_promise w) p.nodes)
-        (put_like E L (E.make_promise w) m n (sym (ap (λ k. k.phase) (p.nodes m))) (sym (ap (λ k. k.error) (p.nodes m))) (sym (ap (λ k. k.cycle_root) (p.nodes m)))
-          (sym (ap (λ k. k.done) (p.nodes m))) (sym (ap (λ k. k.waits) (p.nodes m))) (sym (ap (λ k. k.waiters) (p.nodes m))))
+      (put_like E L (E.make_promise w) m n (sym (ap (λ k. k.phase) (p.nodes m))) (sym (ap (λ k. k.error) (p.nodes m))) (sym (ap (λ k. k.cycle_root) (p.nodes m)))
+      (sym (ap (λ k. k.done) (p.nodes m))) (sym (ap (λ k. k.waits) (p.nodes m))) (sym (ap (λ k. k.waiters) (p.nodes m))))
 
   keep_grown : (w : W) (m : N) → HasGrown E w (keep E w m)
   keep_grown w m = grown_on E w (E.make_promise w) (keep E w m) (grown_alike E w (E.make_promise w) (L.make_promise w)) (put_grown E L (E.make_promise w) m (record (E.node w m) { promise = Some (E.next_promise w) }))

@@ -1,9 +1,9 @@
 -- A world of four modules, for worked examples: a body that begins writes its module's name, and does nothing else.
-use Rattle.std.specs.Prelude.{◌≡◌, ℕ, Bool, true, false, List, [], ◌∷◌, ◌++◌, length, slice_set, Result, Ok}
+use Rattle.std.specs.Prelude.{◌≡◌, Bool, true, false, List, [], ◌∷◌, ◌++◌, length, slice_set, Ok}
 use Rattle.std.specs.List.{list_any}
 use Rattle.esm_values.specs.Ran.Ran.{Normal, Thrown}
 use Rattle.esm_values.specs.Ran.{Ran}
-use Rattle.esm_eval.specs.Nodes.{Node, untouched, Call, Start, Run, Acts}
+use Rattle.esm_eval.specs.Nodes.{Node, untouched, Start, Run, Acts}
 use Rattle.esm_eval.specs.Evaluation.{Evaluation}
 
 pub data Name : Type 0 where

@@ -1,10 +1,8 @@
 -- What holds of evaluation between two of its calls.
-use Rattle.std.specs.Prelude.{◌≡◌, ◌≢◌, true, false, List, [], None, Result, Ok}
+use Rattle.std.specs.Prelude.{◌≡◌, ◌≢◌, true, false, [], None}
 use Rattle.esm_realm.specs.Walk.{is_in}
-use Rattle.esm_eval.specs.Nodes.{NotBegun, Evaluating, EvaluatingAsync, Acts}
+use Rattle.esm_eval.specs.Nodes.{NotBegun, Evaluating, EvaluatingAsync}
 use Rattle.esm_eval.specs.Evaluation.{Evaluation, phase, waits, waiters, is_done, is_stamped, root_of}
-use Rattle.esm_eval.specs.Evaluate.{Evaluates}
-use Rattle.esm_eval.specs.BodyEnd.{Rejects, Fulfills}
 
 module _ {N V W : Type 0} (E : Evaluation N V W) where
   -- a module for which x waits isn't done

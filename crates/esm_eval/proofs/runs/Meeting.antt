@@ -1,15 +1,15 @@
 -- An evaluation that meets a cycle that waits, state by state.
-use Rattle.std.proofs.Common.{◌≡◌, ℕ, Bool, true, false, List, [], ◌∷◌, Option, Some, None, refl}
-use Rattle.std.specs.Prelude.{Result, Ok}
-use Rattle.esm_realm.specs.Walk.{Mark, is_in}
+use Rattle.std.proofs.Common.{◌≡◌, true, false, [], ◌∷◌, Some, None, refl}
+use Rattle.std.specs.Prelude.{Ok}
+use Rattle.esm_realm.specs.Walk.{is_in}
 use Rattle.esm_realm.specs.Walk.Mark.{Enter, Pass, Leave}
 use Rattle.esm_realm.specs.Walk.Visits.{known, fresh}
 use Rattle.esm_realm.specs.Walk.Passes.{all, next}
 use Rattle.esm_eval.specs.Nodes.{NotBegun, Evaluating, EvaluatingAsync, Evaluated, untouched, has_begun}
-use Rattle.esm_eval.specs.Evaluate.{Ends, Throws, Leaves, StartsBody, RunsBody, Marks, EvaluatesRoot}
-use Rattle.esm_eval.specs.Evaluate.Marks.{done, enters, passes, stays, component, leave_throws}
-use Rattle.esm_eval.specs.BodyEnd.{IsReady, AreOver, ReadyAmong, GoOn, Fulfills, Rejects, RejectsAll}
-use Rattle.esm_eval.specs.SmallWorld.{Name, A, B, C, D, Small, small, same_name, Writes, none, only, Pending, Fulfilled, Rejected}
+use Rattle.esm_eval.specs.Evaluate.{Ends, Leaves, StartsBody, RunsBody, Marks, EvaluatesRoot}
+use Rattle.esm_eval.specs.Evaluate.Marks.{done, enters, passes, stays, component}
+use Rattle.esm_eval.specs.BodyEnd.{IsReady, AreOver, ReadyAmong, GoOn, Fulfills}
+use Rattle.esm_eval.specs.SmallWorld.{Name, A, B, C, D, Small, small, same_name, Writes, none, only, Pending, Fulfilled}
 use Rattle.esm_eval.specs.Examples.{meeting, MeetsAWaitingCycle}
 use Rattle.esm_eval.proofs.runs.States.{nd, at, async, not_ready, nothing_begun}
 

@@ -1,17 +1,15 @@
 -- A rejected dependency of two modules, state by state.
-use Rattle.std.proofs.Common.{◌≡◌, ℕ, Bool, true, false, List, [], ◌∷◌, Option, Some, None, refl}
-use Rattle.std.specs.Prelude.{Result, Ok}
-use Rattle.esm_realm.specs.Walk.{Mark, is_in}
+use Rattle.std.proofs.Common.{true, false, [], ◌∷◌, Some, None, refl}
 use Rattle.esm_realm.specs.Walk.Mark.{Enter, Pass, Leave}
 use Rattle.esm_realm.specs.Walk.Visits.{known, fresh}
 use Rattle.esm_realm.specs.Walk.Passes.{all, next}
-use Rattle.esm_eval.specs.Nodes.{NotBegun, Evaluating, EvaluatingAsync, Evaluated, untouched, has_begun}
-use Rattle.esm_eval.specs.Evaluate.{Ends, Throws, Leaves, StartsBody, RunsBody, Marks, EvaluatesRoot}
-use Rattle.esm_eval.specs.Evaluate.Marks.{done, enters, passes, stays, component, leave_throws}
-use Rattle.esm_eval.specs.BodyEnd.{IsReady, AreOver, ReadyAmong, GoOn, Fulfills, Rejects, RejectsAll}
-use Rattle.esm_eval.specs.SmallWorld.{Name, A, B, C, D, Small, small, same_name, Writes, none, only, Pending, Fulfilled, Rejected}
+use Rattle.esm_eval.specs.Nodes.{NotBegun, Evaluating, EvaluatingAsync, Evaluated, untouched}
+use Rattle.esm_eval.specs.Evaluate.{Ends, Leaves, StartsBody, Marks, EvaluatesRoot}
+use Rattle.esm_eval.specs.Evaluate.Marks.{done, enters, passes, component}
+use Rattle.esm_eval.specs.BodyEnd.{Rejects, RejectsAll}
+use Rattle.esm_eval.specs.SmallWorld.{A, B, C, D, Small, small, Writes, none, only, Pending, Rejected}
 use Rattle.esm_eval.specs.Examples.{diamond, SharedRejection}
-use Rattle.esm_eval.proofs.runs.States.{nd, at, async, not_ready, nothing_begun}
+use Rattle.esm_eval.proofs.runs.States.{nd, at, async, nothing_begun}
 
 abbrev shared0 : Small
 shared0 = at (nd NotBegun None None (Some 0) false [] []) (untouched) (untouched) (untouched) [] (Pending ∷ []) []
