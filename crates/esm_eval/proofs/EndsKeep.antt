@@ -15,15 +15,15 @@ use Rattle.esm_eval.proofs.Puts.{put_at, same_field, put_grown}
 
 module _ {N V W : Type 0} (E : Evaluation N V W) where
   -- from w to v modules have only ended, and bodies have begun
-  record Later (w v : W) : Type 0 where
-    phases : (y : N) → (phase E v y ≡ phase E w y) ⊎ (phase E v y ≡ Evaluated)
-    all_waits : (y : N) → waits E v y ≡ waits E w y
-    all_waiters : (y : N) → waiters E v y ≡ waiters E w y
-    roots : (y : N) → (E.node v y).cycle_root ≡ (E.node w y).cycle_root
-    errors : (y : N) → (E.node v y).error ≡ None → (E.node w y).error ≡ None
-    ends : (y : N) → is_done E v y ≡ true → (is_done E w y ≡ true) ⊎ (phase E v y ≡ Evaluated)
-    grown : HasGrown E w v
-    awaits : (y : N) → has_begun (phase E w y) ≡ true → E.awaits v y ≡ E.awaits w y
+  pub record Later (w v : W) : Type 0 where
+    pub phases : (y : N) → (phase E v y ≡ phase E w y) ⊎ (phase E v y ≡ Evaluated)
+    pub all_waits : (y : N) → waits E v y ≡ waits E w y
+    pub all_waiters : (y : N) → waiters E v y ≡ waiters E w y
+    pub roots : (y : N) → (E.node v y).cycle_root ≡ (E.node w y).cycle_root
+    pub errors : (y : N) → (E.node v y).error ≡ None → (E.node w y).error ≡ None
+    pub ends : (y : N) → is_done E v y ≡ true → (is_done E w y ≡ true) ⊎ (phase E v y ≡ Evaluated)
+    pub grown : HasGrown E w v
+    pub awaits : (y : N) → has_begun (phase E w y) ≡ true → E.awaits v y ≡ E.awaits w y
 
   stays_over : {w v : W} → Later w v → (y : N) → phase E w y ≡ Evaluated → phase E v y ≡ Evaluated
   stays_over l y h = either (l.phases y) (λ e. e ∙ h) (λ e. e)
@@ -31,7 +31,7 @@ module _ {N V W : Type 0} (E : Evaluation N V W) where
   stays_begun : {w v : W} → Later w v → (y : N) → has_begun (phase E w y) ≡ true → has_begun (phase E v y) ≡ true
   stays_begun l y h = either (l.phases y) (λ e. ap has_begun e ∙ h) (λ e. ap has_begun e)
 
-  later_on : (u v w : W) → Later u v → Later v w → Later u w
+  pub later_on : (u v w : W) → Later u v → Later v w → Later u w
   later_on u v w k l = record {
     phases = λ y. either (l.phases y) (λ e. either (k.phases y) (λ f. inl (e ∙ f)) (λ f. inr (e ∙ f))) inr;
     all_waits = λ y. l.all_waits y ∙ k.all_waits y;
@@ -65,7 +65,7 @@ module _ {N V W : Type 0} (E : Evaluation N V W) where
   root_error_back w v l x h = l.errors (root_of E w x) (sym (ap (λ r. (E.node v (unwrap_or r x)).error) (l.roots x)) ∙ h)
 
   -- all that wait for y are Evaluated in v
-  abbrev AllOver : W → W → N → Type 0
+  abbrev pub AllOver : W → W → N → Type 0
   AllOver w v y = (x : N) → In E (waiters E w y) x → phase E v x ≡ Evaluated
 
   over_on : (u : W) {w v : W} → Later w v → (y : N) → AllOver u w y → AllOver u v y
@@ -75,11 +75,11 @@ module _ {N V W : Type 0} (E : Evaluation N V W) where
   over_from v l y o x h = o x (in_like E x (sym (l.all_waiters y)) h)
 
   module _ (L : IsLawful E) where
-    kept_alike : (w : W) (p : Option ℕ) → IsAlike E w (fulfill_kept E w p)
+    pub kept_alike : (w : W) (p : Option ℕ) → IsAlike E w (fulfill_kept E w p)
     kept_alike w None = record { nodes = λ y. refl; stamps = refl; begun = λ y. refl; awaits = λ y. refl }
     kept_alike w (Some p) = L.fulfill w p
 
-    refused_alike : (w : W) (p : Option ℕ) (v : V) → IsAlike E w (reject_kept E w p v)
+    pub refused_alike : (w : W) (p : Option ℕ) (v : V) → IsAlike E w (reject_kept E w p v)
     refused_alike w None v = record { nodes = λ y. refl; stamps = refl; begun = λ y. refl; awaits = λ y. refl }
     refused_alike w (Some p) v = L.reject w p v
 
@@ -103,12 +103,12 @@ module _ {N V W : Type 0} (E : Evaluation N V W) where
     over_put : (w : W) (x : N) (n : Node N V) → n.phase ≡ Evaluated → phase E (E.put w x n) x ≡ Evaluated
     over_put w x n p = either (put_at E L w x n x) (λ q. ap (λ m. m.phase) q.1 ∙ p) (λ q. absurd (not_both (E.same x x) (L.own x) q.0))
 
-    record Finished (w v : W) (x : N) : Type 0 where
-      later : Later w v
-      now : phase E v x ≡ Evaluated
-      dones : (y : N) → is_done E v y ≡ true → (is_done E w y ≡ true) ⊎ (y ≡ x)
+    pub record Finished (w v : W) (x : N) : Type 0 where
+      pub later : Later w v
+      pub now : phase E v x ≡ Evaluated
+      pub dones : (y : N) → is_done E v y ≡ true → (is_done E w y ≡ true) ⊎ (y ≡ x)
 
-    finished : (w : W) (x : N) → Finished w (finish E w x) x
+    pub finished : (w : W) (x : N) → Finished w (finish E w x) x
     finished w x = record {
       later = later_on w (E.put w x n) (finish E w x) (later_put w x n refl refl refl refl (λ h. h)) (later_alike (E.put w x n) (finish E w x) l);
       now = ap (λ m. m.phase) (l.nodes x) ∙ over_put w x n refl;
@@ -134,15 +134,15 @@ module _ {N V W : Type 0} (E : Evaluation N V W) where
         l : IsAlike E (E.put w x n) (refuse E w x v)
         l = refused_alike (E.put w x n) (E.node w x).promise v
 
-    record Rejected (w v : W) (x : N) : Type 0 where
-      later : Later w v
-      now : phase E v x ≡ Evaluated
-      dones : (y : N) → is_done E v y ≡ true → (is_done E w y ≡ true) ⊎ AllOver w v y
+    pub record Rejected (w v : W) (x : N) : Type 0 where
+      pub later : Later w v
+      pub now : phase E v x ≡ Evaluated
+      pub dones : (y : N) → is_done E v y ≡ true → (is_done E w y ≡ true) ⊎ AllOver w v y
 
-    record RejectedAll (w v : W) (xs : List N) : Type 0 where
-      later : Later w v
-      now : (x : N) → In E xs x → phase E v x ≡ Evaluated
-      dones : (y : N) → is_done E v y ≡ true → (is_done E w y ≡ true) ⊎ AllOver w v y
+    pub record RejectedAll (w v : W) (xs : List N) : Type 0 where
+      pub later : Later w v
+      pub now : (x : N) → In E xs x → phase E v x ≡ Evaluated
+      pub dones : (y : N) → is_done E v y ≡ true → (is_done E w y ≡ true) ⊎ AllOver w v y
 
     rejected_on : (w u v : W) (x : N) → Finished w u x → RejectedAll u v (waiters E w x) → Rejected w v x
     rejected_on w u v x f q = record {
@@ -161,7 +161,7 @@ module _ {N V W : Type 0} (E : Evaluation N V W) where
     }
 
     mutual
-      rejects_go : {w : W} {x : N} {u : V} {v : W} → Rejects E w x u v → Rejected w v x
+      pub rejects_go : {w : W} {x : N} {u : V} {v : W} → Rejects E w x u v → Rejected w v x
       rejects_go {w} (Rejects.over h) = record { later = later_same w; now = h; dones = λ y k. inl k }
       rejects_go {w} {x} {u} {v} (Rejects.rejects n p) = rejected_on w (refuse E w x u) v x (refused w x u) (rejects_all_go p)
 
@@ -208,7 +208,7 @@ module _ {N V W : Type 0} (E : Evaluation N V W) where
         waiting : (x : N) → phase E v x ≡ EvaluatingAsync → E.begun v x ≡ false → root_error E v x ≡ None → HasOpenWait E v x
         waiting x a s e = let h = b.waiting x (async_before r.later x a) (begun_before r.later x s) (root_error_back w v r.later x e) in still x a h (cases (is_done E v h.0))
 
-    among_ready : {w : W} {zs xs : List N} → ReadyAmong E w zs xs → (y : N) → In E xs y → IsReady E w y
+    pub among_ready : {w : W} {zs xs : List N} → ReadyAmong E w zs xs → (y : N) → In E xs y → IsReady E w y
     among_ready ReadyAmong.none y h = cc
     among_ready {w} (ReadyAmong.kept {x = x} {ys = ys} r p) y h = either (in_cons E.same L.own L.equal x ys y h) (λ e. subst (λ z. IsReady E w z) (sym e) r) (among_ready p y)
     among_ready (ReadyAmong.dropped n p) y h = among_ready p y h
@@ -218,7 +218,7 @@ module _ {N V W : Type 0} (E : Evaluation N V W) where
     ready_among (ReadyAmong.kept {x = x} {xs = zs} {ys = ys} r p) y h s = either (in_cons E.same L.own L.equal x zs y h) (λ e. subst (λ z. In E (x ∷ ys) z) (sym e) (in_first E.same L.own L.equal x ys)) (λ k. in_later E.same L.own L.equal x ys y (ready_among p y k s))
     ready_among {w} (ReadyAmong.dropped {x = x} {xs = zs} n p) y h s = either (in_cons E.same L.own L.equal x zs y h) (λ e. absurd (n (subst (λ z. IsReady E w z) e s))) (λ k. ready_among p y k s)
 
-    ready_begun : {w : W} {y : N} → IsReady E w y → has_begun (phase E w y) ≡ true
+    pub ready_begun : {w : W} {y : N} → IsReady E w y → has_begun (phase E w y) ≡ true
     ready_begun (IsReady.ready s p b f r) = ap has_begun p
 
     open_or_over : (v : W) (ys : List N) → ((y : N) × In E ys y × (is_done E v y ≡ false)) ⊎ ((y : N) → In E ys y → is_done E v y ≡ true)
@@ -230,18 +230,18 @@ module _ {N V W : Type 0} (E : Evaluation N V W) where
         by (inl d) (inl h) = inl (h.0, in_later E.same L.own L.equal z zs h.0 h.1, h.2)
         by (inl d) (inr h) = inr (λ y k. either (in_cons E.same L.own L.equal z zs y k) (λ e. subst (λ t. is_done E v t ≡ true) (sym e) d) (h y))
 
-    record Went (w v : W) (xs : List N) : Type 0 where
-      later : Later w v
-      now : (x : N) → In E xs x → (phase E v x ≡ Evaluated) ⊎ (E.begun v x ≡ true)
-      dones : (y : N) → is_done E v y ≡ true → (is_done E w y ≡ true) ⊎ ((In E xs y × (E.awaits w y ≡ false)) ⊎ AllOver w v y)
+    pub record Went (w v : W) (xs : List N) : Type 0 where
+      pub later : Later w v
+      pub now : (x : N) → In E xs x → (phase E v x ≡ Evaluated) ⊎ (E.begun v x ≡ true)
+      pub dones : (y : N) → is_done E v y ≡ true → (is_done E w y ≡ true) ⊎ ((In E xs y × (E.awaits w y ≡ false)) ⊎ AllOver w v y)
 
     -- one module has gone on, from w to u
-    record One (w u : W) (x : N) : Type 0 where
-      later : Later w u
-      now : (phase E u x ≡ Evaluated) ⊎ (E.begun u x ≡ true)
-      dones : (y : N) → is_done E u y ≡ true → (is_done E w y ≡ true) ⊎ (((y ≡ x) × (E.awaits w y ≡ false)) ⊎ AllOver w u y)
+    pub record One (w u : W) (x : N) : Type 0 where
+      pub later : Later w u
+      pub now : (phase E u x ≡ Evaluated) ⊎ (E.begun u x ≡ true)
+      pub dones : (y : N) → is_done E u y ≡ true → (is_done E w y ≡ true) ⊎ (((y ≡ x) × (E.awaits w y ≡ false)) ⊎ AllOver w u y)
 
-    abbrev HaveBegun : W → List N → Type 0
+    abbrev pub HaveBegun : W → List N → Type 0
     HaveBegun w xs = (x : N) → In E xs x → has_begun (phase E w x) ≡ true
 
     went_on : (w u v : W) (x : N) (xs : List N) → HaveBegun w xs → One w u x → Went u v xs → Went w v (x ∷ xs)
@@ -294,7 +294,7 @@ module _ {N V W S : Type 0} (E : Evaluation N V W) (acts : Acts N V W S) (L : Is
   tail_begun : (w : W) (x : N) (xs : List N) → HaveBegun E L w (x ∷ xs) → HaveBegun E L w xs
   tail_begun w x xs b y h = b y (in_later E.same L.own L.equal x xs y h)
 
-  go_on : {w : W} {xs : List N} {v : W} → GoOn E acts w xs (Ok tt) v → HaveBegun E L w xs → Went E L w v xs
+  pub go_on : {w : W} {xs : List N} {v : W} → GoOn E acts w xs (Ok tt) v → HaveBegun E L w xs → Went E L w v xs
   go_on {w} GoOn.none b = record { later = later_same E w; now = λ x h. cc; dones = λ y h. inl h }
   go_on {w} {v = v} (GoOn.skips {x = x} {xs = xs} h p) b =
       went_on E L w w v x xs (tail_begun w x xs b) (record { later = later_same E w; now = inl h; dones = λ y k. inl k }) (go_on p (tail_begun w x xs b))

@@ -14,11 +14,11 @@ module _ {N : Type 0} (same : N → N → Bool) (own : (x : N) → same x x ≡ 
   Fits seen (Leave x ∷ ms) = (is_in same seen x ≡ true) × Fits seen ms
 
   mutual
-    visits_grow : {seen seen' : List N} {x : N} {marks : List (Mark N)} → Visits same to seen x marks seen' → (y : N) → is_in same seen y ≡ true → is_in same seen' y ≡ true
+    pub visits_grow : {seen seen' : List N} {x : N} {marks : List (Mark N)} → Visits same to seen x marks seen' → (y : N) → is_in same seen y ≡ true → is_in same seen' y ≡ true
     visits_grow (known h) y k = k
     visits_grow (fresh {seen = seen} {x = x} n p) y k = passes_grow p y (in_later same own equal x seen y k)
 
-    passes_grow : {seen seen' : List N} {x : N} {i : ℕ} {ts : List N} {marks : List (Mark N)} → Passes same to seen x i ts marks seen' → (y : N) → is_in same seen y ≡ true → is_in same seen' y ≡ true
+    pub passes_grow : {seen seen' : List N} {x : N} {i : ℕ} {ts : List N} {marks : List (Mark N)} → Passes same to seen x i ts marks seen' → (y : N) → is_in same seen y ≡ true → is_in same seen' y ≡ true
     passes_grow all y k = k
     passes_grow (next v p) y k = passes_grow p y (visits_grow v y k)
 

@@ -7,3 +7,6 @@ pub mod Puts
 pub mod WalkKeeps
 pub mod EndsKeep
 pub mod WaitsStayOpen
+pub mod Paths
+pub mod Once
+pub mod OnceEnds

@@ -1,9 +1,11 @@
 -- The world of the examples meets the conditions of the laws.
-use Rattle.std.proofs.Common.{◌≡◌, Bool, true, List, [], ◌∷◌, refl, subst, sym}
-use Rattle.std.specs.Prelude.{if◌then◌else◌, Result}
-use Rattle.esm_realm.proofs.Lists.{in_first, in_left, in_right}
+use Rattle.std.proofs.Common.{◌≡◌, Bool, true, List, [], ◌∷◌, refl, subst, sym, inl, inr}
+use Rattle.std.specs.Prelude.{◌⊎◌, if◌then◌else◌, Result}
+use Rattle.std.specs.List.{list_any}
+use Rattle.esm_realm.proofs.Lists.{either, in_first, in_left, in_right, in_split, in_cons}
 use Rattle.esm_eval.specs.Nodes.{Node, Call, Start, Run, Answer, module_of}
 use Rattle.esm_eval.specs.Evaluation.{IsLawful, IsSteady, IsSteadyCall}
+use Rattle.esm_eval.specs.Begins.{BeginsOne}
 use Rattle.esm_eval.specs.SmallWorld.{Name, A, B, C, D, same_name, Nodes, node_at, with_node, Small, small, Writes, with_line}
 use Rattle.esm_eval.specs.Examples.{SmallWorldsAreLawful}
 
@@ -78,5 +80,19 @@ module _ (targets : Name → List Name) (awaits : Name → Bool) where
       steady w v (Start m end) r h = subst (λ v. IsSteadyCall (small targets awaits) w m v) (sym h.1) (line_is_steady w m)
       steady w v (Run m) r h = subst (λ v. IsSteadyCall (small targets awaits) w m v) (sym h.1) (line_is_steady w m)
 
+  line_begins : (w : Small) (m x : Name) → list_any (same_name x) (with_line w m).log ≡ true → (list_any (same_name x) w.log ≡ true) ⊎ (x ≡ m)
+  line_begins w m x h = either (in_split same_name own equal w.log (m ∷ []) x h) inl (λ k. either (in_cons same_name own equal m [] x k) inr (λ z. cc))
+
+  small_begins : (throws : Name → Bool) → BeginsOne (small targets awaits) (Writes throws)
+  small_begins throws = record { call = begins }
+    where
+      begins : (w v : Small) (c : Call Name) (r : Result (Answer Name c) (Unit {0})) → Writes throws w c r v → (x : Name) → list_any (same_name x) v.log ≡ true → (list_any (same_name x) w.log ≡ true) ⊎ (x ≡ module_of c)
+      begins w v (Start m end) r h x k = line_begins w m x (subst (λ u. list_any (same_name x) u.log ≡ true) h.1 k)
+      begins w v (Run m) r h x k = line_begins w m x (subst (λ u. list_any (same_name x) u.log ≡ true) h.1 k)
+
 pub small_worlds_are_lawful : SmallWorldsAreLawful
-small_worlds_are_lawful = record { lawful = small_is_lawful; steady = λ targets awaits throws. small_is_steady targets awaits throws }
+small_worlds_are_lawful = record {
+  lawful = small_is_lawful;
+  steady = λ targets awaits throws. small_is_steady targets awaits throws;
+  begins = λ targets awaits throws. small_begins targets awaits throws;
+}

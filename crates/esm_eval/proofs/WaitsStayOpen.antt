@@ -10,7 +10,7 @@ use Rattle.esm_eval.proofs.WalkKeeps.{evaluates_keep}
 use Rattle.esm_eval.proofs.EndsKeep.{rejects_keep, fulfills_keep}
 
 module _ {N V W S : Type 0} (E : Evaluation N V W) (acts : Acts N V W S) where
-  opens : (w : W) → IsOpening E w → IsBetweenCalls E w
+  pub opens : (w : W) → IsOpening E w → IsBetweenCalls E w
   opens w o = record {
     idle = λ x h. let k = sym (o.phases x) ∙ h in cc;
     unstamped = λ x h. ap (λ xs. is_in E.same xs x) o.stamps;

@@ -17,7 +17,7 @@ use Rattle.esm_eval.proofs.Puts.{put_at, put_like, put_grown, amid_enter, amid_c
 
 module _ {N V W S : Type 0} (E : Evaluation N V W) (acts : Acts N V W S) (L : IsLawful E) (steady : IsSteady E acts) where
   -- a list of the modules whose evaluation has begun
-  abbrev Known : W → List N → Type 0
+  abbrev pub Known : W → List N → Type 0
   Known w seen = (y : N) → is_in E.same seen y ≡ has_begun (phase E w y)
 
   like_call : (w v : W) (m : N) → IsSteadyCall E w m v → IsLike E w v
@@ -27,9 +27,9 @@ module _ {N V W S : Type 0} (E : Evaluation N V W) (acts : Acts N V W S) (L : Is
   grown_call w v m s = record { stamps = s.stamps; begun = s.begun }
 
   -- a step that leaves what is amid, and which modules have begun
-  record Step (w v : W) (opened : List N) : Type 0 where
-    amid : Amid E v opened
-    known : (y : N) → has_begun (phase E v y) ≡ has_begun (phase E w y)
+  pub record Step (w v : W) (opened : List N) : Type 0 where
+    pub amid : Amid E v opened
+    pub known : (y : N) → has_begun (phase E v y) ≡ has_begun (phase E w y)
 
   run_step : (w v : W) (m : N) (opened : List N) → IsSteadyCall E w m v → Amid E w opened → Step w v opened
   run_step w v m opened s a = record { amid = amid_like E w v opened (like_call w v m s) (grown_call w v m s) a; known = λ y. ap (λ n. has_begun n.phase) (s.nodes y) }
@@ -53,12 +53,12 @@ module _ {N V W S : Type 0} (E : Evaluation N V W) (acts : Acts N V W S) (L : Is
         known = λ z. ap (λ n. has_begun n.phase) (nodes z);
       }
 
-  leave_step : {w : W} {x : N} {mid : W} (opened : List N) → Leaves E acts w x Ends mid → has_begun (phase E w x) ≡ true → Amid E w opened → Step w mid opened
+  pub leave_step : {w : W} {x : N} {mid : W} (opened : List N) → Leaves E acts w x Ends mid → has_begun (phase E w x) ≡ true → Amid E w opened → Step w mid opened
   leave_step {w} {x} {mid} opened (Leaves.runs n o (RunsBody.ends p)) b a = run_step w mid x opened (steady.call _ _ _ _ p) a
   leave_step {w} {x} {mid} opened (Leaves.starts n o (StartsBody.starts p)) b a = start_step w mid x opened (steady.call _ _ _ _ p) b a
   leave_step {w} {x} opened (Leaves.waiting {y = y} {ys = ys} n) b a = stamp_step w x y ys opened n b a
 
-  throw_step : {w : W} {x : N} {v : V} {mid : W} (opened : List N) → Leaves E acts w x (Throws v) mid → Amid E w opened → Amid E mid opened
+  pub throw_step : {w : W} {x : N} {v : V} {mid : W} (opened : List N) → Leaves E acts w x (Throws v) mid → Amid E w opened → Amid E mid opened
   throw_step {w} {x} {mid = mid} opened (Leaves.runs n o (RunsBody.throws v p)) a = (run_step w mid x opened (steady.call _ _ _ _ p) a).amid
   throw_step opened (Leaves.starts n o p) a = no_throw p
     where
@@ -70,7 +70,7 @@ module _ {N V W S : Type 0} (E : Evaluation N V W) (acts : Acts N V W S) (L : Is
   Kept (Throws v) after = Amid E after []
   Kept (Stops why) after = Unit {0}
 
-  known_enter : (w : W) (seen : List N) (x : N) → Known w seen → Known (enter E w x) (x ∷ seen)
+  pub known_enter : (w : W) (seen : List N) (x : N) → Known w seen → Known (enter E w x) (x ∷ seen)
   known_enter w seen x k y = by (cases (E.same y x)) (put_at E L w x (record (E.node w x) { phase = Evaluating }) y)
     where
       by : (E.same y x ≡ true) ⊎ (E.same y x ≡ false) → ((y ≡ x) × (E.node (enter E w x) y ≡ record (E.node w x) { phase = Evaluating })) ⊎ ((E.same y x ≡ false) × (E.node (enter E w x) y ≡ E.node w y)) → (E.same y x || is_in E.same seen y) ≡ has_begun (phase E (enter E w x) y)
@@ -79,14 +79,14 @@ module _ {N V W S : Type 0} (E : Evaluation N V W) (acts : Acts N V W S) (L : Is
       by (inr h) (inl q) = absurd (not_both (E.same y x) (subst (λ z. E.same z x ≡ true) (sym q.0) (L.own x)) h)
       by (inr h) (inr q) = ap (λ b. b || is_in E.same seen y) h ∙ k y ∙ sym (ap (λ n. has_begun n.phase) q.1)
 
-  known_step : (w v : W) (seen : List N) → ((y : N) → has_begun (phase E v y) ≡ has_begun (phase E w y)) → Known w seen → Known v seen
+  pub known_step : (w v : W) (seen : List N) → ((y : N) → has_begun (phase E v y) ≡ has_begun (phase E w y)) → Known w seen → Known v seen
   known_step w v seen e k y = k y ∙ sym (e y)
 
   module _ (to : N → List N) where
-    abbrev Fit : List N → List (Mark N) → Type 0
+    abbrev pub Fit : List N → List (Mark N) → Type 0
     Fit = Fits E.same L.own L.equal to
 
-    has : (w : W) (seen : List N) (x : N) → Known w seen → is_in E.same seen x ≡ true → has_begun (phase E w x) ≡ true
+    pub has : (w : W) (seen : List N) (x : N) → Known w seen → is_in E.same seen x ≡ true → has_begun (phase E w x) ≡ true
     has w seen x k h = sym (k x) ∙ h
 
     pub marks_keep : {w : W} {opened : List N} {ms : List (Mark N)} {end : End V S} {after : W} (seen : List N) → Marks E acts to w opened ms end after → Fit seen ms → Known w seen → Amid E w opened → Kept end after
@@ -106,7 +106,7 @@ module _ {N V W S : Type 0} (E : Evaluation N V W) (acts : Acts N V W S) (L : Is
     marks_keep {w} {opened} seen (leave_throws {mid = mid} v l) f k a = amid_fail E L opened mid v (throw_step opened l a)
     marks_keep seen (leave_stops why l) f k a = tt
 
-  keep_like : (w : W) (m : N) → IsLike E w (keep E w m)
+  pub keep_like : (w : W) (m : N) → IsLike E w (keep E w m)
   keep_like w m =
       let p = L.make_promise w in
       let n : Node N V = record (E.node w m) { promise = Some (E.next_promise w) } in
@@ -117,10 +117,10 @@ module _ {N V W S : Type 0} (E : Evaluation N V W) (acts : Acts N V W S) (L : Is
   keep_grown : (w : W) (m : N) → HasGrown E w (keep E w m)
   keep_grown w m = grown_on E w (E.make_promise w) (keep E w m) (grown_alike E w (E.make_promise w) (L.make_promise w)) (put_grown E L (E.make_promise w) m (record (E.node w m) { promise = Some (E.next_promise w) }))
 
-  alike_keeps : (w v : W) → IsAlike E w v → Amid E w [] → Amid E v []
+  pub alike_keeps : (w v : W) → IsAlike E w v → Amid E w [] → Amid E v []
   alike_keeps w v l a = amid_like E w v [] (like_nodes E w v l.nodes) (grown_alike E w v l) a
 
-  keep_keeps : (w : W) (m : N) → Amid E w [] → Amid E (keep E w m) []
+  pub keep_keeps : (w : W) (m : N) → Amid E w [] → Amid E (keep E w m) []
   keep_keeps w m a = amid_like E w (keep E w m) [] (keep_like w m) (keep_grown w m) a
 
   walks_keep : {w : W} {m : N} {end : End V S} {after : W} → Walks E acts w m (keep E w m) end after → Amid E w [] → Kept end after

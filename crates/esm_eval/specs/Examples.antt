@@ -4,6 +4,7 @@ use Rattle.esm_eval.specs.Nodes.{Evaluated}
 use Rattle.esm_eval.specs.Evaluation.{IsLawful, IsSteady}
 use Rattle.esm_eval.specs.Evaluate.{Evaluates}
 use Rattle.esm_eval.specs.BodyEnd.{Rejects, Fulfills}
+use Rattle.esm_eval.specs.Begins.{BeginsOne}
 use Rattle.esm_eval.specs.SmallWorld.{Name, A, B, C, D, Small, opening, small, Writes, none, only, Pending, Fulfilled, Rejected}
 
 -- ---- A imports B, B imports A, and B awaits
@@ -96,3 +97,4 @@ pub record MeetsAWaitingCycle : Type 0 where
 pub record SmallWorldsAreLawful : Type 0 where
   pub lawful : (targets : Name → List Name) (awaits : Name → Bool) → IsLawful (small targets awaits)
   pub steady : (targets : Name → List Name) (awaits throws : Name → Bool) → IsSteady (small targets awaits) (Writes throws)
+  pub begins : (targets : Name → List Name) (awaits throws : Name → Bool) → BeginsOne (small targets awaits) (Writes throws)

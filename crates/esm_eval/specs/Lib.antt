@@ -6,3 +6,4 @@ pub mod Waiting
 pub mod Laws
 pub mod SmallWorld
 pub mod Examples
+pub mod Begins

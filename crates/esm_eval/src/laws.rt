@@ -1,5 +1,5 @@
 // Laws of the definitions, as functions without effect.
-ghost use Rattle.esm_eval.specs.Laws.{OneEvaluation, WaitsStayOpen};
+ghost use Rattle.esm_eval.specs.Laws.{BeginsOnce, OneEvaluation, WaitsStayOpen};
 
 /// A world of any kind, with a relation for what the calls for bodies do in it. The laws range over all of them.
 pub trait AnyWorld {
@@ -29,4 +29,9 @@ pub fn one_evaluation<A: AnyWorld>()
 /// Between two calls of evaluation a module that waits has a wait that isn't done.
 pub fn waits_stay_open<A: AnyWorld>()
     ensures { WaitsStayOpen A.evaluation A.acts }
+{}
+
+/// No body begins twice.
+pub fn begins_once<A: AnyWorld>()
+    ensures { BeginsOnce A.evaluation A.acts }
 {}
