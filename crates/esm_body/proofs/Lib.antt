@@ -1,0 +1,5 @@
+pub mod OneKeys
+pub mod OneAct
+pub mod OneMove
+pub mod OneSegment
+pub mod OneOutcome

@@ -1,0 +1,7 @@
+//! Bodies of modules: statements, calls and awaits. So far the definitions and their laws.
+#![tactic(auto)]
+
+pub mod laws;
+mod limits;
+
+pub use limits::MAX_CALL_DEPTH;
