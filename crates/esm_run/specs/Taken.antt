@@ -1,10 +1,10 @@
 -- What a run took, and what the sources were asked.
 use Rattle.std.specs.Prelude.{◌≡◌, ◌≢◌, ℕ, List, map, Option, None, IfSome, IsSomeAnd, take, drop, Any, All, AllPairs, Contains, flat_map, true, ⊤}
+use Rattle.esm_base.specs.declared.limits.TheConstants.{MAX_BODY_BYTES}
 use Rattle.esm_ports.specs.declared.asked.Asked.{Asked}
 use Rattle.esm_ports.specs.declared.asked.AskKind.{AskKind}
 use Rattle.esm_ports.specs.declared.asked.AskKind.TheVariants.{Body, Absent, Failed}
-use Rattle.esm_grammar.specs.ModuleText.{FaultOf}
-use Rattle.esm_ast.specs.Script.{IsScriptOf}
+use Rattle.esm_grammar.specs.ModuleText.{Spells, FaultOf}
 use Rattle.esm_ast.specs.Outcome as fetched
 use Rattle.esm_ast.specs.Outcome.{OutcomeView, outcome_view}
 use Rattle.esm_base.specs.Urls.{has}
@@ -32,7 +32,7 @@ deliveries_of taken = map delivery_of taken
 
 -- how the ask was answered
 abbrev pub kind_of : OutcomeView → AskKind
-kind_of (fetched.Script script) = Body
+kind_of (fetched.Script text) = Body
 kind_of (fetched.Broken broken) = Body
 kind_of fetched.Absent = Absent
 kind_of fetched.Failed = Failed
@@ -43,8 +43,8 @@ Contents = List ℕ → Option (List ℕ)
 
 -- the outcome is that of a source with these contents
 abbrev pub IsToldOutcome : Contents → List ℕ → OutcomeView → Type 0
-IsToldOutcome contents url (fetched.Script script) = IsSomeAnd (contents url) (λ bytes. script.bytes ≡ take 1048577 bytes)
-IsToldOutcome contents url (fetched.Broken broken) = IsSomeAnd (contents url) (λ bytes. broken.bytes ≡ take 1048577 bytes)
+IsToldOutcome contents url (fetched.Script text) = IsSomeAnd (contents url) (λ bytes. text.bytes ≡ take MAX_BODY_BYTES bytes)
+IsToldOutcome contents url (fetched.Broken broken) = IsSomeAnd (contents url) (λ bytes. broken.bytes ≡ take MAX_BODY_BYTES bytes)
 IsToldOutcome contents url fetched.Absent = contents url ≡ None
 IsToldOutcome contents url fetched.Failed = ⊤
 
@@ -78,7 +78,7 @@ AreStandardAsks asked_of what sources = All (λ ask. has what.asked ask.url ≡ 
 
 -- a delivered body is what its bytes are read as
 abbrev pub IsRead : OutcomeView → Type 0
-IsRead (fetched.Script script) = IsScriptOf script.bytes script
+IsRead (fetched.Script text) = Spells text.bytes text.items
 IsRead (fetched.Broken broken) = FaultOf broken.bytes broken.fault
 IsRead fetched.Absent = ⊤
 IsRead fetched.Failed = ⊤

@@ -46,7 +46,7 @@ fn hand_over(machine: &mut Machine, url: &Text, outcome: &Outcome) -> Result<(),
 {
     match machine.deliver(url, outcome) {
         Ok(()) => Ok(()),
-        Err(TurnEnd::Limit(_)) => Ok(()),
+        Err(TurnEnd::Fault(_limit)) => Ok(()),
         Err(TurnEnd::Memory) => Err(Memory),
     }
 }
