@@ -3,3 +3,4 @@ pub mod OneAct
 pub mod OneMove
 pub mod OneSegment
 pub mod OneOutcome
+pub mod Limits

@@ -1,16 +1,22 @@
 -- Laws of the definitions, over modules with numbers, where import() is a function of what it is given and changes nothing but
 -- promises, errors and the modules that are there.
-use Rattle.std.specs.Prelude.{◌≡◌, ℕ, nat_eq, List, Result}
+use Rattle.std.specs.Prelude.{◌≡◌, ℕ, ◌+◌, nat_eq, List, Option, Result}
 use Rattle.esm_base.specs.declared.limits.Limit.{Limit}
 use Rattle.esm_values.specs.Value.{Value}
 use Rattle.esm_values.specs.Ran.{Ran}
 use Rattle.esm_promise.specs.Promises.{Settled}
 use Rattle.esm_promise.specs.Outer.{Outer}
 use Rattle.esm_env.specs.Modules.{Modules}
-use Rattle.esm_body.specs.Rest.{Rest}
+use Rattle.esm_tree.specs.Syntax.{Stmts}
+use Rattle.esm_tree.specs.Syntax.{Stmt as Statement}
+use Rattle.esm_values.specs.Plans.Comes.{Goes, Stops}
+use Rattle.esm_values.specs.declared.errors.FaultKind.TheVariants as kinds
+use Rattle.esm_env.specs.Cells.{Reading as reading}
+use Rattle.esm_body.specs.Rest.{Rest, more}
+use Rattle.esm_body.specs.Rest.Part.{Whole, Tries}
 use Rattle.esm_body.specs.State.{State, Importing}
-use Rattle.esm_body.specs.Acts.{Inner}
-use Rattle.esm_body.specs.Moves.{Move, RewritesBody}
+use Rattle.esm_body.specs.Acts.{Inner, read_answer, throws_new, not_initialized}
+use Rattle.esm_body.specs.Moves.{Move, On, RewritesBody, caught}
 use Rattle.esm_body.specs.Segment.{Active, Ended, Segment}
 use Rattle.esm_body.specs.Bodies.{StartsBody, RunsBody, ResumesBody}
 
@@ -47,3 +53,21 @@ pub record HaveOneOutcome : Type 0 where
   pub resume : (f : Importer) (m : ℕ) (how : Settled (Value ℕ)) (w one other : Here) (a b : Result (Unit {0}) Limit)
       → ResumesBody nat_eq itself (imports_by f) w m how a one → ResumesBody nat_eq itself (imports_by f) w m how b other
       → (b ≡ a) × (other ≡ one)
+
+-- a statement that begins takes one step
+abbrev pub StatementsTakeSteps : Type 0
+StatementsTakeSteps = (f : Importer) (m : ℕ) (w after : Inner ℕ (Modules ℕ)) (s : Statement) (rest r : Rest (Value ℕ))
+    → RewritesBody nat_eq itself (imports_by f) m w (more (Whole s) rest) (On (Goes r)) after
+    → after.state.engine.steps ≡ w.state.engine.steps + 1
+
+-- a limit that is passed in the block of a `try` stops all: its handler doesn't go on
+abbrev pub StopsAreNotCaught : Type 0
+StopsAreNotCaught = (f : Importer) (m : ℕ) (w after : Inner ℕ (Modules ℕ)) (r rest : Rest (Value ℕ)) (x : Option (List ℕ))
+    (handler : Stmts) (why : Limit)
+    → RewritesBody nat_eq itself (imports_by f) m w r (On (Stops why)) after
+    → RewritesBody nat_eq itself (imports_by f) m w (more (Tries r x handler) rest) (On (Stops why)) after
+
+-- an unset name throws a ReferenceError
+abbrev pub UnsetThrows : Type 0
+UnsetThrows = (w : Inner ℕ (Modules ℕ)) (x : List ℕ)
+    → read_answer w x reading.Unset ≡ throws_new w kinds.ReferenceError (not_initialized x)

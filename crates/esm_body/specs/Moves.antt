@@ -1,11 +1,11 @@
 -- One rewriting of what remains of a body: of its first part. Expressions are rewritten by their own rules, over the scopes
 -- and the world.
-use Rattle.std.specs.Prelude.{ℕ, Bool, List, [], ◌∷◌, Option, Some, None}
+use Rattle.std.specs.Prelude.{ℕ, Bool, true, false, List, [], ◌∷◌, ◌++◌, Option, Some, None, Result}
 use Rattle.esm_base.specs.declared.limits.Limit.{Limit}
 use Rattle.esm_tree.specs.Syntax.{Stmts}
 use Rattle.esm_tree.specs.Syntax.{Stmt as Statement}
 use Rattle.esm_values.specs.Value.{Value}
-use Rattle.esm_values.specs.Acts.{Act as act}
+use Rattle.esm_values.specs.Acts.{Act as act, Answer}
 use Rattle.esm_values.specs.Plans.{Comes, inside, Follows}
 use Rattle.esm_values.specs.Plans.Comes.{Goes, Leaves, Calls, Stops}
 use Rattle.esm_values.specs.Plans.Plan.{Ends, Asks}

@@ -1,9 +1,9 @@
 -- A segment of a body: rewriting until the body ends, a throw leaves it, it stands at an await, or a limit is passed.
 -- A function that was called runs in front of those rests that have no value for their call yet.
-use Rattle.std.specs.Prelude.{◌≡◌, nat_lt, Bool, true, false, List, [], ◌∷◌, length, Option, Some, None, codes}
+use Rattle.std.specs.Prelude.{◌≡◌, ℕ, nat_lt, Bool, true, false, List, [], ◌∷◌, length, Option, Some, None, Result, codes}
 use Rattle.esm_base.specs.declared.limits.Limit.{Limit}
 use Rattle.esm_env.specs.Declarations.{FunctionCode}
-use Rattle.esm_values.specs.Value.{Value, Undefined, Func}
+use Rattle.esm_values.specs.Value.{Value, Undefined, Truth, Text, Func, Error, Namespace, Promise}
 use Rattle.esm_values.specs.Errors.{fault}
 use Rattle.esm_values.specs.Plans.{Comes as comes}
 use Rattle.esm_values.specs.declared.errors.FaultKind.TheVariants as kinds
@@ -14,8 +14,8 @@ use Rattle.esm_body.specs.Scopes.{call_scope}
 use Rattle.esm_body.specs.Rest.{Rest, end, more, whole, fill_rest}
 use Rattle.esm_body.specs.Rest.Part.{In}
 use Rattle.esm_body.specs.State.{State, Importing, new_error, with_error}
-use Rattle.esm_body.specs.declared.limits.TheConstants.{MAX_CALL_DEPTH}
-use Rattle.esm_body.specs.Acts.{modules_of}
+use Rattle.esm_base.specs.declared.limits.TheConstants.{MAX_CALL_DEPTH}
+use Rattle.esm_body.specs.Acts.{Inner, modules_of}
 use Rattle.esm_body.specs.Moves.{Move, On, Gives, Waits, RewritesBody}
 
 -- a function or a body under way: the module in which it stands written, and what remains of it

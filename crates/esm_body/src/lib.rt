@@ -2,6 +2,3 @@
 #![tactic(auto)]
 
 pub mod laws;
-mod limits;
-
-pub use limits::MAX_CALL_DEPTH;

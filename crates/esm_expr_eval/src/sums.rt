@@ -5,7 +5,8 @@ ghost use Rattle.esm_values.specs.Operators.{Look, look_of, faults, made, joined
 ghost use Rattle.esm_values.specs.Code.{numbered, value_of};
 
 use crate::world::{ExprEnd, Out, World};
-use esm_values::{BYTES_PER_STEP, FaultKind, MAX_TEXT_BYTES, RcText, Value, truth_text};
+use esm_base::MAX_TEXT_BYTES;
+use esm_values::{BYTES_PER_STEP, FaultKind, RcText, Value, truth_text};
 use std::alloc::Global;
 
 /// The display text of an operand, and whether it is a text.
