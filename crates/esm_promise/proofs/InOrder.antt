@@ -1,5 +1,5 @@
 -- Jobs are added at the end.
-use Rattle.std.proofs.Common.{◌≡◌, ◌++◌, ap}
+use Rattle.std.proofs.Common.{◌++◌, ap}
 use Rattle.esm_promise.specs.Promises.{register_by, triggered}
 use Rattle.esm_promise.specs.Laws.{JobsAreInOrder}
 

@@ -36,8 +36,8 @@ pub record JobsAreOfSettled : Type 0 where
 -- for each reaction, in order, by the settling of a promise
 pub record JobsAreInOrder : Type 0 where
   pub pending : (ps : Numbered) (p : ℕ) (rs : List (Reaction ℕ)) (r : Reaction ℕ)
-    → slice_get ps.all p ≡ Some (Pending rs) → (register ps p r).jobs ≡ ps.jobs
+      → slice_get ps.all p ≡ Some (Pending rs) → (register ps p r).jobs ≡ ps.jobs
   pub at_once : (ps : Numbered) (p : ℕ) (how : Settled (Value ℕ)) (r : Reaction ℕ)
-    → slice_get ps.all p ≡ Some (Done how) → (register ps p r).jobs ≡ ps.jobs ++ job p r ∷ []
+      → slice_get ps.all p ≡ Some (Done how) → (register ps p r).jobs ≡ ps.jobs ++ job p r ∷ []
   pub settles : (ps : Numbered) (p : ℕ) (rs : List (Reaction ℕ)) (how : Settled (Value ℕ))
-    → slice_get ps.all p ≡ Some (Pending rs) → (settle ps p how).jobs ≡ ps.jobs ++ map (job p) rs
+      → slice_get ps.all p ≡ Some (Pending rs) → (settle ps p how).jobs ≡ ps.jobs ++ map (job p) rs
