@@ -4,6 +4,7 @@ use Rattle.std.proofs.lemmas.List.{length-drop}
 use Rattle.std.specs.Str.{chars, chars_after, continuation_len, lead_bits}
 use Rattle.std.specs.Prelude.{bytes_eq, if◌then◌else◌}
 use Rattle.std.specs.List.{list_any}
+use Rattle.esm_base.specs.declared.limits.TheConstants.{MAX_FILE_BYTES}
 use Rattle.esm_tree.specs.Syntax.{Item}
 use Rattle.esm_tree.specs.declared.lexeme.Lexeme.{Lexeme}
 use Rattle.esm_base.specs.Mark.{has_mark, without_mark}
@@ -86,5 +87,5 @@ pub requests_few : (items : List Item) → length (entries_of items).requests �
 unfolding entries_of entries_with
 requests_few items = let r = requests_after_few [] items in omega (arith, r)
 
-pub requests_at_most : (bytes : List ℕ) (items : List Item) → Spells bytes items → length (entries_of items).requests ≤ 1048576
+pub requests_at_most : (bytes : List ℕ) (items : List Item) → Spells bytes items → length (entries_of items).requests ≤ MAX_FILE_BYTES
 requests_at_most bytes items s = let r = requests_few items in let n = spelled_few bytes items s in let l = s.tokens.short in omega (arith, r, n, l)

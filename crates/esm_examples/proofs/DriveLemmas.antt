@@ -10,7 +10,7 @@ use Rattle.esm_ast.specs.Outcome.{OutcomeView}
 use Rattle.esm_import_map.specs.ImportMap.{Maps}
 use Rattle.esm_load.specs.Loading.{Loading}
 use Rattle.esm_turn.specs.Laws.{FewDeliveries}
-use Rattle.esm_turn.specs.Run.{Delivery, Shown, shown, StandardRun}
+use Rattle.esm_turn.specs.Run.{Delivery, completed, Shown, shown, StandardRun}
 use Rattle.esm_turn.specs.Represents.{TurnEnd, State, MayTake, MayTakeBy, asks_of, asks_by_stop, Represents, RepresentsOn, ShownBy}
 use Rattle.esm_examples.specs.Fetches.{Files, ComesFrom, AreFetches, IsRunOver}
 use Rattle.esm_examples.specs.declared.fetches.Ran.{Ran}
@@ -42,21 +42,21 @@ pub driven_new : (maps : Maps) (entry : Url) (files : Files) (m : State) (urls :
 driven_new maps entry files m urls represents none = record {
   deliveries = [];
   represents = represents;
-  fetches = record { held = All-nil (λ (d : Delivery). ComesFrom files d.0 d.1); urls_are = none };
+  fetches = record { held = All-nil (λ (d : Delivery). ComesFrom files d.url d.outcome); urls_are = none };
 }
 
 -- one fetch more
 pub driven_more : (maps : Maps) (entry : Url) (files : Files) (m n : State) (urls more : List Url) (url : Url) (outcome : OutcomeView)
     → RepresentsOn m url outcome n → ComesFrom files url outcome → more ≡ urls ++ url ∷ [] → IsDriven maps entry files m urls → IsDriven maps entry files n more
 driven_more maps entry files m n urls more url outcome on comes added d =
-    let P : Delivery → Type 0 = λ d. ComesFrom files d.0 d.1 in
-    let first : Delivery → Url = λ d. d.0 in
+    let P : Delivery → Type 0 = λ d. ComesFrom files d.url d.outcome in
+    let first : Delivery → Url = λ d. d.url in
     record {
-      deliveries = d.deliveries ++ (url, outcome) ∷ [];
+      deliveries = d.deliveries ++ completed url outcome ∷ [];
       represents = on maps entry d.deliveries d.represents;
       fetches = record {
-        held = All-append P d.deliveries ((url, outcome) ∷ []) d.fetches.held (All-cons P (url, outcome) [] comes (All-nil P));
-        urls_are = added ∙ ap (λ l. l ++ url ∷ []) d.fetches.urls_are ∙ sym (map-append first d.deliveries ((url, outcome) ∷ []));
+        held = All-append P d.deliveries (completed url outcome ∷ []) d.fetches.held (All-cons P (completed url outcome) [] comes (All-nil P));
+        urls_are = added ∙ ap (λ l. l ++ url ∷ []) d.fetches.urls_are ∙ sym (map-append first d.deliveries (completed url outcome ∷ []));
       };
     }
 
@@ -66,7 +66,7 @@ few_fetched few maps entry files m urls url d is_open =
     let what = shown d.represents.0 in
     let run : StandardRun maps entry d.deliveries what = (d.represents.0, d.represents.1, refl) in
     let less : length d.deliveries < 4096 = few maps entry d.deliveries what url run (is_open.standard maps entry d.deliveries what d.represents run) in
-    let first : Delivery → Url = λ d. d.0 in
+    let first : Delivery → Url = λ d. d.url in
     omega (arith, length-map d.deliveries first, ap length d.fetches.urls_are, less)
 
 -- a run that has ended is that of what was fetched

@@ -17,8 +17,8 @@ ComesFrom files url outcome = MatchOption (at url files) (outcome ≡ Absent) (�
 
 -- each of these fetches came to what the files have, and these are their URLs
 pub record AreFetches (files : Files) (deliveries : List Delivery) (urls : List Url) : Type 0 where
-  pub held : All (λ d. ComesFrom files d.0 d.1) deliveries
-  pub urls_are : urls ≡ map (λ d. d.0) deliveries
+  pub held : All (λ d. ComesFrom files d.url d.outcome) deliveries
+  pub urls_are : urls ≡ map (λ d. d.url) deliveries
 
 -- the standard run over fetches of these files has ended so
 pub record IsRunOver (maps : Maps) (entry : Url) (files : Files) (ran : Ran) : Type 0 where

@@ -1,10 +1,10 @@
 //! What a server or a test runner wants: the run of an entry over fetches of its own.
-ghost use Rattle.std.specs.Prelude.{◌≡◌, ◌∷◌, [], ◌++◌, IfOk, OnOk};
+ghost use Rattle.std.specs.Prelude.{◌≡◌, ◌+◌, [], true, IfOk, OnOk, length};
 ghost use Rattle.esm_ast.specs.Outcome.{outcome_view};
-ghost use Rattle.esm_base.specs.Urls.{Url, IsUsable};
+ghost use Rattle.esm_base.specs.Urls.{Url, is_usable};
 ghost use Rattle.esm_import_map.specs.ImportMap.{Maps};
-ghost use Rattle.esm_turn.specs.Represents.{RepresentsOn};
-ghost use Rattle.esm_examples.specs.Fetches.{ComesFrom, IsRunOver};
+ghost use Rattle.esm_turn.specs.Represents.{Represents, RepresentsOn};
+ghost use Rattle.esm_examples.specs.Fetches.{Files, ComesFrom, IsRunOver};
 ghost use Rattle.esm_examples.specs.Inner.Driving.{IsOpen, IsNext, IsDriven};
 
 use esm_ast::{BrokenText, Outcome};
@@ -79,12 +79,40 @@ fn take_turn(
     ensures driven { (maps : Maps) (entry : Url)
         → IsDriven maps entry files.now machine.old fetched.old.items
         → OnOk result (IsDriven maps entry files.now machine.new fetched.new.items) }
-    ensures more { OnOk result (fetched.new.items ≡ fetched.old.items ++ url ∷ []) }
+    ensures more { OnOk result (length fetched.new.items ≡ length fetched.old.items + 1) }
 {
     let outcome = fetch(alloc, files, &url)?;
     hand_over(machine, &url, &outcome)?;
     fetched.push(url)?;
     Ok(())
+}
+
+// What came of a run that asks for nothing more.
+fn ended(machine: Machine, fetched: Vec<Text>) -> Result<Ran, Memory>
+    ensures { (maps : Maps) (entry : Url) (files : Files)
+        → IsDriven maps entry files machine fetched.items
+        → IfOk result (IsRunOver maps entry files) }
+{
+    let Some(status) = machine.end() else {
+        return Err(Memory);
+    };
+    let last_line = machine.last_line()?;
+    let log = machine.into_log();
+    Ok(Ran {
+        log,
+        status,
+        last_line,
+        fetched,
+    })
+}
+
+// A machine under this import map that has asked for the entry.
+fn new_machine(alloc: Global, map: ImportMap, entry: &Text) -> Result<Machine, Memory>
+    requires { is_usable entry.now ≡ true }
+    ensures { IfOk result (λ m. Represents map entry.now m []) }
+{
+    let map = Arc::new(alloc, map)?;
+    Machine::new(alloc, map, entry.clone()?)
 }
 
 /// Runs the entry, whose URL may name a module, over these files under an import map. The answer is what the standard
@@ -95,26 +123,19 @@ pub fn run_over(
     map: ImportMap,
     entry: &Text,
 ) -> Result<Ran, Memory>
-    requires { IsUsable entry.now }
+    requires { is_usable entry.now ≡ true }
     ensures { IfOk result (IsRunOver map entry.now files.now) }
 {
     laws::deliveries();
-    let map = Arc::new(alloc, map)?;
-    let mut machine = Machine::new(alloc, map, entry.clone()?)?;
+    let mut machine = new_machine(alloc, map, entry)?;
     let mut fetched = Vec::new(alloc);
-    while let Some(url) = next_ask(&machine)? {
+    loop {
+        let found = next_ask(&machine)?;
+        let Some(url) = found else {
+            return ended(machine, fetched);
+        };
         take_turn(alloc, files, &mut machine, url, &mut fetched)?;
     }
-    let Some(status) = machine.end() else {
-        return Err(Memory);
-    };
-    let last_line = machine.last_line()?;
-    Ok(Ran {
-        log: machine.into_log(),
-        status,
-        last_line,
-        fetched,
-    })
 }
 
 #[cfg(test)]

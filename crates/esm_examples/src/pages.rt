@@ -1,20 +1,10 @@
-//! What an editor or a preview wants: a run over a text that it holds, whose output stands on a page of its own.
-ghost use Rattle.std.specs.Prelude.{◌≡◌, ◌<◌, ◌-◌, ◌^◌, [], Some, None, IfOk, map, string_bytes};
-ghost use Rattle.esm_import_map.specs.ImportMap.{no_maps};
-ghost use Rattle.esm_run.specs.declared.arguments.Command.{Command};
-ghost use Rattle.esm_run.specs.Arguments.{command_of};
-ghost use Rattle.esm_run.specs.Report.{IsStandard};
-ghost use Rattle.esm_run.specs.Taken.{arrivals_of};
-ghost use Rattle.esm_run.specs.Written.{change_of};
-ghost use Rattle.esm_examples.specs.Pages.{PageParts};
+//! What an editor or a preview wants: a source that is the text in a window, and a sink that is a page of its own.
+ghost use Rattle.std.specs.Prelude.{◌≡◌, []};
 
-use esm_base::{MAX_BODY_BYTES, Memory, Text};
+use esm_base::{MAX_BODY_BYTES, Text};
 use esm_ports::{AskKind, Asks, FetchEnd, Sink, SinkEnd, Source};
-use esm_run::{RunReport, run};
 use std::alloc::Global;
-use std::marker::{Model, Sync};
-use std::sync::Wait;
-use std::thread::Threads;
+use std::marker::Model;
 
 /// A source of one text, as an editor holds it. Nothing stands at any other URL.
 #[derive(Drop)]
@@ -135,83 +125,42 @@ impl Sink for Page {
     }
 }
 
-/// Runs a command over an open text, and writes what comes of it on a page. A command without `--map` is run as the
-/// standard says, with no import map; the status says that a write failed only where the page was full.
-pub fn run_on_page<R: Threads + Wait + Sync>(
-    rt: &R,
-    alloc: Global,
-    words: &[String],
-    open: OpenText,
-    page: &mut Page,
-) -> Result<RunReport<OpenText>, Memory>
-    requires fresh { open.asked ≡ [] }
-    requires room { page.old.faults < 2 ^ 64 - 1 }
-    ensures standard { (c : Command) → command_of (map string_bytes words.now) ≡ Some c → c.map ≡ None
-        → IfOk result (λ report. IsStandard no_maps c.entry (arrivals_of report.taken.items)
-        report.status (change_of (λ (p : PageParts). Some p.text) (λ p. p.faults) page.old page.new)) }
-{
-    let mut desk = OpenText::new(alloc, Text::copy(alloc, "")?, Vec::new(alloc));
-    let mut sources = Vec::new(alloc);
-    sources.push(open)?;
-    Ok(run(rt, alloc, words, &mut desk, sources, page))
-}
-
 #[cfg(test)]
 mod tests {
     use super::*;
-    use esm_base::Status;
+    use esm_ports::put_all;
     use std::test::Fail;
 
-    const BASE: &str = "https://a.test/";
+    const URL: &str = "https://a.test/main.js";
 
-    fn words(alloc: Global) -> Result<Vec<String>, Memory> {
-        let mut words = Vec::new(alloc);
-        for word in ["run", BASE, "main.js"] {
-            words.push(String::from_str(alloc, word)?)?;
+    // The open text stands at its URL alone.
+    #[test]
+    fn an_open_text_is_fetched(rt: HostRuntime) -> Result<(), Fail> {
+        let alloc = rt.alloc();
+        let body = Vec::from_slice(alloc, b"print(\"one\");")?;
+        let mut open = OpenText::new(alloc, Text::copy(alloc, URL)?, body);
+        match open.fetch(alloc, URL) {
+            Ok(body) => assert!(rt; body.as_slice() == b"print(\"one\");".as_slice()),
+            Err(_) => assert!(rt; false),
         }
-        Ok(words)
+        let other = open.fetch(alloc, "https://a.test/other.js");
+        assert!(rt; other.err() == Some(FetchEnd::Absent));
+        assert_eq!(rt; open.asked.len(), 2);
+        assert_eq!(rt; open.faults(), 0);
+        Ok(())
     }
 
-    // A module whose text is open: it runs alone, and what it imports isn't there. A page takes the first bytes that
-    // it has room for.
+    // A page takes the first bytes that it has room for, and then fails.
     #[test]
-    fn an_open_text_runs(rt: HostRuntime) -> Result<(), Fail> {
+    fn a_page_is_filled(rt: HostRuntime) -> Result<(), Fail> {
         let alloc = rt.alloc();
-        let rows = [
-            (
-                "print('one');\nprint('two');\n",
-                100,
-                "one\ntwo\n",
-                Status::Fulfilled,
-                0,
-            ),
-            (
-                "print('one');\nprint('two');\n",
-                5,
-                "one\nt",
-                Status::WriteFault,
-                1,
-            ),
-            (
-                "import './other.js';\n",
-                100,
-                UNCAUGHT,
-                Status::EntryFailed,
-                0,
-            ),
-        ];
-        for (text, room, wanted, status, faults) in rows {
-            let url = Text::copy(alloc, "https://a.test/main.js")?;
-            let open = OpenText::new(alloc, url, Vec::from_slice(alloc, text.as_bytes())?);
+        let rows = [(100, "one\ntwo\n", 0), (5, "one\nt", 1)];
+        for (room, wanted, faults) in rows {
             let mut page = Page::new(alloc, room);
-            let report = run_on_page(&rt, alloc, &words(alloc)?, open, &mut page)?;
-            assert_eq!(rt; report.status, status);
+            let _ = put_all(&mut page, b"one\ntwo\n");
             assert!(rt; page.text() == wanted.as_bytes());
             assert_eq!(rt; page.faults(), faults);
         }
         Ok(())
     }
-
-    // What isn't fetched fails the entry with a TypeError.
-    const UNCAUGHT: &str = "Uncaught TypeError: cannot fetch https://a.test/other.js\n";
 }

@@ -68,7 +68,8 @@ impl Loads {
         requires fresh { self.old ≡ no_loads self.old.maps }
         requires empty { records_of realm.old ≡ [] }
         requires usable { is_usable url.now ≡ true }
-        ensures ok { OnOk result (loading_in self.new realm.new ≡ opening_loading self.old.maps url.now) }
+        ensures ok { OnOk result
+            (loading_in self.new realm.new ≡ opening_loading self.old.maps url.now) }
         ensures one { OnOk result (RecordsMatch self.new (records_of realm.new)) }
         ensures limit { (limit : Limit) → result ≡ Err (Fault limit) → ⊥ }
         ensures realm { records_of realm.new ≡ records_of realm.old }
@@ -124,11 +125,14 @@ impl Loads {
     pub fn step(&mut self, realm: &mut Realm) -> Result<bool, LoadEnd>
         requires sound { IsSound (records_of realm.old) }
         requires one { RecordsMatch self.old (records_of realm.old) }
-        ensures answers { result ≡ Ok true → AnswersNext (loading_in self.old realm.old) (loading_in self.new realm.new) }
+        ensures answers { result ≡ Ok true
+            → AnswersNext (loading_in self.old realm.old) (loading_in self.new realm.new) }
         ensures falls { result ≡ Ok true
-            → pending_left (loading_in self.new realm.new) < pending_left (loading_in self.old realm.old) }
+            → pending_left (loading_in self.new realm.new)
+            < pending_left (loading_in self.old realm.old) }
         ensures none { result ≡ Ok false → HasNoNext (loading_in self.old realm.old) }
-        ensures unchanged { result ≡ Ok false → (self.new ≡ self.old) × (records_of realm.new ≡ records_of realm.old) }
+        ensures unchanged { result ≡ Ok false
+            → (self.new ≡ self.old) × (records_of realm.new ≡ records_of realm.old) }
         ensures one { OnOk result (RecordsMatch self.new (records_of realm.new)) }
         ensures limit { StopsIn result (AnswersNext (loading_in self.old realm.old)) }
         ensures sound { IsSound (records_of realm.new) }
@@ -168,7 +172,8 @@ impl Loads {
         ensures before { self.old.jobs ≡ cond result (0 ∷ []) [] }
         ensures after { self.new ≡ record self.old { jobs = [] } }
         ensures ended { result ≡ true → is_end (slice_get self.old.loads 0) ≡ true }
-        ensures one { (records : List RecordParts) → RecordsMatch self.old records → RecordsMatch self.new records }
+        ensures one { (records : List RecordParts)
+            → RecordsMatch self.old records → RecordsMatch self.new records }
     {
         let job = self.table.job;
         self.table.job = false;

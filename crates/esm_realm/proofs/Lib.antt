@@ -8,3 +8,6 @@ pub mod ByNumber
 pub mod Weigh
 pub mod Sounds
 pub mod PlainRecords
+pub mod Lists
+pub mod Components
+pub mod OneWalk

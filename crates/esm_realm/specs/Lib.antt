@@ -3,3 +3,4 @@ pub mod Reach
 pub mod Records
 pub mod Laws
 pub mod Sound
+pub mod Components

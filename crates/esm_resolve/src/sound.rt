@@ -38,7 +38,8 @@ fn are_indirects_inside<G: ExportGraph>(
     indirects: &[IndirectExport],
 ) -> bool
     requires { m.0 < (G.graph graph.now).size }
-    ensures { result ≡ list_all (λ e. inner.is_inside (G.graph graph.now) m.0 e.request) indirects.now }
+    ensures { result
+        ≡ list_all (λ e. inner.is_inside (G.graph graph.now) m.0 e.request) indirects.now }
 {
     for entry in indirects {
         if !is_inside(graph, m, entry.request) {

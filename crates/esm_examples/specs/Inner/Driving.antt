@@ -1,5 +1,5 @@
 -- How far a machine was driven over files.
-use Rattle.std.specs.Prelude.{◌≡◌, List, true, Option, Some, None}
+use Rattle.std.specs.Prelude.{◌≡◌, [], List, true, Option, Some, None}
 use Rattle.esm_base.specs.Urls.{Url, has}
 use Rattle.esm_import_map.specs.ImportMap.{Maps}
 use Rattle.esm_turn.specs.Run.{Delivery}

@@ -5,11 +5,12 @@ use Rattle.esm_resolve.proofs.sound.is_sound.Goals as goal
 
 pub returns-then-not-is_sound_at : goal.returns-then-not-is_sound_at
 returns-then-not-is_sound_at g c =
-    let graph = g.G.ExportGraph.graph c.args.graph.now in
-    (λ h. absurd (cc h),
-    λ sound.
-    let pass : is_sound_at graph c.loop-x.x ≡ true = passes graph sound c.loop-x.x (omega (arith, c.loop-x-test.true, c.size-x-end.ensures)) in
-    absurd (cc (pass, c.is_sound_at.ensures, c.if-not-is_sound_at.true)))
+    let graph = g.G.ExportGraph.graph c.args.graph.now in (
+      λ h. absurd (cc h),
+      λ sound.
+          let pass : is_sound_at graph c.loop-x.x ≡ true = passes graph sound c.loop-x.x (omega (arith, c.loop-x-test.true, c.size-x-end.ensures)) in
+          absurd (cc (pass, c.is_sound_at.ensures, c.if-not-is_sound_at.true)),
+    )
 
 pub returns : goal.returns
 returns g c =

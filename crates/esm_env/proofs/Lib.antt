@@ -1,0 +1,6 @@
+pub mod Places
+pub mod ScopesLemmas
+pub mod FaithfulLemmas
+pub mod MakesLemmas
+pub mod MadeLemmas
+pub mod OneRead

@@ -1,0 +1,58 @@
+-- Scopes that were made from the trees of modules, with their imports bound as linking binds them.
+use Rattle.std.specs.Prelude.{◌≡◌, ℕ, false, List, Option, Some, None}
+use Rattle.esm_env.specs.Declarations.{Initial, Unset, FunctionAt, initial}
+use Rattle.esm_values.specs.Value.{Func, Namespace}
+use Rattle.esm_values.specs.Code.{value_of}
+use Rattle.esm_env.specs.Modules.{Modules}
+use Rattle.esm_env.specs.Cells.{Cells}
+use Rattle.esm_env.specs.Bindings as names
+use Rattle.esm_env.specs.Bindings.{Binds}
+use Rattle.esm_env.specs.Writing.{Writing}
+use Rattle.esm_env.specs.Writing.{Writing as writing}
+use Rattle.esm_env.specs.Slots.{slot_in, valued_by}
+use Rattle.std.specs.Prelude.{is_some}
+use Rattle.esm_env.specs.declared.scope.Wrote.{Wrote}
+use Rattle.esm_env.specs.declared.scope.Wrote.TheVariants as wrote
+use Rattle.esm_env.specs.Scopes.{Scopes, scope_in, own_cell, import_in, import_of, wrote_by}
+use Rattle.esm_env.specs.declared.slots.Slot.{Slot}
+use Rattle.esm_env.specs.declared.scope.Target.{Target}
+use Rattle.esm_env.specs.declared.scope.Target.TheVariants as targets
+use Rattle.esm_env.specs.declared.scope.ModuleScope.{ModuleScope}
+
+-- a slot begins as the tree says
+abbrev pub SlotFits : ℕ → Option Slot → Option Initial → Type 0
+SlotFits m None None = Unit {0}
+SlotFits m None (Some i) = ⊥
+SlotFits m (Some s) None = ⊥
+SlotFits m (Some s) (Some (Unset constant)) = (s.constant ≡ constant) × (s.function ≡ None)
+SlotFits m (Some s) (Some (FunctionAt index)) = (s.constant ≡ false) × (valued_by s.function ≡ Some (Func m index))
+
+abbrev pub target_in : Option Target → Option (names.Target ℕ)
+target_in None = None
+target_in (Some (targets.Cell m x)) = Some (names.CellOf m.0 x)
+target_in (Some (targets.Whole m)) = Some (names.WholeOf m.0)
+
+-- what an import is bound to has a scope
+abbrev pub IsReached : Scopes → Option Target → Type 0
+IsReached e None = Unit {0}
+IsReached e (Some (targets.Cell m x)) = (s : ModuleScope) × (scope_in e m.0 ≡ Some s)
+IsReached e (Some (targets.Whole m)) = (s : ModuleScope) × (scope_in e m.0 ≡ Some s)
+
+pub record IsFaithfulAt (g : Modules ℕ) (e : Scopes) (m : ℕ) (s : ModuleScope) : Type 0 where
+  pub slots : (x : List ℕ) → SlotFits m (slot_in s.slots.items x) (initial (g.tree m) x)
+  pub bound : (x : List ℕ) → Binds g m x (target_in (import_in s.imports.items x))
+  pub reached : (x : List ℕ) → IsReached e (import_in s.imports.items x)
+  pub namespace : value_of s.namespace ≡ Namespace m
+
+abbrev pub IsFaithful : Modules ℕ → Scopes → Type 0
+IsFaithful g e = (m : ℕ) (s : ModuleScope) → scope_in e m ≡ Some s → IsFaithfulAt g e m s
+
+abbrev pub told : Wrote → Cells ℕ → Writing ℕ
+told wrote.Done cells = writing.Done cells
+told wrote.Constant cells = writing.Constant
+told wrote.Unset cells = writing.Unset
+told wrote.Undeclared cells = writing.Undeclared
+
+-- what a write comes to, and what is written then
+abbrev pub outcome : Scopes → ℕ → List ℕ → Wrote
+outcome e m x = wrote_by (own_cell e m x) (is_some (import_of (scope_in e m) x))

@@ -1,0 +1,41 @@
+-- Laws of the definitions, over modules with numbers.
+use Rattle.std.specs.Prelude.{◌≡◌, ℕ, Bool, List, Option, Some}
+use Rattle.esm_tree.specs.Syntax.{Item}
+use Rattle.esm_base.specs.declared.module_id.ModuleId.{ModuleId}
+use Rattle.esm_values.specs.Value.{Value, Func}
+use Rattle.esm_env.specs.Declarations.{Unset, FunctionAt, initial}
+use Rattle.esm_env.specs.Modules.{Modules}
+use Rattle.esm_env.specs.Cells.{Cells, no_cells, Reading}
+use Rattle.esm_env.specs.Cells.{Reading as reading}
+use Rattle.esm_env.specs.Bindings.{Target, Binds}
+use Rattle.esm_env.specs.Reading.{IsReadingOf, IsMemberOf}
+use Rattle.esm_env.specs.Slots.{slot_in}
+use Rattle.esm_env.specs.Scopes.{Scopes, scope_in, cells_of, read_in}
+use Rattle.esm_env.specs.Makes.{slots_for}
+use Rattle.esm_env.specs.Faithful.{IsFaithful, SlotFits}
+use Rattle.esm_env.specs.declared.scope.ModuleScope.{ModuleScope}
+
+-- an import is bound to one thing at most, and a name, and a member of a namespace, reads as one thing
+pub record ReadsOne : Type 0 where
+  pub one_binding : (g : Modules ℕ) (m : ℕ) (x : List ℕ) (one other : Option (Target ℕ))
+      → Binds g m x one → Binds g m x other → one ≡ other
+  pub one_reading : (g : Modules ℕ) (cells : Cells ℕ) (m : ℕ) (x : List ℕ) (one other : Reading (Value ℕ))
+      → IsReadingOf g cells m x one → IsReadingOf g cells m x other → one ≡ other
+  pub one_member : (g : Modules ℕ) (cells : Cells ℕ) (m : ℕ) (x : List ℕ) (one other : Reading (Value ℕ))
+      → IsMemberOf g cells m x one → IsMemberOf g cells m x other → one ≡ other
+
+-- what the code reads is what the name reads as
+abbrev pub ReadsRight : Type 0
+ReadsRight = (g : Modules ℕ) (e : Scopes) (m : ℕ) (s : ModuleScope) (x : List ℕ)
+    → IsFaithful g e → scope_in e m ≡ Some s → IsReadingOf g (cells_of e) m x (read_in e m x)
+
+-- a scope that was made from the tree fits it
+abbrev pub MadeFits : Type 0
+MadeFits = (m : ModuleId) (items : List Item) (x : List ℕ) → SlotFits m.0 (slot_in (slots_for m items) x) (initial items x)
+
+-- before anything is written, a `const` or `let` of a module is unset, and a function is set
+pub record BeginsUnset : Type 0 where
+  pub unset : (g : Modules ℕ) (m : ℕ) (x : List ℕ) (constant : Bool)
+    → initial (g.tree m) x ≡ Some (Unset constant) → IsReadingOf g no_cells m x reading.Unset
+  pub function : (g : Modules ℕ) (m : ℕ) (x : List ℕ) (index : ℕ)
+    → initial (g.tree m) x ≡ Some (FunctionAt index) → IsReadingOf g no_cells m x (reading.Value (Func m index))

@@ -1,0 +1,12 @@
+pub mod Declarations
+pub mod Modules
+pub mod Cells
+pub mod Bindings
+pub mod Reading
+pub mod Writing
+pub mod Slots
+pub mod Scopes
+pub mod Told
+pub mod Makes
+pub mod Faithful
+pub mod Laws

@@ -1,0 +1,168 @@
+// The cells of all modules.
+ghost use Rattle.std.specs.Prelude.{◌≡◌, ◌<◌, ◌^◌, ℕ, [], length, OnOk, OnErr};
+ghost use Rattle.std.specs.Arc.{arc_value};
+ghost use Rattle.esm_env.specs.Makes.{IsMade, OthersStay};
+ghost use Rattle.esm_env.specs.Scopes.{read_in, scope_in};
+ghost use Rattle.esm_env.specs.Told.{told_read, read_own, IsScope, IsTarget, IsWrittenIn, IsInitialised, scopes_of};
+ghost use Rattle.esm_env.specs.Cells.{read_cell};
+ghost use Rattle.esm_env.specs.Slots.{slot_in, cell_in};
+
+use crate::makes::slots_of;
+use crate::scope::{ModuleScope, Read, Target, Wrote};
+use crate::slots::{place, value_at};
+use esm_base::{Memory, ModuleId, Text};
+use esm_tree::Tree;
+use esm_values::Value;
+use std::alloc::Global;
+use std::sync::Arc;
+
+/// The scopes of modules.
+#[derive(Drop)]
+pub struct Envs {
+    scopes: Vec<Option<ModuleScope>>,
+}
+
+impl Envs {
+    /// Without scopes. It takes no memory.
+    pub fn new(alloc: Global) -> Envs
+        ensures { scopes_of result ≡ [] }
+    {
+        Envs {
+            scopes: Vec::new(alloc),
+        }
+    }
+
+    /// Makes the scope of a module from its tree. A scope that was left for the module is replaced. For want of memory
+    /// nothing has changed.
+    pub fn make_module(
+        &mut self,
+        alloc: Global,
+        m: ModuleId,
+        tree: Arc<Tree>,
+        imports: Vec<(Text, Target)>,
+    ) -> Result<(), Memory>
+        requires { length (arc_value tree).items < 2 ^ 31 }
+        ensures made { OnOk result (IsMade m (arc_value tree).items imports.items
+            (scope_in (scopes_of self.new) m.0)) }
+        ensures others { OthersStay (scopes_of self.old) m.0 (scopes_of self.new) }
+        ensures err { OnErr result ((n : ℕ) → scope_in (scopes_of self.new) n
+            ≡ scope_in (scopes_of self.old) n) }
+    {
+        let slots = slots_of(alloc, m, &tree)?;
+        self.grow(m.0 as usize)?;
+        self.scopes[m.0 as usize] = Some(ModuleScope {
+            namespace: Value::Namespace(m),
+            tree,
+            slots,
+            imports,
+        });
+        Ok(())
+    }
+
+    /// Makes room for the scope at a place.
+    fn grow(&mut self, at: usize) -> Result<(), Memory>
+        requires { at < 2 ^ 32 }
+        ensures room { OnOk result (at < length (scopes_of self.new)) }
+        ensures same { (n : ℕ) → scope_in (scopes_of self.new) n ≡ scope_in (scopes_of self.old) n }
+    {
+        for next in self.scopes.len()..at + 1 {
+            let _ = next;
+            self.scopes.push(None)?;
+        }
+        Ok(())
+    }
+
+    /// The scope of a module, if it was made.
+    pub fn scope(&self, m: ModuleId) -> Option<&ModuleScope>
+        ensures { IsScope (scopes_of self.now) m.0 result }
+    {
+        let at = m.0 as usize;
+        if at < self.scopes.len() {
+            match &self.scopes[at] {
+                Some(scope) => Some(scope),
+                None => None,
+            }
+        } else {
+            None
+        }
+    }
+
+    /// Reads a name that the module itself declares.
+    fn read_own(&self, m: ModuleId, name: &str) -> Read<'_>
+        ensures { told_read result ≡ read_own (scopes_of self.now) m.0 name.now }
+    {
+        match self.scope(m) {
+            Some(scope) => read_slot(scope, name),
+            None => Read::Undeclared,
+        }
+    }
+
+    /// Reads a name: of the module, or of where its import is bound. It takes no memory.
+    pub fn read(&self, m: ModuleId, name: &str) -> Read<'_>
+        ensures { told_read result ≡ read_in (scopes_of self.now) m.0 name.now }
+    {
+        match self.read_own(m, name) {
+            Read::Value(value) => Read::Value(value),
+            Read::Unset => Read::Unset,
+            Read::Undeclared => match self.import(m, name) {
+                Some(Target::Cell(of, local)) => self.read_own(*of, local.as_str()),
+                Some(Target::Whole(of)) => match self.scope(*of) {
+                    Some(scope) => Read::Value(&scope.namespace),
+                    None => Read::Undeclared,
+                },
+                None => Read::Undeclared,
+            },
+        }
+    }
+
+    /// What the import of the module with this name is bound to.
+    fn import(&self, m: ModuleId, name: &str) -> Option<&Target>
+        ensures { IsTarget (scopes_of self.now) m.0 name.now result }
+    {
+        match self.scope(m) {
+            Some(scope) => scope.import(name),
+            None => None,
+        }
+    }
+
+    /// Writes a name. It takes no memory.
+    pub fn write(&mut self, m: ModuleId, name: &str, value: Value) -> Wrote
+        ensures { IsWrittenIn (scopes_of self.old) m.0 name.now value result (scopes_of self.new) }
+    {
+        let at = m.0 as usize;
+        if at < self.scopes.len() {
+            match &mut self.scopes[at] {
+                Some(scope) => scope.write(name, value),
+                None => Wrote::Undeclared,
+            }
+        } else {
+            Wrote::Undeclared
+        }
+    }
+
+    /// Sets a name that the module itself declares. It takes no memory.
+    pub fn initialise(&mut self, m: ModuleId, name: &str, value: Value)
+        ensures { IsInitialised (scopes_of self.old) m.0 name.now value (scopes_of self.new) }
+    {
+        let at = m.0 as usize;
+        if at < self.scopes.len() {
+            match &mut self.scopes[at] {
+                Some(scope) => scope.initialise(name, value),
+                None => (),
+            }
+        }
+    }
+}
+
+/// Reads a name that the scope declares.
+fn read_slot<'a>(scope: &'a ModuleScope, name: &str) -> Read<'a>
+    ensures { told_read result ≡ read_cell (cell_in (slot_in scope.now.slots.items name.now)) }
+{
+    match place(scope.slots.as_slice(), name) {
+        Some(at) => match value_at(scope.slots.as_slice(), at) {
+            Some(value) => Read::Value(value),
+            None => Read::Unset,
+        },
+        None => Read::Undeclared,
+    }
+}

@@ -1,0 +1,12 @@
+//! The scopes of modules: what they declare, what their imports are bound to, and what was written.
+#![tactic(auto)]
+
+mod envs;
+pub mod laws;
+mod makes;
+mod scope;
+mod slots;
+
+pub use envs::Envs;
+pub use scope::{ModuleScope, Read, Target, Wrote};
+pub use slots::{Slot, is_set, place, value_at, write_at};

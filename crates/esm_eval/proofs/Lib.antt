@@ -1,0 +1,12 @@
+pub mod OneEvaluation
+pub mod SmallWorlds
+pub mod runs
+pub mod Fits
+pub mod Amid
+pub mod Puts
+pub mod WalkKeeps
+pub mod EndsKeep
+pub mod WaitsStayOpen
+pub mod Paths
+pub mod Once
+pub mod OnceEnds

@@ -1,0 +1,98 @@
+-- The world of the examples meets the conditions of the laws.
+use Rattle.std.proofs.Common.{◌≡◌, Bool, true, List, [], ◌∷◌, refl, subst, sym, inl, inr}
+use Rattle.std.specs.Prelude.{◌⊎◌, if◌then◌else◌, Result}
+use Rattle.std.specs.List.{list_any}
+use Rattle.esm_realm.proofs.Lists.{either, in_first, in_left, in_right, in_split, in_cons}
+use Rattle.esm_eval.specs.Nodes.{Node, Call, Start, Run, Answer, module_of}
+use Rattle.esm_eval.specs.Evaluation.{IsLawful, IsSteady, IsSteadyCall}
+use Rattle.esm_eval.specs.Begins.{BeginsOne}
+use Rattle.esm_eval.specs.SmallWorld.{Name, A, B, C, D, same_name, Nodes, node_at, with_node, Small, small, Writes, with_line}
+use Rattle.esm_eval.specs.Examples.{SmallWorldsAreLawful}
+
+own : (x : Name) → same_name x x ≡ true
+own A = refl
+own B = refl
+own C = refl
+own D = refl
+
+equal : (x y : Name) → same_name x y ≡ true → x ≡ y
+equal A A h = refl
+equal A B h = cc
+equal A C h = cc
+equal A D h = cc
+equal B A h = cc
+equal B B h = refl
+equal B C h = cc
+equal B D h = cc
+equal C A h = cc
+equal C B h = cc
+equal C C h = refl
+equal C D h = cc
+equal D A h = cc
+equal D B h = cc
+equal D C h = cc
+equal D D h = refl
+
+read_back : (ns : Nodes) (x : Name) (n : Node Name Name) (y : Name) → node_at (with_node ns x n) y ≡ if same_name x y then n else node_at ns y
+read_back ns A n A = refl
+read_back ns A n B = refl
+read_back ns A n C = refl
+read_back ns A n D = refl
+read_back ns B n A = refl
+read_back ns B n B = refl
+read_back ns B n C = refl
+read_back ns B n D = refl
+read_back ns C n A = refl
+read_back ns C n B = refl
+read_back ns C n C = refl
+read_back ns C n D = refl
+read_back ns D n A = refl
+read_back ns D n B = refl
+read_back ns D n C = refl
+read_back ns D n D = refl
+
+module _ (targets : Name → List Name) (awaits : Name → Bool) where
+  small_is_lawful : IsLawful (small targets awaits)
+  small_is_lawful = record {
+    own = own;
+    equal = equal;
+    put = λ w x n. record { node = read_back w.nodes x n; stamps = refl; begun = λ y. refl; awaits = λ y. refl };
+    add_stamp = λ w x. record { nodes = λ y. refl; stamps = refl; begun = λ y. refl; awaits = λ y. refl };
+    make_promise = λ w. record { nodes = λ y. refl; stamps = refl; begun = λ y. refl; awaits = λ y. refl };
+    make_body_promise = λ w x. record { nodes = λ y. refl; stamps = refl; begun = λ y. refl; awaits = λ y. refl };
+    fulfill = λ w p. record { nodes = λ y. refl; stamps = refl; begun = λ y. refl; awaits = λ y. refl };
+    reject = λ w p v. record { nodes = λ y. refl; stamps = refl; begun = λ y. refl; awaits = λ y. refl };
+  }
+
+  line_is_steady : (w : Small) (m : Name) → IsSteadyCall (small targets awaits) w m (with_line w m)
+  line_is_steady w m = record {
+    nodes = λ x. refl;
+    stamps = refl;
+    starts = in_right same_name own equal w.log (m ∷ []) m (in_first same_name own equal m []);
+    begun = λ x h. in_left same_name own equal w.log (m ∷ []) x h;
+    awaits = λ x h. refl;
+  }
+
+  small_is_steady : (throws : Name → Bool) → IsSteady (small targets awaits) (Writes throws)
+  small_is_steady throws = record { call = steady }
+    where
+      steady : (w v : Small) (c : Call Name) (r : Result (Answer Name c) (Unit {0})) → Writes throws w c r v → IsSteadyCall (small targets awaits) w (module_of c) v
+      steady w v (Start m end) r h = subst (λ v. IsSteadyCall (small targets awaits) w m v) (sym h.1) (line_is_steady w m)
+      steady w v (Run m) r h = subst (λ v. IsSteadyCall (small targets awaits) w m v) (sym h.1) (line_is_steady w m)
+
+  line_begins : (w : Small) (m x : Name) → list_any (same_name x) (with_line w m).log ≡ true → (list_any (same_name x) w.log ≡ true) ⊎ (x ≡ m)
+  line_begins w m x h = either (in_split same_name own equal w.log (m ∷ []) x h) inl (λ k. either (in_cons same_name own equal m [] x k) inr (λ z. cc))
+
+  small_begins : (throws : Name → Bool) → BeginsOne (small targets awaits) (Writes throws)
+  small_begins throws = record { call = begins }
+    where
+      begins : (w v : Small) (c : Call Name) (r : Result (Answer Name c) (Unit {0})) → Writes throws w c r v → (x : Name) → list_any (same_name x) v.log ≡ true → (list_any (same_name x) w.log ≡ true) ⊎ (x ≡ module_of c)
+      begins w v (Start m end) r h x k = line_begins w m x (subst (λ u. list_any (same_name x) u.log ≡ true) h.1 k)
+      begins w v (Run m) r h x k = line_begins w m x (subst (λ u. list_any (same_name x) u.log ≡ true) h.1 k)
+
+pub small_worlds_are_lawful : SmallWorldsAreLawful
+small_worlds_are_lawful = record {
+  lawful = small_is_lawful;
+  steady = λ targets awaits throws. small_is_steady targets awaits throws;
+  begins = λ targets awaits throws. small_begins targets awaits throws;
+}

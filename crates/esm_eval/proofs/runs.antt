@@ -1,0 +1,5 @@
+pub mod States
+pub mod Cycle
+pub mod Thrown
+pub mod Shared
+pub mod Meeting

@@ -1,0 +1,37 @@
+// Laws of the definitions, as functions without effect.
+ghost use Rattle.esm_eval.specs.Laws.{BeginsOnce, OneEvaluation, WaitsStayOpen};
+
+/// A world of any kind, with a relation for what the calls for bodies do in it. The laws range over all of them.
+pub trait AnyWorld {
+    ghost use Rattle.esm_eval.specs.Nodes.{Acts};
+    ghost use Rattle.esm_eval.specs.Evaluation.{Evaluation};
+
+    /// What names a module.
+    type Name;
+    /// What a body throws.
+    type Value;
+    /// The world.
+    type World;
+    /// Why a call for a body stops all.
+    type Stop;
+
+    /// What evaluation reads and writes of the world.
+    ghost evaluation: { Evaluation Self.Name Self.Value Self.World };
+    /// What a call for a body does.
+    ghost acts: { Acts Self.Name Self.Value Self.World Self.Stop };
+}
+
+/// Where each call for a body has one outcome, an evaluation has one, and so has what follows the end of a body.
+pub fn one_evaluation<A: AnyWorld>()
+    ensures { OneEvaluation A.evaluation A.acts }
+{}
+
+/// Between two calls of evaluation a module that waits has a wait that isn't done.
+pub fn waits_stay_open<A: AnyWorld>()
+    ensures { WaitsStayOpen A.evaluation A.acts }
+{}
+
+/// No body begins twice.
+pub fn begins_once<A: AnyWorld>()
+    ensures { BeginsOnce A.evaluation A.acts }
+{}

@@ -1,0 +1,12 @@
+// Laws of the definitions, as functions without effect.
+ghost use Rattle.esm_link.specs.Laws.{LinksWhole, OneLinking};
+
+/// Linking a module has one outcome: a fault or none, and the modules that are closed then.
+pub fn one_linking<N>()
+    ensures { OneLinking N }
+{}
+
+/// Without a fault each module that was entered is linked.
+pub fn links_whole<N>()
+    ensures { LinksWhole N }
+{}

@@ -1,0 +1,4 @@
+pub mod Follows
+pub mod Joined
+pub mod Equal
+pub mod Texts

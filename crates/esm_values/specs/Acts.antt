@@ -1,0 +1,31 @@
+-- What an expression asks of the world around it, and what is answered.
+use Rattle.std.specs.Prelude.{ℕ, List}
+use Rattle.esm_values.specs.Completion.{Completion}
+use Rattle.esm_values.specs.declared.errors.FaultKind.{FaultKind}
+
+-- a call on the world
+pub data Act (V : Type 0) : Type 0 where
+  -- the value of a name. ECMA-262, ResolveBinding and GetValue
+  Read : (name : List ℕ) → Act V
+  -- the member of a value with a name. ECMA-262, GetValue of a property reference
+  Member : (of : V) (name : List ℕ) → Act V
+  -- the display text of a value
+  Display : (of : V) → Act V
+  -- prints the values as one line
+  Print : (vs : List V) → Act V
+  -- makes a new error value
+  Fault : (kind : FaultKind) (message : List ℕ) → Act V
+  -- takes so many steps
+  Step : (steps : ℕ) → Act V
+  -- begins an import() of the value, and gives its promise. ECMA-262, EvaluateImportCall
+  Import : (of : V) → Act V
+
+-- the answer of each
+abbrev pub Answer : {V : Type 0} → Act V → Type 0
+Answer {V} (Read name) = Completion V
+Answer {V} (Member of name) = Completion V
+Answer {V} (Display of) = List ℕ
+Answer {V} (Print vs) = Unit {0}
+Answer {V} (Fault kind message) = V
+Answer {V} (Step steps) = Unit {0}
+Answer {V} (Import of) = V

@@ -1,0 +1,10 @@
+pub mod Value
+pub mod Errors
+pub mod Display
+pub mod Completion
+pub mod Ran
+pub mod Acts
+pub mod Plans
+pub mod Operators
+pub mod Code
+pub mod Laws
