@@ -1,18 +1,18 @@
 -- Driving a machine over files.
-use Rattle.std.proofs.Common.{◌≡◌, ◌<◌, ◌≤◌, ◌∙◌, ap, sym, subst, refl, ℕ, List, [], ◌∷◌, ◌++◌, length, get_or, map, arith, true, ◌||◌}
+use Rattle.std.proofs.Common.{◌≡◌, ◌<◌, ◌≤◌, ◌∙◌, ap, sym, subst, refl, List, [], ◌∷◌, ◌++◌, length, get_or, arith, true}
 use Rattle.std.specs.Prelude.{Option, Some, None, is_some}
 use Rattle.std.proofs.lemmas.Slice.Eq.{bytes_eq-Decides}
 use Rattle.std.proofs.lemmas.List.Elements.{All-nil, All-cons, All-append}
 use Rattle.std.proofs.lemmas.List.{map-append, length-map}
 use Rattle.esm_base.specs.declared.status.Status.{Status}
-use Rattle.esm_base.specs.Urls.{Text, Url, has}
+use Rattle.esm_base.specs.Urls.{Url, has}
 use Rattle.esm_ast.specs.Outcome.{OutcomeView}
 use Rattle.esm_import_map.specs.ImportMap.{Maps}
 use Rattle.esm_load.specs.Loading.{Loading}
 use Rattle.esm_turn.specs.Laws.{FewDeliveries}
-use Rattle.esm_turn.specs.Run.{Delivery, completed, Shown, shown, StandardRun}
+use Rattle.esm_turn.specs.Run.{Delivery, completed, shown, StandardRun}
 use Rattle.esm_turn.specs.Represents.{TurnEnd, State, MayTake, MayTakeBy, asks_of, asks_by_stop, Represents, RepresentsOn, ShownBy}
-use Rattle.esm_examples.specs.Fetches.{Files, ComesFrom, AreFetches, IsRunOver}
+use Rattle.esm_examples.specs.Fetches.{Files, ComesFrom, IsRunOver}
 use Rattle.esm_examples.specs.declared.fetches.Ran.{Ran}
 use Rattle.esm_examples.specs.Inner.Driving.{IsOpen, IsDriven}
 
