@@ -4,7 +4,7 @@ use Rattle.std.specs.Prelude.{Ok}
 use Rattle.esm_realm.specs.Walk.Mark.{Enter, Pass, Leave}
 use Rattle.esm_realm.specs.Walk.Visits.{known, fresh}
 use Rattle.esm_realm.specs.Walk.Passes.{all, next}
-use Rattle.esm_eval.specs.Nodes.{NotBegun, Evaluating, EvaluatingAsync, Evaluated, untouched}
+use Rattle.esm_eval.specs.Nodes.{NotEntered, Evaluating, EvaluatingAsync, Evaluated, untouched}
 use Rattle.esm_eval.specs.Evaluate.{Ends, Leaves, StartsBody, RunsBody, Marks, EvaluatesRoot}
 use Rattle.esm_eval.specs.Evaluate.Marks.{done, enters, passes, stays, component}
 use Rattle.esm_eval.specs.BodyEnd.{IsReady, AreOver, ReadyAmong, GoOn, Fulfills}
@@ -13,7 +13,7 @@ use Rattle.esm_eval.specs.Examples.{cycle, CycleOfWhichOneAwaits}
 use Rattle.esm_eval.proofs.runs.States.{nd, at, async, not_ready, nothing_begun}
 
 abbrev one0 : Small
-one0 = at (nd NotBegun None None (Some 0) false [] []) (untouched) (untouched) (untouched) [] (Pending ∷ []) []
+one0 = at (nd NotEntered None None (Some 0) false [] []) (untouched) (untouched) (untouched) [] (Pending ∷ []) []
 
 abbrev one1 : Small
 one1 = at (nd Evaluating None None (Some 0) false [] []) (untouched) (untouched) (untouched) [] (Pending ∷ []) []

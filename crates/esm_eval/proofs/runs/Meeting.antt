@@ -5,7 +5,7 @@ use Rattle.esm_realm.specs.Walk.{is_in}
 use Rattle.esm_realm.specs.Walk.Mark.{Enter, Pass, Leave}
 use Rattle.esm_realm.specs.Walk.Visits.{known, fresh}
 use Rattle.esm_realm.specs.Walk.Passes.{all, next}
-use Rattle.esm_eval.specs.Nodes.{NotBegun, Evaluating, EvaluatingAsync, Evaluated, untouched, has_begun}
+use Rattle.esm_eval.specs.Nodes.{NotEntered, Evaluating, EvaluatingAsync, Evaluated, untouched, was_entered}
 use Rattle.esm_eval.specs.Evaluate.{Ends, Leaves, StartsBody, RunsBody, Marks, EvaluatesRoot}
 use Rattle.esm_eval.specs.Evaluate.Marks.{done, enters, passes, stays, component}
 use Rattle.esm_eval.specs.BodyEnd.{IsReady, AreOver, ReadyAmong, GoOn, Fulfills}
@@ -14,7 +14,7 @@ use Rattle.esm_eval.specs.Examples.{meeting, MeetsAWaitingCycle}
 use Rattle.esm_eval.proofs.runs.States.{nd, at, async, not_ready, nothing_begun}
 
 abbrev met0 : Small
-met0 = at (nd NotBegun None None (Some 0) false [] []) (untouched) (untouched) (untouched) [] (Pending ∷ []) []
+met0 = at (nd NotEntered None None (Some 0) false [] []) (untouched) (untouched) (untouched) [] (Pending ∷ []) []
 
 abbrev met1 : Small
 met1 = at (nd Evaluating None None (Some 0) false [] []) (untouched) (untouched) (untouched) [] (Pending ∷ []) []
@@ -74,7 +74,7 @@ abbrev met10 : Small
 met10 = at (nd EvaluatingAsync None (Some A) (Some 0) false (B ∷ []) []) (nd EvaluatingAsync None (Some A) None false (C ∷ []) (A ∷ [])) (nd EvaluatingAsync None (Some C) None false [] (B ∷ [])) (untouched) (C ∷ B ∷ A ∷ []) (Pending ∷ Pending ∷ []) (C ∷ [])
 
 abbrev met11 : Small
-met11 = at (nd EvaluatingAsync None (Some A) (Some 0) false (B ∷ []) []) (nd EvaluatingAsync None (Some A) None false (C ∷ []) (A ∷ [])) (nd EvaluatingAsync None (Some C) None false [] (B ∷ [])) (nd NotBegun None None (Some 2) false [] []) (C ∷ B ∷ A ∷ []) (Pending ∷ Pending ∷ Pending ∷ []) (C ∷ [])
+met11 = at (nd EvaluatingAsync None (Some A) (Some 0) false (B ∷ []) []) (nd EvaluatingAsync None (Some A) None false (C ∷ []) (A ∷ [])) (nd EvaluatingAsync None (Some C) None false [] (B ∷ [])) (nd NotEntered None None (Some 2) false [] []) (C ∷ B ∷ A ∷ []) (Pending ∷ Pending ∷ Pending ∷ []) (C ∷ [])
 
 abbrev met12 : Small
 met12 = at (nd EvaluatingAsync None (Some A) (Some 0) false (B ∷ []) []) (nd EvaluatingAsync None (Some A) None false (C ∷ []) (A ∷ [])) (nd EvaluatingAsync None (Some C) None false [] (B ∷ [])) (nd Evaluating None None (Some 2) false [] []) (C ∷ B ∷ A ∷ []) (Pending ∷ Pending ∷ Pending ∷ []) (C ∷ [])
@@ -109,7 +109,7 @@ met18 = at (nd Evaluated None (Some A) (Some 0) true (B ∷ []) (D ∷ [])) (nd 
 abbrev met19 : Small
 met19 = at (nd Evaluated None (Some A) (Some 0) true (B ∷ []) (D ∷ [])) (nd Evaluated None (Some A) None true (C ∷ []) (A ∷ [])) (nd Evaluated None (Some C) None true [] (B ∷ [])) (nd Evaluated None (Some D) (Some 2) true (A ∷ []) []) (C ∷ B ∷ A ∷ D ∷ []) (Fulfilled ∷ Pending ∷ Fulfilled ∷ []) (C ∷ B ∷ A ∷ D ∷ [])
 
-begun : (x : Name) → is_in same_name (A ∷ B ∷ C ∷ []) x ≡ has_begun ((small meeting (only C)).node met10 x).phase
+begun : (x : Name) → is_in same_name (A ∷ B ∷ C ∷ []) x ≡ was_entered ((small meeting (only C)).node met10 x).phase
 begun A = refl
 begun B = refl
 begun C = refl

@@ -3,7 +3,7 @@ use Rattle.std.proofs.Common.{true, false, [], ◌∷◌, Some, None, refl}
 use Rattle.esm_realm.specs.Walk.Mark.{Enter, Pass, Leave}
 use Rattle.esm_realm.specs.Walk.Visits.{known, fresh}
 use Rattle.esm_realm.specs.Walk.Passes.{all, next}
-use Rattle.esm_eval.specs.Nodes.{NotBegun, Evaluating, EvaluatingAsync, Evaluated, untouched}
+use Rattle.esm_eval.specs.Nodes.{NotEntered, Evaluating, EvaluatingAsync, Evaluated, untouched}
 use Rattle.esm_eval.specs.Evaluate.{Ends, Leaves, StartsBody, Marks, EvaluatesRoot}
 use Rattle.esm_eval.specs.Evaluate.Marks.{done, enters, passes, component}
 use Rattle.esm_eval.specs.BodyEnd.{Rejects, RejectsAll}
@@ -12,7 +12,7 @@ use Rattle.esm_eval.specs.Examples.{diamond, SharedRejection}
 use Rattle.esm_eval.proofs.runs.States.{nd, at, async, nothing_begun}
 
 abbrev shared0 : Small
-shared0 = at (nd NotBegun None None (Some 0) false [] []) (untouched) (untouched) (untouched) [] (Pending ∷ []) []
+shared0 = at (nd NotEntered None None (Some 0) false [] []) (untouched) (untouched) (untouched) [] (Pending ∷ []) []
 
 abbrev shared1 : Small
 shared1 = at (nd Evaluating None None (Some 0) false [] []) (untouched) (untouched) (untouched) [] (Pending ∷ []) []

@@ -1,6 +1,6 @@
 -- States of the worked examples.
 use Rattle.std.proofs.Common.{◌≡◌, ◌≢◌, ℕ, Bool, false, List, Option, refl, sym, ◌∙◌}
-use Rattle.esm_eval.specs.Nodes.{Phase, EvaluatingAsync, Evaluated, Node, has_begun}
+use Rattle.esm_eval.specs.Nodes.{Phase, EvaluatingAsync, Evaluated, Node, was_entered}
 use Rattle.esm_eval.specs.BodyEnd.{IsReady}
 use Rattle.esm_eval.specs.SmallWorld.{Name, A, B, C, D, Promise, Small, opening, small, node_at}
 
@@ -15,7 +15,7 @@ at a b c d stamps promises log = record { nodes = record { a = a; b = b; c = c; 
 pub async : EvaluatingAsync ≢ Evaluated
 async e = cc
 
-pub nothing_begun : (x : Name) → false ≡ has_begun (node_at opening.nodes x).phase
+pub nothing_begun : (x : Name) → false ≡ was_entered (node_at opening.nodes x).phase
 nothing_begun A = refl
 nothing_begun B = refl
 nothing_begun C = refl

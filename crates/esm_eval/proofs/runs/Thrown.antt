@@ -3,7 +3,7 @@ use Rattle.std.proofs.Common.{false, [], ◌∷◌, Some, None, refl}
 use Rattle.esm_realm.specs.Walk.Mark.{Enter, Pass, Leave}
 use Rattle.esm_realm.specs.Walk.Visits.{known, fresh}
 use Rattle.esm_realm.specs.Walk.Passes.{all, next}
-use Rattle.esm_eval.specs.Nodes.{NotBegun, Evaluating, Evaluated, untouched}
+use Rattle.esm_eval.specs.Nodes.{NotEntered, Evaluating, Evaluated, untouched}
 use Rattle.esm_eval.specs.Evaluate.{Throws, Leaves, RunsBody, Marks, EvaluatesRoot}
 use Rattle.esm_eval.specs.Evaluate.Marks.{enters, passes, component, leave_throws}
 use Rattle.esm_eval.specs.SmallWorld.{A, B, C, Small, small, Writes, none, only, Pending, Rejected}
@@ -11,7 +11,7 @@ use Rattle.esm_eval.specs.Examples.{cycle_behind, ThrowInCycle}
 use Rattle.esm_eval.proofs.runs.States.{nd, at, nothing_begun}
 
 abbrev thrown0 : Small
-thrown0 = at (nd NotBegun None None (Some 0) false [] []) (untouched) (untouched) (untouched) [] (Pending ∷ []) []
+thrown0 = at (nd NotEntered None None (Some 0) false [] []) (untouched) (untouched) (untouched) [] (Pending ∷ []) []
 
 abbrev thrown1 : Small
 thrown1 = at (nd Evaluating None None (Some 0) false [] []) (untouched) (untouched) (untouched) [] (Pending ∷ []) []
