@@ -1,3 +1,4 @@
 pub mod Shorter
 pub mod Small
 pub mod Requests
+pub mod OneOutcome

@@ -2,12 +2,13 @@
 use Rattle.std.proofs.Common.{ℕ, zero, suc, ◌+◌, ◌*◌, ◌-◌, ◌≤◌, Bool, true, false, cond, List, [], ◌∷◌, ◌++◌, length, drop, Option, Some, None, arith, length-append}
 use Rattle.std.proofs.lemmas.List.{length-drop}
 use Rattle.std.specs.Str.{chars, chars_after, continuation_len, lead_bits}
-use Rattle.std.specs.Prelude.{bytes_eq}
+use Rattle.std.specs.Prelude.{bytes_eq, if◌then◌else◌}
 use Rattle.std.specs.List.{list_any}
+use Rattle.esm_base.specs.declared.limits.TheConstants.{MAX_FILE_BYTES}
 use Rattle.esm_tree.specs.Syntax.{Item}
 use Rattle.esm_tree.specs.declared.lexeme.Lexeme.{Lexeme}
-use Rattle.esm_grammar.specs.Reading.{pick}
-use Rattle.esm_grammar.specs.Lexes.{Lexes, has_mark, without_mark, hashbang_len}
+use Rattle.esm_base.specs.Mark.{has_mark, without_mark}
+use Rattle.esm_grammar.specs.Lexes.{Lexes, hashbang_len}
 use Rattle.esm_grammar.specs.Lexes.Lexes.{all_read, stuck, blank, token}
 use Rattle.esm_grammar.specs.Items.{ItemsAt}
 use Rattle.esm_grammar.specs.Items.ItemsAt.{no_item, an_item}
@@ -45,8 +46,7 @@ unfolding chars
 chars_few [] = omega arith
 chars_few (b ∷ bs) = let rest = chars_after_few (continuation_len b) (lead_bits b) bs in omega (arith, rest)
 
-mark_few : (b : Bool) (bytes : List ℕ) → length (pick b (drop 3 bytes) bytes) ≤ length bytes
-unfolding pick
+mark_few : (b : Bool) (bytes : List ℕ) → length (if b then drop 3 bytes else bytes) ≤ length bytes
 mark_few true bytes = omega (arith, length-drop 3 bytes)
 mark_few false bytes = omega arith
 
@@ -87,5 +87,5 @@ pub requests_few : (items : List Item) → length (entries_of items).requests �
 unfolding entries_of entries_with
 requests_few items = let r = requests_after_few [] items in omega (arith, r)
 
-pub requests_at_most : (bytes : List ℕ) (items : List Item) → Spells bytes items → length (entries_of items).requests ≤ 1048576
+pub requests_at_most : (bytes : List ℕ) (items : List Item) → Spells bytes items → length (entries_of items).requests ≤ MAX_FILE_BYTES
 requests_at_most bytes items s = let r = requests_few items in let n = spelled_few bytes items s in let l = s.tokens.short in omega (arith, r, n, l)

@@ -1,5 +1,5 @@
 //! Laws of the definitions, each the contract of a function without effect.
-ghost use Rattle.esm_ast.specs.Laws.{SpellsOneTree, HasTreeOrFault, EntriesNameRequests, IsSmall};
+ghost use Rattle.esm_ast.specs.Laws.{SpellsOneTree, HasOneFault, HasNoTreeBesideAFault, HasOneOutcome, EntriesNameRequests, IsSmall};
 
 /// A text spells at most one tree.
 pub fn one_tree()
@@ -8,12 +8,27 @@ pub fn one_tree()
     esm_grammar::laws::one_tree()
 }
 
-/// A text has at most one fault, and none where it spells a tree.
-pub fn tree_or_fault()
-    ensures { HasTreeOrFault }
+/// A text has at most one fault.
+pub fn one_fault()
+    ensures { HasOneFault }
 {
-    esm_grammar::laws::one_fault();
-    esm_grammar::laws::no_fault();
+    esm_grammar::laws::one_fault()
+}
+
+/// A text that has a fault spells no tree.
+pub fn no_tree_beside_a_fault()
+    ensures { HasNoTreeBesideAFault }
+{
+    esm_grammar::laws::no_fault()
+}
+
+/// Bytes are read as one outcome: whatever contracts see of it, the fault or the items, is determined by the bytes.
+pub fn one_outcome()
+    ensures { HasOneOutcome }
+{
+    one_tree();
+    one_fault();
+    no_tree_beside_a_fault();
 }
 
 /// Whatever an entry of a module names as its request is one of the module's requests.

@@ -1,6 +1,7 @@
 // A module text that was read.
 ghost use Rattle.std.specs.Prelude.{◌≡◌, ◌≤◌, IfOk, length};
 ghost use Rattle.std.specs.Arc.{arc_value};
+ghost use Rattle.esm_base.specs.declared.limits.TheConstants.{MAX_FILE_BYTES};
 ghost use Rattle.esm_grammar.specs.ModuleText.{Spells};
 ghost use Rattle.esm_ast.specs.Entries.{NamesRequests, entries_of};
 ghost use Rattle.esm_ast.specs.Script.{script_parts};
@@ -85,7 +86,7 @@ impl Script {
     pub fn entries(&self) -> &Entries
         ensures entries { result.now ≡ self.now.entries }
         ensures of_tree { self.now.entries ≡ entries_of self.now.tree.items }
-        ensures few { length self.now.entries.requests ≤ 1048576 }
+        ensures few { length self.now.entries.requests ≤ MAX_FILE_BYTES }
         ensures named { NamesRequests self.now.entries (length self.now.entries.requests) }
     {
         &self.entries

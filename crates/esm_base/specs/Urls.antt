@@ -1,5 +1,5 @@
 -- URLs as texts. A module is named by its URL.
-use Rattle.std.specs.Prelude.{◌≡◌, ℕ, ◌+◌, Bool, true, false, ◌&&◌, List, [], ◌∷◌, length, nat_le, bytes_eq, Option, None, Some}
+use Rattle.std.specs.Prelude.{◌≡◌, ℕ, Bool, true, false, ◌&&◌, List, length, nat_le, bytes_eq, Option, None, Some}
 use Rattle.std.specs.List.{list_any}
 use Rattle.std.specs.Ordering.{nat_cmp}
 use Rattle.std.specs.Cmp.Lexicographic.{slice_cmp}
@@ -27,11 +27,6 @@ same_url = bytes_eq
 -- the list has the URL
 abbrev pub has : List Url → Url → Bool
 has urls u = list_any (bytes_eq u) urls
-
--- the sum of these numbers over the list
-abbrev pub total : (Url → ℕ) → List Url → ℕ
-total number [] = 0
-total number (u ∷ us) = number u + total number us
 
 -- URL Standard, URL parser: the URL that a text is, against a base where there is one
 abbrev pub url_of : Option Parts → Text → Option Parts

@@ -27,6 +27,18 @@ pub const MAX_FILE_BYTES: usize = 1_048_576;
 /// that it is too long.
 pub const MAX_BODY_BYTES: usize = 1_048_577;
 
+/// How many brackets of a module text may be open at once, and how many signs `!` may stand one after another.
+pub const MAX_NESTING: u32 = 64;
+
+/// How many functions of a run may be active at once.
+pub const MAX_CALL_DEPTH: u32 = 256;
+
+/// The longest text that an evaluated `+` may give, in bytes.
+pub const MAX_TEXT_BYTES: usize = 65_536;
+
+/// How many sources a run may be given.
+pub const MAX_SOURCES: usize = 16;
+
 /// A bound of the loader that stops a run.
 #[derive(Clone, Copy, Debug, PartialEq, Eq)]
 pub enum Limit {

@@ -3,7 +3,7 @@
 
 ghost use Rattle.std.specs.Prelude.{◌≡◌, ◌<◌, [], All, IfOk, vec_len};
 
-use esm_base::{Memory, Status, Text};
+use esm_base::{MAX_SOURCES, Memory, Status, Text};
 use esm_ports::{FileSource, StdSink};
 use esm_run::run;
 use std::alloc::Global;
@@ -11,9 +11,6 @@ use std::env;
 use std::io::ErrorKind;
 use std::process::ExitCode;
 use std::rt::{Env, Files};
-
-/// How many sources a run is given.
-const SOURCES: usize = 16;
 
 // The words after the program's name. Where one of them isn't UTF-8 there are none, which is no command.
 fn words<R: Env + AllocGlobal>(rt: &R, alloc: Global) -> Result<Vec<String>, Memory> {
@@ -46,7 +43,7 @@ fn sources<R: Files + Clone + Drop>(rt: &R, alloc: Global) -> Result<Vec<FileSou
     ensures fresh { IfOk result (λ v. All (λ s. s ≡ []) v.items) }
 {
     let mut sources = Vec::new(alloc);
-    for _ in 0..SOURCES {
+    for _ in 0..MAX_SOURCES {
         sources.push(files(rt, alloc)?)?;
     }
     Ok(sources)

@@ -1,20 +1,20 @@
 -- A name reads as one thing.
-use Rattle.std.proofs.Common.{◌≡◌, ℕ, List, Option, Some, refl, ap, subst, sym, ◌∙◌}
+use Rattle.std.proofs.Common.{◌≡◌, ℕ, List, false, Option, Some, None, refl, ap, subst, sym, ◌∙◌}
 use Rattle.esm_ast.specs.declared.entries.ImportEntry.{ImportEntry}
 use Rattle.esm_resolve.specs.Graph.{Graph}
 use Rattle.esm_resolve.specs.Resolution.{IsResolutionOf, End}
 use Rattle.esm_resolve.specs.declared.pair.Pair.{Pair}
 use Rattle.esm_resolve.specs.declared.graph.Resolution.{Resolution}
 use Rattle.esm_resolve.specs.declared.graph.Resolution.TheVariants.{Missing, One, Ambiguous}
-use Rattle.esm_values.specs.Value.{Value}
+use Rattle.esm_values.specs.Value.{Value, Func}
 use Rattle.esm_env.specs.Modules.{Modules, graph, Exports}
-use Rattle.esm_env.specs.Cells.{Cells, Reading, read_cell}
+use Rattle.esm_env.specs.Cells.{Cells, Reading, read_cell, cell_by}
 use Rattle.esm_env.specs.Bindings.{Target, Binds, target_of}
 use Rattle.esm_env.specs.Bindings.Binds.{no_import, whole, named}
 use Rattle.esm_env.specs.Reading.{IsReadingOf, IsMemberOf, read_target, read_member}
 use Rattle.esm_env.specs.Reading.IsReadingOf.{own, bound}
 use Rattle.esm_env.specs.Reading.IsMemberOf.{member}
-use Rattle.esm_env.specs.Laws.{ReadsOne}
+use Rattle.esm_env.specs.Laws.{ReadsOne, BeginsUnset}
 
 pub resolution_one : (g : Graph) (p : Pair) (r s : Resolution) → IsResolutionOf g p r → IsResolutionOf g p s → s ≡ r
 resolution_one g p Missing Missing h k = refl
@@ -59,4 +59,10 @@ one_reading = record {
   one_binding = λ g m x s t a b. binds_one g a b;
   one_reading = λ g cells m x r s a b. sym (reads_one g a b);
   one_member = λ g cells m x r s a b. sym (member_one g a b);
+}
+
+pub begins_unset : BeginsUnset
+begins_unset = record {
+  unset = λ g m x constant e. own (record { constant = constant; value = None }) (ap (λ i. cell_by i None m) e);
+  function = λ g m x index e. own (record { constant = false; value = Some (Func m index) }) (ap (λ i. cell_by i None m) e);
 }

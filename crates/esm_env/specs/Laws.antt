@@ -1,11 +1,12 @@
 -- Laws of the definitions, over modules with numbers.
-use Rattle.std.specs.Prelude.{◌≡◌, ℕ, List, Option, Some}
+use Rattle.std.specs.Prelude.{◌≡◌, ℕ, Bool, List, Option, Some}
 use Rattle.esm_tree.specs.Syntax.{Item}
 use Rattle.esm_base.specs.declared.module_id.ModuleId.{ModuleId}
-use Rattle.esm_values.specs.Value.{Value}
-use Rattle.esm_env.specs.Declarations.{initial}
+use Rattle.esm_values.specs.Value.{Value, Func}
+use Rattle.esm_env.specs.Declarations.{Unset, FunctionAt, initial}
 use Rattle.esm_env.specs.Modules.{Modules}
-use Rattle.esm_env.specs.Cells.{Cells, Reading}
+use Rattle.esm_env.specs.Cells.{Cells, no_cells, Reading}
+use Rattle.esm_env.specs.Cells.{Reading as reading}
 use Rattle.esm_env.specs.Bindings.{Target, Binds}
 use Rattle.esm_env.specs.Reading.{IsReadingOf, IsMemberOf}
 use Rattle.esm_env.specs.Slots.{slot_in}
@@ -31,3 +32,10 @@ ReadsRight = (g : Modules ℕ) (e : Scopes) (m : ℕ) (s : ModuleScope) (x : Lis
 -- a scope that was made from the tree fits it
 abbrev pub MadeFits : Type 0
 MadeFits = (m : ModuleId) (items : List Item) (x : List ℕ) → SlotFits m.0 (slot_in (slots_for m items) x) (initial items x)
+
+-- before anything is written, a `const` or `let` of a module is unset, and a function is set
+pub record BeginsUnset : Type 0 where
+  pub unset : (g : Modules ℕ) (m : ℕ) (x : List ℕ) (constant : Bool)
+    → initial (g.tree m) x ≡ Some (Unset constant) → IsReadingOf g no_cells m x reading.Unset
+  pub function : (g : Modules ℕ) (m : ℕ) (x : List ℕ) (index : ℕ)
+    → initial (g.tree m) x ≡ Some (FunctionAt index) → IsReadingOf g no_cells m x (reading.Value (Func m index))

@@ -22,7 +22,8 @@ unset_slots ds = map unset_slot ds
 
 -- the function with this number
 abbrev pub function_slot : ModuleId → ℕ → List ℕ → Slot
-function_slot m index name = record { name = name; constant = false; function = Some (v.Func (record { «module» = m; index = index })); written = None }
+function_slot m index name = record { name = name; constant = false; function =
+    Some (v.Func (record { «module» = m; index = index })); written = None }
 
 abbrev pub function_slots : ModuleId → ℕ → List (List ℕ) → List Slot
 function_slots m index [] = []
@@ -47,7 +48,8 @@ one_name (Some r) = r.now ∷ []
 -- the scope of a module that was made from its tree
 abbrev pub IsMade : ModuleId → List Item → List (List ℕ × Target) → Option ModuleScope → Type 0
 IsMade m items imports None = ⊥
-IsMade m items imports (Some s) = (s.slots.items ≡ slots_for m items) × (s.imports.items ≡ imports) × ((arc_value s.tree).items ≡ items) × (value_of s.namespace ≡ Namespace m.0)
+IsMade m items imports (Some s) = (s.slots.items ≡ slots_for m items) × (s.imports.items ≡ imports) × ((arc_value s.tree).items ≡ items)
+    × (value_of s.namespace ≡ Namespace m.0)
 
 -- nothing but the scope of the module has changed
 abbrev pub OthersStay : Scopes → ℕ → Scopes → Type 0

@@ -46,14 +46,16 @@ wrote_by (Some c) imports = wrote_set c.constant c.value
 wrote_by None imports = wrote_none imports
 
 abbrev pub StaysOrWrites : ModuleScope → List ℕ → Value → Wrote → ModuleScope → Type 0
-StaysOrWrites old x v wrote.Done new = (new.slots.items ≡ written_scope old (place_in old.slots.items x) v) × (new.imports ≡ old.imports) × (new.tree ≡ old.tree) × (new.namespace ≡ old.namespace)
+StaysOrWrites old x v wrote.Done new = (new.slots.items ≡ written_scope old (place_in old.slots.items x) v) × (new.imports ≡ old.imports)
+    × (new.tree ≡ old.tree) × (new.namespace ≡ old.namespace)
 StaysOrWrites old x v wrote.Unset new = new ≡ old
 StaysOrWrites old x v wrote.Constant new = new ≡ old
 StaysOrWrites old x v wrote.Undeclared new = new ≡ old
 
 -- what a write of a name of the scope comes to
 abbrev pub IsWritten : ModuleScope → List ℕ → Value → Wrote → ModuleScope → Type 0
-IsWritten old x v result new = (result ≡ wrote_by (cell_in (slot_in old.slots.items x)) (is_some (import_in old.imports.items x))) × StaysOrWrites old x v result new
+IsWritten old x v result new = (result ≡ wrote_by (cell_in (slot_in old.slots.items x)) (is_some (import_in old.imports.items x)))
+    × StaysOrWrites old x v result new
 
 -- ---- all modules
 

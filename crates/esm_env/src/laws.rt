@@ -1,9 +1,14 @@
 //! Laws of the definitions, each the contract of a function without effect.
-ghost use Rattle.esm_env.specs.Laws.{ReadsOne, ReadsRight, MadeFits};
+ghost use Rattle.esm_env.specs.Laws.{ReadsOne, BeginsUnset, ReadsRight, MadeFits};
 
 /// An import is bound to one thing at most, and a name, and a member of a namespace, reads as one thing.
 pub fn one_reading()
     ensures { ReadsOne }
+{}
+
+/// Before anything is written, a `const` or `let` of a module is unset, and a function is set.
+pub fn begins_unset()
+    ensures { BeginsUnset }
 {}
 
 /// Over scopes that were made from the trees, with their imports bound as linking binds them, what the code reads is

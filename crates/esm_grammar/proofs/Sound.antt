@@ -7,7 +7,7 @@ use Rattle.esm_tree.specs.Lexeme.{Lexeme}
 use Rattle.esm_grammar.specs.Lexeme.{terminal_at}
 use Rattle.esm_grammar.specs.Grammar.{Level, ors, ands, equals, sums, unaries, posts, prims, Reads, some_ors, some_ands, some_equals, some_sums, a_not, no_not, a_post, a_text, a_true, a_false, an_undefined, a_name, in_parentheses, a_print, no_error_text, an_error, an_import, a_url, Further, no_further, one_further, Comparisons, no_comparison, a_same, a_differs, LinksAt, no_link, a_member, a_call, Arguments, closed, argument, closes, comma, CommaClose, just_close, comma_close}
 use Rattle.esm_grammar.specs.Reading as r
-use Rattle.esm_grammar.specs.Reading.{◌>>=◌, pick, Read, same}
+use Rattle.esm_grammar.specs.Reading.{Read}
 use Rattle.esm_grammar.proofs.Basics.{bind_ok, chosen, guard_ok, from_some, same_is, same_not}
 
 module _ (ts : List Lexeme) where

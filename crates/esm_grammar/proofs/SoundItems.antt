@@ -16,7 +16,7 @@ use Rattle.esm_grammar.specs.ReadingItems as r
 use Rattle.esm_grammar.proofs.Basics.{bind_ok, chosen, guard_ok, from_some, same_is, same_not}
 use Rattle.esm_grammar.proofs.Many.{many_ok, many_never}
 use Rattle.esm_grammar.proofs.SoundStatements as sound
-use Rattle.esm_grammar.proofs.SoundStatements.{bar_ok, end_ok, ended}
+use Rattle.esm_grammar.proofs.SoundStatements.{ended}
 
 module _ (ts : List Lexeme) where
   module _ {A : Type 0} (Element : ℕ → A → ℕ → Type 0) (one : ℕ → Read A) (ok : (i : ℕ) (x : A × ℕ) → one i ≡ Some x → Element i x.0 x.1) (close : Terminal) (other : close ≢ t.Comma) where

@@ -4,6 +4,8 @@
 -- `{ } ( ) ; , . * + = === !== ! && ||`; a text that holds another has no token there.
 use Rattle.std.specs.Prelude.{◌≡◌, ℕ, ◌+◌, ◌-◌, ◌≤◌, Bool, true, false, ◌||◌, ◌&&◌, ◌==◌, nat_lt, List, [], ◌∷◌, ◌++◌, length, drop, Option, Some, None, sum_by, encode_utf8, encode_utf8_all, IsUtf8, chars}
 use Rattle.std.specs.List.{list_all}
+use Rattle.esm_base.specs.Mark.{without_mark}
+use Rattle.esm_base.specs.declared.limits.TheConstants.{MAX_NESTING}
 use Rattle.esm_tree.specs.declared.token.TokenKind.{TokenKind}
 use Rattle.esm_tree.specs.declared.token.TokenKind.TheVariants as kind
 use Rattle.esm_tree.specs.declared.lexeme.Terminal.{Terminal}
@@ -94,16 +96,6 @@ hashbang_len [] = 0
 hashbang_len (c ∷ []) = 0
 hashbang_len (c ∷ d ∷ cs) = pick ((c == 35) && (d == 33)) (line_len cs + 2) 0
 
--- a leading byte order mark
-unfoldable pub has_mark : List ℕ → Bool
-has_mark [] = false
-has_mark (a ∷ []) = false
-has_mark (a ∷ b ∷ []) = false
-has_mark (a ∷ b ∷ c ∷ bytes) = (a == 239) && ((b == 187) && (c == 191))
-
-unfoldable pub without_mark : List ℕ → List ℕ
-without_mark bytes = pick (has_mark bytes) (drop 3 bytes) bytes
-
 -- own: bytes that aren't UTF-8 have no tokens. HTML's "UTF-8 decode" puts U+FFFD in their place.
 -- the bytes are UTF-8, and their tokens are these, up to the end or a place where none can be read
 pub record AreTokens (bytes : List ℕ) (ts : List Lexeme) (whole : Bool) : Type 0 where
@@ -125,8 +117,8 @@ depth_behind depth x = pick (opens x) (depth + 1) (pick (shuts x) (depth - 1) de
 unfoldable pub nots_behind : ℕ → Terminal → ℕ
 nots_behind nots x = pick (same x t.Not) (nots + 1) 0
 
--- the depth passes 64, or more than 64 `!` stand one after another
+-- the depth passes MAX_NESTING, or more than so many `!` stand one after another
 unfoldable pub too_deep : ℕ → ℕ → List Lexeme → Bool
 too_deep depth nots [] = false
-too_deep depth nots (l ∷ ls) = nat_lt 64 (depth_behind depth l.terminal) || nat_lt 64 (nots_behind nots l.terminal)
+too_deep depth nots (l ∷ ls) = nat_lt MAX_NESTING (depth_behind depth l.terminal) || nat_lt MAX_NESTING (nots_behind nots l.terminal)
     || too_deep (depth_behind depth l.terminal) (nots_behind nots l.terminal) ls

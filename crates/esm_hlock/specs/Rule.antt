@@ -31,7 +31,8 @@ pub record Fits {E : Type 0} (maker : E → Option ℕ) (history : List E) (tick
   pub joined : (j : ℕ) (o : Joined E) → get_elem? v.joined j ≡ some o → Continues maker v.seen o.seen o.number
 
 -- the state is in its slot, has this history, and is no seat's
-pub record AtHome {T E : Type 0} (story : T → List E) (homes : List (maybe.Option (Option T))) (views : List (View E)) (history : List E) : Type 0 where
+pub record AtHome {T E : Type 0} (story : T → List E) (homes : List (maybe.Option (Option T)))
+    (views : List (View E)) (history : List E) : Type 0 where
   pub state : T
   pub there : homes ≡ some (Some state) ∷ []
   pub is : story state ≡ history
@@ -47,11 +48,13 @@ pub record Away {T E : Type 0} (homes : List (maybe.Option (Option T))) (views :
 
 -- no ticket is with two seats
 abbrev pub Apart : {E : Type 0} → List (View E) → Type 0
-Apart {E} views = (i j : ℕ) (v w : View E) → get_elem? views i ≡ some v → get_elem? views j ≡ some w → v.has_ticket ≡ true → w.has_ticket ≡ true → v.ticket ≡ w.ticket → i ≡ j
+Apart {E} views = (i j : ℕ) (v w : View E) → get_elem? views i ≡ some v → get_elem? views j ≡ some w
+    → v.has_ticket ≡ true → w.has_ticket ≡ true → v.ticket ≡ w.ticket → i ≡ j
 
 -- each ticket from one number up to another is with a seat
 abbrev pub AreOut : {E : Type 0} → ℕ → ℕ → List (View E) → Type 0
-AreOut {E} low high views = (n : ℕ) → low ≤ n → n < high → (j : ℕ) × (v : View E) × (get_elem? views j ≡ some v) × (v.has_ticket ≡ true) × (v.ticket ≡ n)
+AreOut {E} low high views = (n : ℕ) → low ≤ n → n < high
+    → (j : ℕ) × (v : View E) × (get_elem? views j ≡ some v) × (v.has_ticket ≡ true) × (v.ticket ≡ n)
 
 -- where the state is
 abbrev pub Place : {T E : Type 0} → (T → List E) → List (maybe.Option (Option T)) → List (View E) → List E → Type 0

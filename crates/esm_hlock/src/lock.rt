@@ -51,7 +51,8 @@ impl<T: Story + Drop> Hlock<T> {
         ensures own { IfOk result (λ made. IsPassOf made.0 made.1) }
         ensures seen { IfOk result (λ made. (knows made.1).seen ≡ T.story state) }
         ensures shares { IfOk result (λ made. (knows made.1).shares ≡ 1024) }
-        ensures numbers { IfOk result (λ made. ((knows made.1).number ≡ None) × ((knows made.1).numbers ≡ makers_of T.maker (T.story state))) }
+        ensures numbers { IfOk result (λ made. ((knows made.1).number ≡ None)
+            × ((knows made.1).numbers ≡ makers_of T.maker (T.story state))) }
         ensures makers { IfOk result (λ made. HasAllMakers T.maker (knows made.1)) }
     {
         let mut slots = Vec::with_capacity(alloc, 1)?;
@@ -71,11 +72,14 @@ impl<T: Story + Drop> Hlock<T> {
         requires { IsPassOf self.now pass }
         ensures own { IsHeldOf self.now result }
         ensures found { (found result).seen ≡ T.story result.state }
-        ensures seen { Continues T.maker (T.story result.state) (knows pass).seen (knows pass).number }
+        ensures seen { Continues T.maker (T.story result.state) (knows pass).seen
+            (knows pass).number }
         ensures shares { (found result).shares ≡ (knows pass).shares }
-        ensures numbers { ((found result).number ≡ (knows pass).number) × ((found result).numbers ≡ (knows pass).numbers) }
+        ensures numbers { ((found result).number ≡ (knows pass).number)
+            × ((found result).numbers ≡ (knows pass).numbers) }
         ensures makers { HasAllMakers T.maker (found result) }
-        ensures legal { T.legal (T.story result.state) × T.replays (T.story result.state) result.state }
+        ensures legal { T.legal (T.story result.state)
+            × T.replays (T.story result.state) result.state }
     {
         let PassOf { mut seat } = pass;
         let ticket = self.draw_ticket(rt, &mut seat);
@@ -94,8 +98,11 @@ impl<T: Story + Drop> Hlock<T> {
         ensures own { IsPassOf self.now result }
         ensures seen { (knows result).seen ≡ T.story held.state }
         ensures shares { (knows result).shares ≡ (found held).shares }
-        ensures number { (knows result).number ≡ number_after T.maker (found held).number (added (found held).seen (T.story held.state)) }
-        ensures numbers { (knows result).numbers ≡ numbers_after T.maker (found held).number (found held).numbers (added (found held).seen (T.story held.state)) }
+        ensures number { (knows result).number
+            ≡ number_after T.maker (found held).number (added (found held).seen (T.story held.state)) }
+        ensures numbers { (knows result).numbers
+            ≡ numbers_after T.maker (found held).number (found held).numbers
+            (added (found held).seen (T.story held.state)) }
         ensures makers { HasAllMakers T.maker (knows result) }
     {
         let HeldOf { mut seat, state } = held;
@@ -114,9 +121,12 @@ impl<T: Story + Drop> Hlock<T> {
         requires own { IsPassOf self.now pass.old }
         requires shares { 1 < (knows pass.old).shares }
         ensures own { IsPassOf self.now pass.new × IsPassOf self.now result }
-        ensures seen { ((knows pass.new).seen ≡ (knows pass.old).seen) × ((knows result).seen ≡ (knows pass.old).seen) }
-        ensures shares { ((knows pass.new).shares + 1 ≡ (knows pass.old).shares) × ((knows result).shares ≡ 1) }
-        ensures kept { ((knows pass.new).number ≡ (knows pass.old).number) × ((knows pass.new).numbers ≡ (knows pass.old).numbers) }
+        ensures seen { ((knows pass.new).seen ≡ (knows pass.old).seen)
+            × ((knows result).seen ≡ (knows pass.old).seen) }
+        ensures shares { ((knows pass.new).shares + 1 ≡ (knows pass.old).shares)
+            × ((knows result).shares ≡ 1) }
+        ensures kept { ((knows pass.new).number ≡ (knows pass.old).number)
+            × ((knows pass.new).numbers ≡ (knows pass.old).numbers) }
         ensures given { ((knows result).number ≡ None) × ((knows result).numbers ≡ []) }
     {
         let seat = self.table.shared.split_seat::<SplitsSeat>(&mut pass.seat);
@@ -131,9 +141,11 @@ impl<T: Story + Drop> Hlock<T> {
         ensures own { IsPassOf self.now result }
         ensures seen { (knows result).seen ≡ longer (knows one).seen (knows other).seen }
         ensures one { Continues T.maker (knows result).seen (knows one).seen (knows one).number }
-        ensures other { Continues T.maker (knows result).seen (knows other).seen (knows other).number }
+        ensures other { Continues T.maker (knows result).seen (knows other).seen
+            (knows other).number }
         ensures shares { (knows result).shares ≡ (knows one).shares + (knows other).shares }
-        ensures numbers { ((knows result).number ≡ (knows one).number) × ((knows result).numbers ≡ (knows one).numbers ++ (knows other).numbers) }
+        ensures numbers { ((knows result).number ≡ (knows one).number)
+            × ((knows result).numbers ≡ (knows one).numbers ++ (knows other).numbers) }
         ensures makers { HasAllMakers T.maker (knows result) }
     {
         let PassOf { mut seat } = one;
@@ -152,9 +164,14 @@ impl<T: Story + Drop> Hlock<T> {
     /// pass; that it is this lock's table is read off the code.
     pub fn close(self, pass: Pass<T>) -> Result<T, Busy>
         requires { IsPassOf self pass }
-        ensures seen { IfOk result (λ state. Continues T.maker (T.story state) (knows pass).seen (knows pass).number) }
-        ensures legal { IfOk result (λ state. T.legal (T.story state) × T.replays (T.story state) state) }
-        ensures exact { MatchResult result (λ state. (n : ℕ) × ClosedWith T.story T.maker pass.seat.id (knows pass) n n) (λ busy. (busy.serving < busy.ticket) × ClosedWith T.story T.maker pass.seat.id (knows pass) busy.ticket busy.serving) }
+        ensures seen { IfOk result (λ state.
+            Continues T.maker (T.story state) (knows pass).seen (knows pass).number) }
+        ensures legal { IfOk result (λ state.
+            T.legal (T.story state) × T.replays (T.story state) state) }
+        ensures exact { MatchResult result
+            (λ state. (n : ℕ) × ClosedWith T.story T.maker pass.seat.id (knows pass) n n)
+            (λ busy. (busy.serving < busy.ticket)
+            × ClosedWith T.story T.maker pass.seat.id (knows pass) busy.ticket busy.serving) }
         ensures whole { (knows pass).shares ≡ 1024 → IsOk result }
     {
         let PassOf { seat } = pass;

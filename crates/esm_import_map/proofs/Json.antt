@@ -13,8 +13,9 @@ use Rattle.std.specs.BTreeMap.{is_at}
 use Rattle.std.specs.Cmp.Lexicographic.{slice_cmp}
 use Rattle.std.specs.Map.{lookup}
 use Rattle.url.specs.Parts.{Parts}
+use Rattle.esm_base.specs.Mark.{without_mark}
 use Rattle.esm_import_map.specs.ImportMap.{Maps}
-use Rattle.esm_import_map.specs.Reading.{json_of, without_mark, import_map_of, of_json, of_object, of_parts, part_of}
+use Rattle.esm_import_map.specs.Reading.{json_of, import_map_of, of_json, of_object, of_parts, part_of}
 use Rattle.esm_base.specs.declared.end.End.{End}
 use Rattle.esm_base.specs.Ends.{Gives}
 use Rattle.esm_import_map.specs.declared.fault.MapFault.{MapFault}

@@ -6,16 +6,13 @@ use Rattle.serde_json.specs.Find.{as_object, as_str, get_member}
 use Rattle.serde_json.specs.Read.{read}
 use Rattle.url.specs.Parts.{Parts, serialize}
 use Rattle.esm_base.specs.declared.limits.TheConstants.{MAX_FILE_BYTES}
+use Rattle.esm_base.specs.Mark.{without_mark}
 use Rattle.esm_base.specs.Urls.{url_of}
 use Rattle.esm_import_map.specs.ImportMap.{SpecifierMap, Maps}
 use Rattle.esm_import_map.specs.Specifier.{url_like, begins_with, ends_in_slash}
 use Rattle.esm_base.specs.TextMap.{TextMapView, with_new}
 use Rattle.esm_import_map.specs.declared.fault.MapFault.{MapFault}
 use Rattle.esm_import_map.specs.declared.fault.MapFault.TheVariants.{M1, M2, M3, M4}
-
--- the text without a byte order mark at its front
-abbrev pub without_mark : List ℕ → List ℕ
-without_mark bytes = if begins_with bytes (239 ∷ 187 ∷ 191 ∷ []) then drop 3 bytes else bytes
 
 -- HTML, parse an import map string: the JSON value, if the bytes are a JSON text of at most MAX_FILE_BYTES
 abbrev pub json_of : List ℕ → Option Data

@@ -8,22 +8,10 @@ ghost use Rattle.esm_base.specs.Urls.{url_of};
 use crate::fault::{MapFault, MapReadEnd};
 use crate::import_map::{ImportMap, SpecifierMap};
 use crate::specifier::{ends_in_slash, url_like};
-use esm_base::{MAX_FILE_BYTES, Memory, TextMap, parse_against};
+use esm_base::{MAX_FILE_BYTES, Memory, TextMap, parse_against, without_mark};
 use serde_json::{Category, Map, Value};
 use std::alloc::Global;
 use url::Url;
-
-// The text without a byte order mark at its front.
-fn without_mark(bytes: &[u8]) -> &[u8]
-    ensures { result.now ≡ spec.without_mark bytes.now }
-{
-    if bytes.starts_with(b"\xEF\xBB\xBF") {
-        let (_, text) = bytes.split_at(3);
-        text
-    } else {
-        bytes
-    }
-}
 
 // The JSON value that a text is, if it is one.
 fn json_of(alloc: Global, bytes: &[u8]) -> Result<Option<Value>, Memory>
@@ -43,7 +31,8 @@ fn json_of(alloc: Global, bytes: &[u8]) -> Result<Option<Value>, Memory>
 
 // The key under which an entry is kept, if it is.
 fn normalized_key(alloc: Global, base: &Url, key: &str) -> Result<Option<String>, Memory>
-    ensures { IfOk result (λ kept. option_map string_bytes kept ≡ spec.normalized_key base.now key.now) }
+    ensures { IfOk result (λ kept.
+        option_map string_bytes kept ≡ spec.normalized_key base.now key.now) }
 {
     if key.is_empty() {
         return Ok(None);
@@ -78,7 +67,10 @@ fn enter(
     value: &Value,
     map: &mut SpecifierMap,
 ) -> Result<bool, Memory>
-    ensures { IfOk result (λ fresh. spec.with_entry (spec.normalized_key base.now key.now) (spec.address_of base.now key.now (view value.now)) map.old ≡ (if fresh then Some map.new else None)) }
+    ensures { let kept = spec.normalized_key base.now key.now in
+        let address = spec.address_of base.now key.now (view value.now) in
+        IfOk result (λ fresh.
+        spec.with_entry kept address map.old ≡ (if fresh then Some map.new else None)) }
 {
     let Some(kept) = normalized_key(alloc, base, key)? else {
         return Ok(true);
@@ -93,7 +85,8 @@ fn read_specifiers(
     base: &Url,
     members: &Map<String, Value>,
 ) -> Result<Option<SpecifierMap>, Memory>
-    ensures { IfOk result (λ map. map ≡ spec.normalized base.now (members_view members.now.entries) []) }
+    ensures { IfOk result (λ map.
+        map ≡ spec.normalized base.now (members_view members.now.entries) []) }
 {
     let mut map = TextMap::empty(alloc);
     for (key, value) in members.iter() {
@@ -106,7 +99,8 @@ fn read_specifiers(
 
 // The specifier map of a scope.
 fn read_scope(alloc: Global, base: &Url, value: &Value) -> Result<Option<SpecifierMap>, Memory>
-    ensures { IfOk result (λ map. map ≡ spec.normalized base.now (spec.members_in (view value.now)) []) }
+    ensures { IfOk result (λ map.
+        map ≡ spec.normalized base.now (spec.members_in (view value.now)) []) }
 {
     match value.as_object() {
         Some(members) => read_specifiers(alloc, base, members),
@@ -122,7 +116,10 @@ fn enter_scope(
     value: &Value,
     scopes: &mut TextMap<SpecifierMap>,
 ) -> Result<bool, Memory>
-    ensures { IfOk result (λ fresh. spec.with_scope (url_of (Some base.now) prefix.now) (spec.normalized base.now (spec.members_in (view value.now)) []) scopes.old ≡ (if fresh then Some scopes.new else None)) }
+    ensures { let map = spec.normalized base.now (spec.members_in (view value.now)) [] in
+        IfOk result (λ fresh.
+        spec.with_scope (url_of (Some base.now) prefix.now) map scopes.old
+        ≡ (if fresh then Some scopes.new else None)) }
 {
     let Some(url) = parse_against(base, prefix)? else {
         return Ok(true);
@@ -140,7 +137,8 @@ fn read_scopes(
     base: &Url,
     members: &Map<String, Value>,
 ) -> Result<Option<TextMap<SpecifierMap>>, Memory>
-    ensures { IfOk result (λ scopes. scopes ≡ spec.normalized_scopes base.now (members_view members.now.entries) []) }
+    ensures { IfOk result (λ scopes.
+        scopes ≡ spec.normalized_scopes base.now (members_view members.now.entries) []) }
 {
     let mut scopes = TextMap::empty(alloc);
     for (prefix, value) in members.iter() {
@@ -169,7 +167,8 @@ fn part_of<'a>(
     none: &'a Map<String, Value>,
 ) -> Option<&'a Map<String, Value>>
     requires { none.now.entries ≡ [] }
-    ensures { option_map (λ m. members_view m.now.entries) result ≡ spec.part_of (option_map (λ v. view v.now) part.entry) }
+    ensures { option_map (λ m. members_view m.now.entries) result
+        ≡ spec.part_of (option_map (λ v. view v.now) part.entry) }
 {
     match part {
         Some(value) => value.as_object(),
@@ -184,7 +183,9 @@ fn read_parts(
     imports: Option<&Value>,
     scopes: Option<&Value>,
 ) -> Result<ImportMap, MapReadEnd>
-    ensures { Gives result (spec.of_parts base.now (spec.part_of (option_map (λ v. view v.now) imports.entry)) (spec.part_of (option_map (λ v. view v.now) scopes.entry))) }
+    ensures { Gives result (spec.of_parts base.now
+        (spec.part_of (option_map (λ v. view v.now) imports.entry))
+        (spec.part_of (option_map (λ v. view v.now) scopes.entry))) }
 {
     let none = Map::new(alloc);
     let Some(imports) = part_of(imports, &none) else {

@@ -6,7 +6,7 @@ use Rattle.esm_grammar.specs.Reading.{pick}
 use Rattle.esm_grammar.specs.Strings.{Body, closed, more, piece, is_plain}
 use Rattle.esm_grammar.proofs.Tokens.{quote_no_piece, none_some, value}
 use Rattle.esm_lexer.proofs.TokenLemmas.{encode_append}
-use Rattle.esm_lexer.specs.Pieces.{IsLiteral}
+use Rattle.esm_lexer.specs.Inner.Pieces.{IsLiteral}
 use Rattle.esm_lexer.proofs.Fronts.{skip_one}
 
 -- a literal that is read up to a place: what it stands for so far, and that what is left leads to the whole, and back

@@ -12,7 +12,7 @@ use Rattle.esm_grammar.specs.Characters.{starts, continues, is_quote}
 use Rattle.esm_grammar.specs.Strings.{Body}
 use Rattle.esm_grammar.specs.Terminals.{word_terminal, sign_terminal}
 use Rattle.esm_grammar.specs.Lexes.{is_word_text, IsToken, a_word, a_literal, a_sign, NoToken}
-use Rattle.esm_lexer.specs.Pieces.{IsLiteral}
+use Rattle.esm_lexer.specs.Inner.Pieces.{IsLiteral}
 use Rattle.esm_lexer.specs.Tokens.{IsFound}
 
 pub encode_append : (xs ys : List ℕ) → encode_utf8_all (xs ++ ys) ≡ encode_utf8_all xs ++ encode_utf8_all ys

@@ -16,12 +16,9 @@ use crate::literal::literal;
 use crate::signs::sign;
 use crate::words::word_terminal;
 use bumpalo::Bump;
-use esm_base::{Memory, ReadEnd, TextFault};
+use esm_base::{MAX_NESTING, Memory, ReadEnd, TextFault, without_mark};
 use esm_tree::{Lexeme, Terminal, Token, TokenKind};
 use std::alloc::Global;
-
-/// How many brackets may be open at once, and how many signs `!` stand one after another.
-const MAX_NESTING: u32 = 64;
 
 // A token that was found at the front of a text.
 #[derive(Clone, Copy)]
@@ -36,7 +33,8 @@ struct Found<'a> {
 fn run_len(text: &[char]) -> usize
     ensures within { result ≤ length text.now }
     ensures before { (k : ℕ) → k < result → characters.continues (slice_index text.now k) ≡ true }
-    ensures stop { result < length text.now → characters.continues (slice_index text.now result) ≡ false }
+    ensures stop { result < length text.now
+        → characters.continues (slice_index text.now result) ≡ false }
 {
     for (i, c) in text.iter().enumerate() {
         if !continues(*c) {
@@ -72,7 +70,8 @@ fn literal_at<'a>(
     requires no_word { characters.starts (slice_index text.now 0) ≡ false }
     requires quote { characters.is_quote (slice_index text.now 0) ≡ true }
     requires source { source.now ≡ encode_utf8_all text.now }
-    ensures { IfOk result (λ r. MatchOption r (NoToken text.now) (λ found. IsFound text.now found.kind found.terminal found.text.now found.len)) }
+    ensures { IfOk result (λ r. MatchOption r (NoToken text.now)
+        (λ found. IsFound text.now found.kind found.terminal found.text.now found.len)) }
 {
     match literal(alloc, arena, source, text)? {
         Some((value, len)) => Ok(Some(Found {
@@ -89,7 +88,8 @@ fn sign_at<'a>(text: &[char]) -> Option<Found<'a>>
     requires there { 0 < length text.now }
     requires no_word { characters.starts (slice_index text.now 0) ≡ false }
     requires no_quote { characters.is_quote (slice_index text.now 0) ≡ false }
-    ensures { MatchOption result (NoToken text.now) (λ found. IsFound text.now found.kind found.terminal found.text.now found.len) }
+    ensures { MatchOption result (NoToken text.now)
+        (λ found. IsFound text.now found.kind found.terminal found.text.now found.len) }
 {
     match sign(text) {
         Some((terminal, len)) => Some(Found {
@@ -111,7 +111,8 @@ fn token_at<'a>(
 ) -> Result<Option<Found<'a>>, Memory>
     requires there { 0 < length text.now }
     requires source { source.now ≡ encode_utf8_all text.now }
-    ensures { IfOk result (λ r. MatchOption r (NoToken text.now) (λ found. IsFound text.now found.kind found.terminal found.text.now found.len)) }
+    ensures { IfOk result (λ r. MatchOption r (NoToken text.now)
+        (λ found. IsFound text.now found.kind found.terminal found.text.now found.len)) }
 {
     if starts(text[0]) {
         return Ok(Some(word_at(source, text)));
@@ -190,19 +191,6 @@ fn chars_of(alloc: Global, text: &str) -> Result<Vec<char>, Memory>
     Ok(characters)
 }
 
-fn without_mark(bytes: &[u8]) -> &[u8]
-    ensures { result.now ≡ lexes.without_mark bytes.now }
-{
-    if bytes.len() < 3 {
-        return bytes;
-    }
-    if bytes[0] == 0xef && bytes[1] == 0xbb && bytes[2] == 0xbf {
-        &bytes[3..]
-    } else {
-        bytes
-    }
-}
-
 fn lexemes_of<'a>(
     alloc: Global,
     arena: &'a Bump,
@@ -210,7 +198,8 @@ fn lexemes_of<'a>(
     text: &'a str,
 ) -> Result<(Vec<Lexeme<'a>>, bool), Memory>
     requires { total < 4294967296 }
-    ensures { IfOk result (λ r. Lexes total false (drop (lexes.hashbang_len (chars text.now)) (chars text.now)) r.0.items r.1) }
+    ensures { IfOk result (λ r. Lexes total false
+        (drop (lexes.hashbang_len (chars text.now)) (chars text.now)) r.0.items r.1) }
 {
     let characters = chars_of(alloc, text)?;
     let begin = hashbang_len(&characters);
@@ -266,7 +255,7 @@ fn shuts(terminal: Terminal) -> bool
 }
 
 fn depth_behind(depth: u32, terminal: Terminal) -> u32
-    requires { depth ≤ 64 }
+    requires { depth ≤ MAX_NESTING }
     ensures { result ≡ lexes.depth_behind depth terminal }
 {
     if opens(terminal) {
@@ -280,7 +269,7 @@ fn depth_behind(depth: u32, terminal: Terminal) -> u32
 }
 
 fn nots_behind(nots: u32, terminal: Terminal) -> u32
-    requires { nots ≤ 64 }
+    requires { nots ≤ MAX_NESTING }
     ensures { result ≡ lexes.nots_behind nots terminal }
 {
     if is_terminal(terminal, Terminal::Not) {
@@ -290,7 +279,7 @@ fn nots_behind(nots: u32, terminal: Terminal) -> u32
     }
 }
 
-/// Whether more than 64 brackets are open somewhere, or more than 64 signs `!` stand one after another.
+/// Whether more than `MAX_NESTING` brackets are open somewhere, or more than so many signs `!` stand one after another.
 pub fn nests_too_deep(lexemes: &[Lexeme]) -> bool
     ensures { result ≡ lexes.too_deep 0 0 lexemes.now }
 {

@@ -1,7 +1,6 @@
 -- Which forms can be run, one by one.
-use Rattle.std.proofs.Common.{◌≡◌, ◌≢◌, ℕ, zero, suc, ◌+◌, ◌<◌, ◌≤◌, Bool, true, false, List, [], ◌∷◌, length, map, drop, get_or, Option, Some, None, Vec, refl, sym, ap, ◌∙◌, arith, subst}
+use Rattle.std.proofs.Common.{◌≡◌, ◌≢◌, ℕ, zero, suc, ◌+◌, ◌<◌, ◌≤◌, Bool, true, false, List, [], ◌∷◌, length, map, drop, get_or, Some, None, Vec, refl, sym, ap, ◌∙◌, arith, subst}
 use Rattle.std.specs.Prelude.{◌&&◌, is_some, slice_index_or}
-use Rattle.std.specs.List.{list_all}
 use Rattle.std.specs.declared.alloc.Global.{Global}
 use Rattle.std.proofs.lemmas.List.{drop_more, drop_all}
 use Rattle.esm_base.specs.Urls.{Text}
@@ -13,12 +12,12 @@ use Rattle.esm_tree.specs.declared.node.StmtNode.{StmtNode}
 use Rattle.esm_tree.specs.declared.node.StmtNode.TheVariants as s
 use Rattle.esm_tree.specs.declared.node.ItemNode.{ItemNode}
 use Rattle.esm_tree.specs.declared.node.ItemNode.TheVariants as i
-use Rattle.esm_tree.specs.Syntax.{Expr, Stmt, Item}
+use Rattle.esm_tree.specs.Syntax.{Expr, Stmt}
 use Rattle.esm_tree.specs.Flat.{part, parts, AllBelow, expr_of, stmt_of, item_of, items_of, item_need, AllAtMost}
 use Rattle.esm_load.specs.declared.forms.Form as code
 use Rattle.esm_load.specs.declared.forms.Form.TheVariants as variants
 use Rattle.esm_load.specs.FormsView.{form_view}
-use Rattle.esm_load.specs.Forms.{literal_text, only_text, printed_text, print_form, statement_form, form_of, is_built}
+use Rattle.esm_load.specs.Forms.{literal_text, only_text, printed_text, statement_form, form_of, is_built}
 
 pub other_literal : (exprs : List Expr) (node : ExprNode) → ((t : Text) → node ≢ e.Text t) → None ≡ literal_text (expr_of exprs node)
 other_literal exprs (e.Text t) h = absurd (h t refl)

@@ -1,5 +1,5 @@
--- Entering a module, and answering an pending_request, have an outcome.
-use Rattle.std.proofs.Common.{◌≡◌, ℕ, zero, suc, ◌+◌, ◌≤◌, ◌<◌, Bool, true, false, List, [], ◌∷◌, ◌++◌, length, Some, None, Option, refl, ap, subst, sym, ◌∙◌, arith, inl, inr}
+-- Entering a module, and answering a pending request, have an outcome.
+use Rattle.std.proofs.Common.{◌≡◌, ℕ, zero, suc, ◌≤◌, ◌<◌, Bool, true, false, List, [], ◌∷◌, ◌++◌, length, Some, None, Option, refl, ap, subst, sym, ◌∙◌, arith, inl, inr}
 use Rattle.std.specs.Prelude.{◌⊎◌, ◌||◌, not, nat_lt}
 use Rattle.std.specs.List.{list_any}
 use Rattle.std.specs.FinMap.{FinMap, get, keys, contains_key, contains_key-keys, nat_cmp-IsAntisymmetric, slice_cmp-IsAntisymmetric}
@@ -8,7 +8,7 @@ use Rattle.std.specs.Ordering.{eq_by_cmp}
 use Rattle.std.specs.Cmp.{Equal-is}
 use Rattle.esm_base.specs.Urls.{Text, Url, url_cmp, has, same_url}
 use Rattle.esm_realm.specs.Walk.{Mark, IsWalk}
-use Rattle.esm_realm.proofs.Urls.{cases, same_text, own_text, or_true, or_left, or_cases, has_own, has_append}
+use Rattle.esm_realm.proofs.Urls.{same_text, own_text, or_true, or_left, or_cases, has_own, has_append}
 use Rattle.esm_realm.proofs.WalkLaws.{left, left_more, left_less, walks_inside}
 use Rattle.esm_load.specs.UrlTable.{TableEntry, thrown_by, targets_in}
 use Rattle.esm_load.specs.Loading.{Loading, PendingRequest, Root, Request, OpenLoad, open_load, begin, visit, ask, ask_by, throw, finish, is_fresh, targets}
@@ -18,7 +18,7 @@ use Rattle.esm_load.specs.Load.Asks.{no_more, over, waits, throws, loads}
 use Rattle.esm_load.specs.Load.Answers.{late, no_root, no_module, root, request}
 use Rattle.esm_load.proofs.Grows.{opened_visit, opened_throw}
 
--- ---- what stands in the table
+-- ---- the entries of the table
 
 key_has : (ks : List Url) (u : Url) → list_any (eq_by_cmp url_cmp u) ks ≡ true → has ks u ≡ true
 key_has [] u h = h
@@ -28,7 +28,7 @@ key_has (k ∷ ks) u h = by (or_cases (eq_by_cmp url_cmp u k) (list_any (eq_by_c
     by (inl e) rest = let same : u ≡ k = slice_cmp-IsAntisymmetric nat_cmp-IsAntisymmetric u k ((Equal-is (url_cmp u k)).0 e) in or_left (same_url u k) _ (subst (λ v. same_url u v ≡ true) same (own_text u))
     by (inr h) rest = or_true (same_url u k) _ (rest h)
 
--- the URLs under which something stands
+-- the URLs that have an entry
 stands_in : (es : FinMap url_cmp TableEntry) (u : Url) (e : TableEntry) → get es u ≡ Some e → has (keys es) u ≡ true
 stands_in es u e g =
     let there : contains_key es u ≡ true = rw g refl in
@@ -167,7 +167,7 @@ in_flat to (v ∷ ks) u t h k = has_append (to v) (flat to ks) t ∙ by (or_case
     by (inl s) rest = or_left (has (to v) t) _ (subst (λ w. has (to w) t ≡ true) (same_text u v s) k)
     by (inr g) rest = or_true (has (to v) t) _ (rest g)
 
--- what stands in a table has walks
+-- the modules of a table have walks
 pub has_walk : (l : Loading) (x : Url) → (marks : List (Mark Url)) × IsWalk (targets l) [] x marks
 has_walk l x = let w = walks_inside (targets l) (x ∷ flat (targets l) (keys l.entries)) (λ u. has (x ∷ flat (targets l) (keys l.entries)) u ≡ true) (λ u t i h. closed u t (get l.entries u) refl h) (λ u i. i) [] x (has_own x (flat (targets l) (keys l.entries))) in (w.0, (w.1, w.2))
   where

@@ -1,7 +1,7 @@
 // The URLs that are asked and not fetched, found by the place of their slot.
 ghost use Rattle.std.specs.Prelude.{◌≡◌, ℕ, [], ◌∷◌, ◌++◌, length, Some, OnOk, slice_get};
 ghost use Rattle.std.specs.List.Sorted.{IsNonDecreasing};
-ghost use Rattle.esm_load.specs.Asks.{Closes};
+ghost use Rattle.esm_load.specs.Inner.Asks.{Closes};
 
 use esm_base::{Memory, Text};
 use std::alloc::Global;

@@ -2,19 +2,19 @@
 ghost use Rattle.std.specs.Prelude.{◌≡◌, ◌<◌, All, true, false, [], ◌∷◌, List, map, Ok, Err, Some, None, OnOk, cond, option_copied, slice_get};
 ghost use Rattle.std.specs.Arc.{arc_value};
 ghost use Rattle.esm_ast.specs.Outcome.{outcome_view};
-ghost use Rattle.esm_base.specs.declared.limits.Limit.{Limit as StopBy};
+ghost use Rattle.esm_base.specs.declared.limits.Limit.{Limit};
+ghost use Rattle.esm_base.specs.declared.end.End.TheVariants.{Fault};
 ghost use Rattle.esm_base.specs.Urls.{has, is_usable, IsUsable};
 ghost use Rattle.esm_realm.specs.Sound.{IsSound, RecordParts, records_of};
-ghost use Rattle.esm_load.specs.Loading.{Loading, opening_loading};
+ghost use Rattle.esm_load.specs.Loading.{opening_loading};
 ghost use Rattle.esm_load.specs.Arrival.{after_fetch, open_asks};
-ghost use Rattle.esm_load.specs.LoadsView.{RecordsMatch, loading_of, no_loads};
-ghost use Rattle.esm_load.specs.TableView.{tree_items};
-ghost use Rattle.esm_load.specs.Steps.{AnswersNext, HasNoNext, IsEnd, IsModuleAt, pending_left, is_end};
+ghost use Rattle.esm_load.specs.LoadsView.{RecordsMatch, loading_in, loading_of, no_loads, tree_items};
+ghost use Rattle.esm_load.specs.Steps.{AnswersNext, HasNoNext, IsEnd, IsModuleAt, StopsAt, StopsIn, pending_left, is_end};
 
 use crate::LoadEnd;
 use crate::answering::answer_next;
 use crate::arriving::arrive;
-use crate::table::{Loaded, Stage, Table, ask_first};
+use crate::table::{Loaded, Stage, UrlTable, ask_first};
 use esm_ast::{Outcome, Tree};
 use esm_base::{Memory, ModuleId, Text};
 use esm_import_map::ImportMap;
@@ -23,12 +23,12 @@ use std::alloc::Global;
 use std::marker::Model;
 use std::sync::Arc;
 
-/// The table of URLs, those who wait for them, and the load of the entry. Its modules are the records of a realm.
+/// The table of URLs, their pending requests, and the load of the entry. Its modules are the records of a realm.
 ///
 /// ECMA-262, LoadRequestedModules, over fetches that end in any order. After a refusal it may be dropped only.
 #[derive(Drop)]
 pub struct Loads {
-    table: Table,
+    table: UrlTable,
     alloc: Global,
 }
 
@@ -39,14 +39,14 @@ impl Model for Loads {
 
     ghost Value = { LoadsView };
 
-    ghost use Rattle.esm_load.specs.TableView.{view_of};
+    ghost use Rattle.esm_load.specs.Inner.TableView.{view_of};
     ghost use Rattle.esm_import_map.specs.ImportMap.{maps_code};
 
     ghost coded = { Prim.hlevel (codes, maps_code, coded_item) };
 
     ghost view = { λ l. view_of l.table };
 
-    ghost use Rattle.esm_load.specs.Consistent.{IsConsistent};
+    ghost use Rattle.esm_load.specs.Inner.Consistent.{IsConsistent};
 
     ghost invariant = { λ l. IsConsistent l.table };
 }
@@ -57,7 +57,7 @@ impl Loads {
         ensures { result ≡ no_loads (arc_value map) }
     {
         Loads {
-            table: Table::new(alloc, map),
+            table: UrlTable::new(alloc, map),
             alloc,
         }
     }
@@ -68,9 +68,10 @@ impl Loads {
         requires fresh { self.old ≡ no_loads self.old.maps }
         requires empty { records_of realm.old ≡ [] }
         requires usable { is_usable url.now ≡ true }
-        ensures ok { OnOk result (loading_of self.new (records_of realm.new) ≡ opening_loading self.old.maps url.now) }
+        ensures ok { OnOk result
+            (loading_in self.new realm.new ≡ opening_loading self.old.maps url.now) }
         ensures one { OnOk result (RecordsMatch self.new (records_of realm.new)) }
-        ensures limit { (limit : StopBy) → result ≡ Err (LoadEnd.Limit limit) → ⊥ }
+        ensures limit { (limit : Limit) → result ≡ Err (Fault limit) → ⊥ }
         ensures realm { records_of realm.new ≡ records_of realm.old }
     {
         let _ = realm;
@@ -83,9 +84,9 @@ impl Loads {
         }
     }
 
-    /// Takes what the fetch of an open ask has come to. Those who waited for it are then answered by `step`.
-    /// One delivery is worked off before the next comes: `step` has answered false since the last call.
-    /// The bytes are counted first: limit L2 comes exactly where more than 16,777,216 were delivered.
+    /// Takes the outcome of the fetch of an open ask. The pending requests of the URL are then answered by `step`,
+    /// all of them before the next call: `step` has answered false since the last delivery.
+    /// The bytes are counted first: limit L2 comes exactly where more than `MAX_DELIVERED_BYTES` were delivered.
     pub fn arrive(
         &mut self,
         realm: &mut Realm,
@@ -94,12 +95,20 @@ impl Loads {
     ) -> Result<(), LoadEnd>
         requires sound { IsSound (records_of realm.old) }
         requires one { RecordsMatch self.old (records_of realm.old) }
-        requires open { has (open_asks (loading_of self.old (records_of realm.old))) url.now ≡ true }
-        requires answered { HasNoNext (loading_of self.old (records_of realm.old)) }
-        ensures ok { OnOk result (loading_of self.new (records_of realm.new) ≡ after_fetch (loading_of self.old (records_of realm.old)) url.now (outcome_view outcome.now)) }
-        ensures goes_on { OnOk result ((after_fetch (loading_of self.old (records_of realm.old)) url.now (outcome_view outcome.now)).stopped ≡ None) }
+        requires open { has (open_asks (loading_in self.old realm.old)) url.now ≡ true }
+        requires answered { HasNoNext (loading_in self.old realm.old) }
+        ensures ok { OnOk result (
+            loading_in self.new realm.new
+            ≡ after_fetch (loading_in self.old realm.old) url.now (outcome_view outcome.now)
+            ) }
+        ensures goes_on { OnOk result (
+            (after_fetch (loading_in self.old realm.old) url.now (outcome_view outcome.now)).stopped
+            ≡ None
+            ) }
         ensures one { OnOk result (RecordsMatch self.new (records_of realm.new)) }
-        ensures limit { (limit : StopBy) → result ≡ Err (LoadEnd.Limit limit) → (after_fetch (loading_of self.old (records_of realm.old)) url.now (outcome_view outcome.now)).stopped ≡ Some limit }
+        ensures limit { StopsAt result (
+            after_fetch (loading_in self.old realm.old) url.now (outcome_view outcome.now)
+            ) }
         ensures sound { IsSound (records_of realm.new) }
     {
         match arrive(&mut self.table, realm, self.alloc, url, outcome) {
@@ -111,17 +120,21 @@ impl Loads {
         }
     }
 
-    /// Answers the first pending_request of a fetched URL, in order of asking; false exactly where there is none.
-    /// ECMA-262, FinishLoadingImportedModule. Limit L1 comes exactly where more than 4,096 URLs are asked for.
+    /// Answers the first pending request of a fetched URL, in order of asking; false exactly where there is none.
+    /// ECMA-262, FinishLoadingImportedModule. Limit L1 comes exactly where more than `MAX_URLS` URLs are asked for.
     pub fn step(&mut self, realm: &mut Realm) -> Result<bool, LoadEnd>
         requires sound { IsSound (records_of realm.old) }
         requires one { RecordsMatch self.old (records_of realm.old) }
-        ensures answers { result ≡ Ok true → AnswersNext (loading_of self.old (records_of realm.old)) (loading_of self.new (records_of realm.new)) }
-        ensures falls { result ≡ Ok true → pending_left (loading_of self.new (records_of realm.new)) < pending_left (loading_of self.old (records_of realm.old)) }
-        ensures none { result ≡ Ok false → HasNoNext (loading_of self.old (records_of realm.old)) }
-        ensures unchanged { result ≡ Ok false → (self.new ≡ self.old) × (records_of realm.new ≡ records_of realm.old) }
+        ensures answers { result ≡ Ok true
+            → AnswersNext (loading_in self.old realm.old) (loading_in self.new realm.new) }
+        ensures falls { result ≡ Ok true
+            → pending_left (loading_in self.new realm.new)
+            < pending_left (loading_in self.old realm.old) }
+        ensures none { result ≡ Ok false → HasNoNext (loading_in self.old realm.old) }
+        ensures unchanged { result ≡ Ok false
+            → (self.new ≡ self.old) × (records_of realm.new ≡ records_of realm.old) }
         ensures one { OnOk result (RecordsMatch self.new (records_of realm.new)) }
-        ensures limit { (limit : StopBy) → result ≡ Err (LoadEnd.Limit limit) → (after : Loading) × AnswersNext (loading_of self.old (records_of realm.old)) after × (after.stopped ≡ Some limit) }
+        ensures limit { StopsIn result (AnswersNext (loading_in self.old realm.old)) }
         ensures sound { IsSound (records_of realm.new) }
     {
         match answer_next(&mut self.table, realm, self.alloc) {
@@ -137,14 +150,16 @@ impl Loads {
     /// It takes no memory.
     pub fn asks(&self) -> &[Text]
         ensures usable { All IsUsable result.now }
-        ensures asks { (records : List RecordParts) → RecordsMatch self.now records → result.now ≡ open_asks (loading_of self.now records) }
+        ensures asks { (records : List RecordParts) → RecordsMatch self.now records
+            → result.now ≡ open_asks (loading_of self.now records) }
     {
         self.table.asks.urls.as_slice()
     }
 
     /// How the entry's load has ended; none exactly where it hasn't. It takes no memory.
     pub fn ended(&self) -> Option<&Loaded>
-        ensures { (records : List RecordParts) → RecordsMatch self.now records → IsEnd self.now.loads records (option_copied result) }
+        ensures { (records : List RecordParts) → RecordsMatch self.now records
+            → IsEnd self.now.loads records (option_copied result) }
     {
         match &self.table.stage {
             Stage::Ended(end) => Some(end),
@@ -152,12 +167,13 @@ impl Loads {
         }
     }
 
-    /// Whether the entry's load has ended and nobody has gone on with it, which is done hereby. It takes no memory.
+    /// Whether the entry's load has ended and its job wasn't taken. The job is taken by the call. It takes no memory.
     pub fn take_job(&mut self) -> bool
         ensures before { self.old.jobs ≡ cond result (0 ∷ []) [] }
         ensures after { self.new ≡ record self.old { jobs = [] } }
         ensures ended { result ≡ true → is_end (slice_get self.old.loads 0) ≡ true }
-        ensures one { (records : List RecordParts) → RecordsMatch self.old records → RecordsMatch self.new records }
+        ensures one { (records : List RecordParts)
+            → RecordsMatch self.old records → RecordsMatch self.new records }
     {
         let job = self.table.job;
         self.table.job = false;
@@ -173,7 +189,8 @@ impl Loads {
 
     /// The id of the module that stands under this URL; none exactly where no module stands there. It takes no memory.
     pub fn module_at(&self, url: &Text) -> Option<ModuleId>
-        ensures { (records : List RecordParts) → RecordsMatch self.now records → IsModuleAt self.now records url.now result }
+        ensures { (records : List RecordParts) → RecordsMatch self.now records
+            → IsModuleAt self.now records url.now result }
     {
         self.table.module_at(url)
     }

@@ -1,5 +1,5 @@
 -- The comparisons that a loop gathers.
-use Rattle.std.proofs.Common.{◌≡◌, ℕ, zero, suc, ◌+◌, ◌<◌, ◌≤◌, Bool, true, false, List, [], ◌∷◌, ◌++◌, length, Option, Some, None, refl, sym, ap, ◌∙◌, arith}
+use Rattle.std.proofs.Common.{◌≡◌, ℕ, zero, suc, ◌+◌, ◌<◌, ◌≤◌, Bool, true, false, List, [], ◌∷◌, ◌++◌, length, Some, None, refl, sym, ap, ◌∙◌, arith}
 use Rattle.esm_tree.specs.Syntax.{Expr, Equal, Compared, last, compared, Parts}
 use Rattle.esm_tree.specs.Flat.{part, compared_parts, AllComparedBelow}
 use Rattle.esm_tree.specs.declared.node.ExprId.{ExprId}
@@ -9,9 +9,8 @@ use Rattle.esm_grammar.specs.Lexeme.{terminal_at}
 use Rattle.esm_grammar.specs.Grammar.{compares}
 use Rattle.esm_grammar.specs.Reading.{Read, ◌>>=◌, pick, same}
 use Rattle.esm_grammar.specs.Reading as read
-use Rattle.esm_parse_expr.specs.Outcome.{Grows, Compares, EndsComparison}
-use Rattle.esm_parse_expr.specs.Operators.{compared_with}
-use Rattle.esm_parse_expr.proofs.OutcomeLemmas.{longer}
+use Rattle.esm_parse_expr.specs.Outcome.{Grows}
+use Rattle.esm_parse_expr.specs.Inner.Operators.{compared_with, Compares, EndsComparison}
 
 abbrev pub append : Compared → Compared → Compared
 append last ds = ds

@@ -1,13 +1,13 @@
 -- From one level of operators to the next.
-use Rattle.std.proofs.Common.{◌≡◌, ℕ, zero, suc, ◌+◌, Bool, true, false, List, Some, None, refl, sym, ap, ◌∙◌}
-use Rattle.esm_tree.specs.Syntax.{Expr, Exprs, none, Sum, And, Or, last}
+use Rattle.std.proofs.Common.{◌≡◌, ℕ, zero, suc, false, List, Some, None, refl, ◌∙◌}
+use Rattle.esm_tree.specs.Syntax.{Expr, Exprs, Sum, And, Or}
 use Rattle.esm_tree.specs.declared.lexeme.Terminal.{Terminal}
 use Rattle.esm_tree.specs.declared.lexeme.Terminal.TheVariants as t
 use Rattle.esm_tree.specs.Lexeme.{Lexeme}
 use Rattle.esm_grammar.specs.Lexeme.{terminal_at}
 use Rattle.esm_grammar.specs.Reading.{Read, ◌>>=◌, pick, same}
 use Rattle.esm_grammar.specs.Reading as read
-use Rattle.esm_parse_expr.specs.Operators.{joined_with, compared_with, is_operator}
+use Rattle.esm_parse_expr.specs.Inner.Operators.{joined_with, compared_with, is_operator}
 
 module _ (ts : List Lexeme) (whole : ℕ → Read Expr) (n i : ℕ) where
   pub sum_gone : read.unary ts whole n n i ≡ None → read.sum ts whole n i ≡ None

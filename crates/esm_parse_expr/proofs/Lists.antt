@@ -1,5 +1,5 @@
 -- Lists of parts that a loop gathers.
-use Rattle.std.proofs.Common.{◌≡◌, ◌≢◌, ℕ, zero, suc, ◌+◌, ◌-◌, ◌<◌, ◌≤◌, Bool, true, false, List, [], ◌∷◌, ◌++◌, length, Option, Some, None, refl, sym, ap, ◌∙◌, arith}
+use Rattle.std.proofs.Common.{◌≡◌, ◌≢◌, ℕ, zero, suc, ◌+◌, ◌-◌, ◌<◌, ◌≤◌, true, false, List, [], ◌∷◌, ◌++◌, length, Some, None, refl, sym, ap, ◌∙◌, arith}
 use Rattle.std.specs.Prelude.{Vec}
 use Rattle.std.specs.declared.alloc.Global.{Global}
 use Rattle.esm_grammar.specs.Grammar.{linked, joined}
@@ -16,7 +16,7 @@ use Rattle.esm_grammar.specs.Lexeme.{terminal_at, text_at, is_word}
 use Rattle.esm_grammar.specs.Reading.{Read, ◌>>=◌, pick, same, arguments, after_argument}
 use Rattle.esm_grammar.specs.Reading as read
 use Rattle.esm_parse_expr.specs.Outcome.{Grows}
-use Rattle.esm_parse_expr.specs.Operators.{joined_with}
+use Rattle.esm_parse_expr.specs.Inner.Operators.{joined_with}
 use Rattle.esm_parse_expr.proofs.OutcomeLemmas.{longer}
 
 pub turn_more : {X : Type 0} {x : X} (f : ℕ → X) (n at : ℕ) → at < n → x ≡ f (n - at) → x ≡ f (suc (n - (at + 1)))

@@ -1,5 +1,5 @@
 -- The token at a place, or none.
-use Rattle.std.proofs.Common.{◌≡◌, ℕ, ◌<◌, ◌≤◌, Bool, false, List, [], length, get_or, refl, sym, ap, ◌∙◌, arith}
+use Rattle.std.proofs.Common.{◌≡◌, ℕ, ◌<◌, ◌≤◌, false, List, [], length, get_or, sym, ap, ◌∙◌}
 use Rattle.std.proofs.lemmas.List.{get_or_default, get_or_past}
 use Rattle.esm_tree.specs.Lexeme.{Lexeme}
 use Rattle.esm_tree.specs.declared.lexeme.Terminal.TheVariants as t

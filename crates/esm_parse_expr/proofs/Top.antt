@@ -1,5 +1,5 @@
 -- The function and the grammar.
-use Rattle.std.proofs.Common.{◌≡◌, ℕ, suc, ◌+◌, ◌<◌, List, length, Some, None, Err, sym, ap, ◌∙◌, arith}
+use Rattle.std.proofs.Common.{◌≡◌, ℕ, suc, ◌+◌, List, length, Some, None, Err, sym, ap, ◌∙◌, arith}
 use Rattle.esm_tree.specs.Syntax.{Expr}
 use Rattle.esm_tree.specs.declared.node.ExprId.{ExprId}
 use Rattle.esm_tree.specs.Lexeme.{Lexeme}

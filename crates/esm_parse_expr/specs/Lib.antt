@@ -1,4 +1,3 @@
 pub mod Outcome
-pub mod Nests
-pub mod Operators
 pub mod TextExpressions
+pub mod Inner

@@ -5,9 +5,9 @@ ghost use Rattle.esm_tree.specs.Flat.{AllBelow, AllComparedBelow, part, parts, c
 ghost use Rattle.esm_grammar.specs.Lexeme.{terminal_at};
 ghost use Rattle.esm_grammar.specs.Grammar.{compares, joined};
 ghost use Rattle.esm_grammar.specs.Reading as read;
-ghost use Rattle.esm_parse_expr.specs.Outcome.{ReadsExpr, Compares, EndsComparison};
-ghost use Rattle.esm_parse_expr.specs.Nests.{Nests};
-ghost use Rattle.esm_parse_expr.specs.Operators.{joined_with, compared_with, is_operator};
+ghost use Rattle.esm_parse_expr.specs.Outcome.{ReadsExpr};
+ghost use Rattle.esm_parse_expr.specs.Inner.Nests.{Nests};
+ghost use Rattle.esm_parse_expr.specs.Inner.Operators.{joined_with, compared_with, is_operator, Compares, EndsComparison};
 
 use crate::reader::{Reader, Stop, done};
 use crate::tokens::{sees, terminal};

@@ -5,7 +5,7 @@ ghost use Rattle.esm_tree.specs.Flat.{IsBelow, expr_of, part};
 ghost use Rattle.esm_grammar.specs.Reading as read;
 ghost use Rattle.esm_grammar.specs.Grammar.{Reads, ors};
 ghost use Rattle.esm_parse_expr.specs.Outcome.{ReadsExpr, Grows};
-ghost use Rattle.esm_parse_expr.specs.Nests.{Nests};
+ghost use Rattle.esm_parse_expr.specs.Inner.Nests.{Nests};
 ghost use Rattle.esm_parse_expr.specs.declared.reader.Stop.TheVariants.{Memory};
 
 use esm_base::Memory;

@@ -1,6 +1,6 @@
 // What stands at a place in the tokens.
 ghost use Rattle.std.specs.Prelude.{◌≡◌, ◌≢◌, ◌<◌, true, length, IfOk};
-ghost use Rattle.esm_grammar.specs.Lexeme.{terminal_at, text_at, is_word, is_name};
+ghost use Rattle.esm_grammar.specs.Lexeme.{terminal_at, text_at, newline_at, is_word, is_name};
 ghost use Rattle.esm_grammar.specs.Reading.{same};
 
 use esm_base::{Memory, Text};
@@ -25,6 +25,16 @@ pub fn sees(tokens: &[Lexeme], at: usize, wanted: Terminal) -> bool
     ensures there { result ≡ true → at < length tokens.now }
 {
     terminal(tokens, at) == wanted
+}
+
+/// Whether a line terminator stands before the token at a place. None does behind the last token.
+pub fn newline_at(tokens: &[Lexeme], at: usize) -> bool
+    ensures { result ≡ newline_at tokens.now at }
+{
+    match tokens.get(at) {
+        Some(lexeme) => lexeme.newline_before(),
+        None => false,
+    }
 }
 
 /// What the token at a place spells.

@@ -1,20 +1,19 @@
 -- Reading items.
-use Rattle.std.proofs.Common.{◌≡◌, ◌≢◌, ℕ, ◌+◌, ◌<◌, ◌≤◌, max, Bool, true, false, List, [], ◌∷◌, length, Option, Some, None, Result, Ok, Err, refl, sym, subst, ap, ◌∙◌, arith, nat_le}
+use Rattle.std.proofs.Common.{◌≡◌, ◌≢◌, ℕ, ◌+◌, ◌<◌, ◌≤◌, max, Bool, true, false, List, [], ◌∷◌, Some, None, Result, Ok, Err, refl, sym, subst, ap, ◌∙◌, arith, nat_le}
 use Rattle.std.proofs.lemmas.Bool.Decides.{nat_tests}
 use Rattle.esm_tree.specs.Syntax.{Stmt, Stmts, Item, ExportStatement, Parts}
-use Rattle.esm_tree.specs.Flat.{AllStmtsBelow, stmts_need, item_need, item_of}
+use Rattle.esm_tree.specs.Flat.{AllStmtsBelow, stmts_need}
 use Rattle.esm_tree.specs.declared.node.StmtId.{StmtId}
 use Rattle.esm_tree.specs.declared.node.ItemNode.{ItemNode}
 use Rattle.esm_tree.specs.declared.lexeme.Terminal.{Terminal}
 use Rattle.esm_tree.specs.declared.lexeme.Terminal.TheVariants as t
 use Rattle.esm_tree.specs.Lexeme.{Lexeme}
-use Rattle.esm_grammar.specs.Reading.{Read, ◌>>=◌, pick, sees}
-use Rattle.esm_grammar.specs.ReadingStatements.{block}
+use Rattle.esm_grammar.specs.Reading.{Read, ◌>>=◌, pick}
 use Rattle.esm_grammar.specs.ReadingItems as r
 use Rattle.esm_parse_expr.specs.declared.reader.Stop.{Stop}
 use Rattle.esm_parse_expr.specs.declared.reader.Stop.TheVariants as end
-use Rattle.esm_parse_mod.specs.Outcome.{ReadsItem}
-use Rattle.esm_parse_mod.specs.Items.{ReadsBare, body}
+use Rattle.esm_parse_mod.specs.Inner.Outcome.{ReadsItem}
+use Rattle.esm_parse_mod.specs.Inner.Items.{ReadsBare, body}
 use Rattle.esm_parse_expr.specs.Outcome.{Refuses}
 use Rattle.esm_parse_mod.proofs.OutcomeLemmas.{grew_none}
 use Rattle.esm_parse_mod.proofs.NameLemmas.{refuses}

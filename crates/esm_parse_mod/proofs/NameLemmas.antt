@@ -1,7 +1,6 @@
 -- Reading names.
-use Rattle.std.proofs.Common.{◌≡◌, ℕ, ◌+◌, ◌++◌, Bool, true, false, List, [], ◌∷◌, Option, Some, None, Result, Ok, Err, Vec, refl, sym, subst, ap, ◌∙◌}
+use Rattle.std.proofs.Common.{◌≡◌, ℕ, ◌+◌, Bool, true, false, List, [], Option, Some, None, Result, Err, Vec, refl, sym, subst, ap, ◌∙◌}
 use Rattle.std.specs.declared.alloc.Global.{Global}
-use Rattle.esm_tree.specs.declared.node.ImportBinding.{ImportBinding}
 use Rattle.esm_tree.specs.declared.lexeme.Terminal.{Terminal}
 use Rattle.esm_tree.specs.declared.lexeme.Terminal.TheVariants as t
 use Rattle.esm_tree.specs.Lexeme.{Lexeme}
@@ -13,7 +12,7 @@ use Rattle.esm_grammar.proofs.Basics.{same_is, is_same}
 use Rattle.esm_parse_expr.specs.declared.reader.Stop.{Stop}
 use Rattle.esm_parse_expr.specs.declared.reader.Stop.TheVariants as end
 use Rattle.esm_parse_expr.specs.Outcome.{Refuses}
-use Rattle.esm_parse_mod.specs.Lists.{ReadsSame, ReadsList, after, GoesOn, ahead}
+use Rattle.esm_parse_mod.specs.Inner.Lists.{ReadsSame, ReadsList, after, ahead}
 
 value : {X : Type 0} {x y : X} → Some x ≡ Some y → x ≡ y
 value e = cc

@@ -1,7 +1,6 @@
 -- One step after another, in a tree that grows.
-use Rattle.std.proofs.Common.{◌≡◌, ℕ, ◌+◌, ◌<◌, ◌≤◌, max, List, [], ◌∷◌, ◌++◌, length, Option, Some, None, Result, Ok, Err, refl, sym, subst, ap, ◌∙◌, arith, append-nil, append_assoc, length-append}
-use Rattle.std.proofs.lemmas.List.{get_or_append_left}
-use Rattle.esm_tree.specs.Syntax.{Expr, Stmt, Stmts, Init, Item, Parts}
+use Rattle.std.proofs.Common.{◌≡◌, ℕ, ◌<◌, ◌≤◌, List, [], ◌∷◌, ◌++◌, length, None, Result, Err, sym, subst, ap, ◌∙◌, arith, append-nil, append_assoc, length-append}
+use Rattle.esm_tree.specs.Syntax.{Item, Parts}
 use Rattle.esm_tree.specs.Flat.{part, init_of, init_need, stmt_part, stmt_parts, AllStmtsBelow, bindings_of, bindings_need}
 use Rattle.esm_tree.specs.declared.node.ExprId.{ExprId}
 use Rattle.esm_tree.specs.declared.node.StmtId.{StmtId}
@@ -12,8 +11,7 @@ use Rattle.esm_grammar.specs.Reading.{Read}
 use Rattle.esm_parse_expr.specs.declared.reader.Stop.{Stop}
 use Rattle.esm_parse_expr.specs.declared.reader.Stop.TheVariants as end
 use Rattle.esm_parse_expr.specs.Outcome.{Refuses, Grows}
-use Rattle.esm_parse_expr.specs.Outcome as e
-use Rattle.esm_parse_mod.specs.Outcome.{Grew, Gives, Reads, ReadsModule}
+use Rattle.esm_parse_mod.specs.Inner.Outcome.{Grew, Gives, Reads, ReadsModule}
 
 pub grew_none : (t : Parts) → Grew t t
 grew_none t = record {

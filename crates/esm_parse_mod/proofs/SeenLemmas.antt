@@ -1,5 +1,5 @@
 -- Which names stood before, in a loop that looks for a repeat.
-use Rattle.std.proofs.Common.{◌≡◌, ℕ, ◌+◌, drop, Bool, true, false, not, ◌||◌, cond, List, [], ◌∷◌, ◌++◌, refl, sym, subst, ap, ◌∙◌, append-nil, append_assoc}
+use Rattle.std.proofs.Common.{◌≡◌, ℕ, ◌+◌, drop, Bool, true, false, ◌||◌, cond, List, [], ◌∷◌, ◌++◌, refl, sym, ap, ◌∙◌, append-nil, append_assoc}
 use Rattle.std.proofs.Common.{◌≢◌, ◌<◌, ◌≤◌, max, arith, Option, Vec}
 use Rattle.esm_tree.specs.declared.node.ItemNode.{ItemNode}
 use Rattle.esm_tree.specs.declared.node.ItemNode.TheVariants as i
@@ -16,7 +16,7 @@ use Rattle.esm_tree.specs.Syntax.{Expr, Stmt, Stmts}
 use Rattle.esm_tree.specs.Flat.{stmt_of, stmt_part, stmt_parts, stmts_need, AllStmtsBelow, item_of}
 use Rattle.esm_tree.specs.declared.node.StmtId.{StmtId}
 use Rattle.esm_grammar.specs.EarlyErrors.{Scope, has_repeat, share_name, block_names, scopes_of, stmt_scopes, stmts_scopes, item_scopes}
-use Rattle.esm_parse_mod.specs.Names.{texts, clashes, any_clashes}
+use Rattle.esm_parse_mod.specs.Inner.Names.{texts, clashes, any_clashes}
 use Rattle.esm_parse_mod.proofs.NamesLemmas.{any_append, repeat_append}
 
 by_sides : (a b : Bool) → (a ≡ true → b ≡ true) → (b ≡ true → a ≡ true) → a ≡ b

@@ -1,5 +1,5 @@
 -- The end of a statement, and lists of statements and bindings.
-use Rattle.std.proofs.Common.{◌≡◌, ◌≢◌, ℕ, zero, suc, ◌+◌, ◌<◌, ◌≤◌, max, Bool, true, false, not, List, [], ◌∷◌, ◌++◌, length, map, get_or, Option, Some, None, Ok, refl, sym, ap, ◌∙◌, arith, append-nil, length-append}
+use Rattle.std.proofs.Common.{◌≡◌, ◌≢◌, ℕ, ◌+◌, ◌<◌, ◌≤◌, max, Bool, true, false, not, List, [], ◌∷◌, ◌++◌, length, map, get_or, Some, None, Ok, refl, sym, ap, ◌∙◌, arith, append-nil, length-append}
 use Rattle.std.proofs.Math.Seq.{get_or-append_seam}
 use Rattle.esm_tree.specs.Flat.{stmt_of, need_of}
 use Rattle.esm_tree.specs.declared.node.StmtNode.{StmtNode}
@@ -14,8 +14,8 @@ use Rattle.esm_tree.specs.declared.lexeme.Terminal.{Terminal}
 use Rattle.esm_tree.specs.declared.lexeme.Terminal.TheVariants as t
 use Rattle.esm_grammar.specs.ReadingStatements as r
 use Rattle.esm_grammar.specs.ReadingStatements.{end_of}
-use Rattle.esm_parse_mod.specs.Outcome.{Grew, ReadsStmt}
-use Rattle.esm_parse_mod.proofs.OutcomeLemmas.{more_stmts, more_exprs, stmt_later, init_later}
+use Rattle.esm_parse_mod.specs.Inner.Outcome.{Grew, ReadsStmt}
+use Rattle.esm_parse_mod.proofs.OutcomeLemmas.{stmt_later, init_later}
 use Rattle.esm_parse_mod.proofs.Lists.{onto}
 
 value : {X : Type 0} {x y : X} → Some x ≡ Some y → x ≡ y

@@ -1,26 +1,16 @@
 // The end of a statement, initializers and declarations.
 ghost use Rattle.std.specs.Prelude.{◌≡◌, ◌<◌, ◌+◌, length};
-ghost use Rattle.esm_grammar.specs.Lexeme.{terminal_at, newline_at};
+ghost use Rattle.esm_grammar.specs.Lexeme.{terminal_at};
 ghost use Rattle.esm_grammar.specs.Reading.{same};
 ghost use Rattle.esm_grammar.specs.ReadingStatements as read;
 ghost use Rattle.esm_grammar.specs.Statements as grammar;
-ghost use Rattle.esm_parse_mod.specs.Outcome.{EndsAt, ReadsInit, ReadsBinding, ReadsBindingStep, ReadsBindings, ReadsDeclaration};
+ghost use Rattle.esm_parse_mod.specs.Inner.Outcome.{EndsAt, ReadsInit, ReadsBinding, ReadsBindingStep, ReadsBindings, ReadsDeclaration};
 
 use crate::statements::Room;
-use esm_parse_expr::tokens::{is_name_at, sees, terminal, text};
+use esm_parse_expr::tokens::{is_name_at, newline_at, sees, terminal, text};
 use esm_parse_expr::{Stop, expr, operand};
 use esm_tree::{Initializer, Lexeme, LexicalBinding, Terminal, Tree};
 use std::alloc::Global;
-
-/// Whether a line terminator stands before the token at a place.
-pub(crate) fn newline_at(tokens: &[Lexeme], at: usize) -> bool
-    ensures { result ≡ newline_at tokens.now at }
-{
-    match tokens.get(at) {
-        Some(lexeme) => lexeme.newline_before(),
-        None => false,
-    }
-}
 
 /// Whether no token stands at a place.
 pub(crate) fn at_end(tokens: &[Lexeme], at: usize) -> bool

@@ -6,7 +6,7 @@ ghost use Rattle.esm_tree.specs.Flat.{stmt_part, stmt_parts, AllStmtsBelow, item
 ghost use Rattle.esm_grammar.specs.Names.{declared_names};
 ghost use Rattle.esm_grammar.specs.EarlyErrors as early;
 ghost use Rattle.esm_grammar.specs.EarlyErrors.{block_names, scopes_of, stmt_scopes, item_scopes};
-ghost use Rattle.esm_parse_mod.specs.Names.{texts, binding_names, given, any_clashes, held, IsSetOf, is_unlisted, any_item_wrong};
+ghost use Rattle.esm_parse_mod.specs.Inner.Names.{texts, binding_names, given, any_clashes, held, IsSetOf, is_unlisted, any_item_wrong};
 
 use esm_base::{Memory, Text};
 use esm_tree::{ExportSpecifier, ImportBinding, ItemNode, LexicalBinding, StmtId, StmtNode, Tree};
@@ -53,7 +53,8 @@ fn add_one<'a>(names: &mut Vec<&'a str>, name: &'a str) -> Result<(), Memory>
 }
 
 fn add_bindings<'a>(names: &mut Vec<&'a str>, bindings: &'a [LexicalBinding]) -> Result<(), Memory>
-    ensures { OnOk result (texts names.new.items ≡ texts names.old.items ++ binding_names bindings.now) }
+    ensures { OnOk result (texts names.new.items
+        ≡ texts names.old.items ++ binding_names bindings.now) }
 {
     for binding in bindings {
         names.push(binding.name.as_str())?;
@@ -248,7 +249,8 @@ fn add_listed<'a>(names: &mut Vec<&'a str>, specifiers: &'a [ExportSpecifier]) -
 }
 
 fn add_given<'a>(names: &mut Vec<&'a str>, name: &'a Option<Text>) -> Result<(), Memory>
-    ensures { OnOk result (texts names.new.items ≡ texts names.old.items ++ early.name_list name.now) }
+    ensures { OnOk result (texts names.new.items
+        ≡ texts names.old.items ++ early.name_list name.now) }
 {
     match name {
         Some(text) => add_one(names, text.as_str()),

@@ -3,8 +3,8 @@ ghost use Rattle.std.specs.Prelude.{◌≡◌, ◌<◌, true, false, length};
 ghost use Rattle.esm_tree.specs.Syntax.{ExportDefaultFunction};
 ghost use Rattle.esm_grammar.specs.Items as grammar;
 ghost use Rattle.esm_grammar.specs.ReadingItems as read;
-ghost use Rattle.esm_parse_mod.specs.Items.{ReadsBare, ReadsBody, body, function_of};
-ghost use Rattle.esm_parse_mod.specs.Outcome.{ReadsItem, ReadsItemStep};
+ghost use Rattle.esm_parse_mod.specs.Inner.Items.{ReadsBare, ReadsBody, body, function_of};
+ghost use Rattle.esm_parse_mod.specs.Inner.Outcome.{ReadsItem, ReadsItemStep};
 
 use crate::bindings::{end, init};
 use crate::names::{clause, exported_names, from, is_export_name, parameters};

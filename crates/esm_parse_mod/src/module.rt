@@ -3,8 +3,8 @@ ghost use Rattle.std.specs.Prelude.{◌≡◌, ◌≤◌, ℕ, List, length, Mat
 ghost use Rattle.esm_grammar.specs.ReadingItems.{module_items};
 ghost use Rattle.esm_grammar.specs.Lexes.{AreTokens};
 ghost use Rattle.esm_grammar.specs.ModuleText.{Spells, IsRefusedFor};
-ghost use Rattle.esm_parse_mod.specs.Outcome.{ReadsModule};
-ghost use Rattle.esm_parse_mod.specs.Derived.{Derives};
+ghost use Rattle.esm_parse_mod.specs.Inner.Outcome.{ReadsModule};
+ghost use Rattle.esm_parse_mod.specs.Inner.Derived.{Derives};
 
 use crate::errors::has_early_error;
 use crate::items::item_step;

@@ -4,7 +4,7 @@ ghost use Rattle.esm_tree.specs.declared.node.Wanted.TheVariants as wanted;
 ghost use Rattle.esm_grammar.specs.Lexeme.{terminal_at};
 ghost use Rattle.esm_grammar.specs.Items as grammar;
 ghost use Rattle.esm_grammar.specs.ReadingItems as read;
-ghost use Rattle.esm_parse_mod.specs.Lists.{GoesOn, ReadsSame, ReadsList, ahead};
+ghost use Rattle.esm_parse_mod.specs.Inner.Lists.{GoesOn, ReadsSame, ReadsList, ahead};
 
 use crate::bindings::end;
 use esm_base::{Memory, Text};
@@ -54,7 +54,8 @@ fn parameter_step(
     tokens: &[Lexeme],
     at: usize,
 ) -> Result<(Option<Text>, usize), Stop>
-    ensures { ReadsSame result (read.listed_step tokens.now (read.parameter tokens.now) Terminal.Close at) }
+    ensures { ReadsSame result (read.listed_step tokens.now
+        (read.parameter tokens.now) Terminal.Close at) }
 {
     if sees(tokens, at, Terminal::Close) {
         return Ok((None, at + 1));

@@ -5,11 +5,11 @@ ghost use Rattle.esm_tree.specs.Flat.{need_of, IsStmtBelow, stmt_of};
 ghost use Rattle.esm_grammar.specs.ReadingLists.{many};
 ghost use Rattle.esm_grammar.specs.Statements as grammar;
 ghost use Rattle.esm_grammar.specs.ReadingStatements as read;
-ghost use Rattle.esm_parse_mod.specs.Outcome.{ReadsStmt, ReadsStmts, ReadsStmtStep};
-ghost use Rattle.esm_parse_mod.specs.Nests.{Nests};
+ghost use Rattle.esm_parse_mod.specs.Inner.Outcome.{ReadsStmt, ReadsStmts, ReadsStmtStep};
+ghost use Rattle.esm_parse_mod.specs.Inner.Nests.{Nests};
 
-use crate::bindings::{at_end, declaration, end, init, newline_at};
-use esm_parse_expr::tokens::{is_name_at, sees, terminal, text};
+use crate::bindings::{at_end, declaration, end, init};
+use esm_parse_expr::tokens::{is_name_at, newline_at, sees, terminal, text};
 use esm_parse_expr::{Stop, expr, operand};
 use esm_tree::{Lexeme, StmtId, StmtNode, Terminal, Tree};
 use std::alloc::Global;
@@ -73,7 +73,8 @@ fn assign(
     at: usize,
 ) -> Result<(StmtId, usize), Stop>
     requires { at < length tokens.now }
-    ensures { ReadsStmt tree.old tree.new result (read.assign tokens.now room.turns room.inside at) }
+    ensures { ReadsStmt tree.old tree.new result
+        (read.assign tokens.now room.turns room.inside at) }
 {
     let name = text(alloc, tokens, at)?;
     let (value, behind) = init(alloc, tokens, tree, room, at + 2)?;
@@ -89,7 +90,8 @@ fn thrown(
     at: usize,
 ) -> Result<(StmtId, usize), Stop>
     requires { at < length tokens.now }
-    ensures { ReadsStmt tree.old tree.new result (read.thrown tokens.now room.turns room.inside at) }
+    ensures { ReadsStmt tree.old tree.new result
+        (read.thrown tokens.now room.turns room.inside at) }
 {
     if newline_at(tokens, at + 1) {
         return Err(Stop::Fault);
@@ -107,7 +109,8 @@ fn returned(
     at: usize,
 ) -> Result<(StmtId, usize), Stop>
     requires { at < length tokens.now }
-    ensures { ReadsStmt tree.old tree.new result (read.returned tokens.now room.turns room.inside at) }
+    ensures { ReadsStmt tree.old tree.new result
+        (read.returned tokens.now room.turns room.inside at) }
 {
     if !room.inside {
         return Err(Stop::Fault);
@@ -148,7 +151,8 @@ fn print_await(
     at: usize,
 ) -> Result<(StmtId, usize), Stop>
     requires { at < length tokens.now }
-    ensures { ReadsStmt tree.old tree.new result (read.print_await tokens.now room.turns room.inside at) }
+    ensures { ReadsStmt tree.old tree.new result
+        (read.print_await tokens.now room.turns room.inside at) }
 {
     if room.inside {
         return Err(Stop::Fault);
@@ -168,7 +172,8 @@ fn expression(
     room: Room,
     at: usize,
 ) -> Result<(StmtId, usize), Stop>
-    ensures { ReadsStmt tree.old tree.new result (read.expression tokens.now room.turns room.inside at) }
+    ensures { ReadsStmt tree.old tree.new result
+        (read.expression tokens.now room.turns room.inside at) }
 {
     if is_assign(tokens, at) {
         return assign(alloc, tokens, tree, room, at);
@@ -199,7 +204,8 @@ impl<
         tree: &mut Tree,
         at: usize,
     ) -> Result<(Vec<StmtId>, usize), Stop>
-        requires { Nests self.now.room self.now.depth (F.pre self.now.block) (F.post self.now.block) }
+        requires { Nests self.now.room self.now.depth
+            (F.pre self.now.block) (F.post self.now.block) }
         ensures { ReadsStmts tree.old tree.new result
             (read.block tokens.now self.now.room.turns self.now.room.inside self.now.depth at) }
     {
@@ -207,7 +213,8 @@ impl<
     }
 
     fn choice(&self, tokens: &[Lexeme], tree: &mut Tree, at: usize) -> Result<(StmtId, usize), Stop>
-        requires nests { Nests self.now.room self.now.depth (F.pre self.now.block) (F.post self.now.block) }
+        requires nests { Nests self.now.room self.now.depth
+            (F.pre self.now.block) (F.post self.now.block) }
         requires there { at < length tokens.now }
         ensures { ReadsStmt tree.old tree.new result
             (read.choice tokens.now self.now.room.turns self.now.room.inside
@@ -229,7 +236,8 @@ impl<
     }
 
     fn tried(&self, tokens: &[Lexeme], tree: &mut Tree, at: usize) -> Result<(StmtId, usize), Stop>
-        requires nests { Nests self.now.room self.now.depth (F.pre self.now.block) (F.post self.now.block) }
+        requires nests { Nests self.now.room self.now.depth
+            (F.pre self.now.block) (F.post self.now.block) }
         requires there { at < length tokens.now }
         ensures { ReadsStmt tree.old tree.new result
             (read.tried tokens.now self.now.room.turns self.now.room.inside
@@ -260,7 +268,8 @@ impl<
         tree: &mut Tree,
         at: usize,
     ) -> Result<(StmtId, usize), Stop>
-        requires { Nests self.now.room self.now.depth (F.pre self.now.block) (F.post self.now.block) }
+        requires { Nests self.now.room self.now.depth
+            (F.pre self.now.block) (F.post self.now.block) }
         ensures { ReadsStmt tree.old tree.new result
             (read.stmt_with tokens.now self.now.room.turns self.now.room.inside
             (read.block tokens.now self.now.room.turns self.now.room.inside self.now.depth) at) }
@@ -295,7 +304,8 @@ impl<
         tree: &mut Tree,
         at: usize,
     ) -> Result<(Option<StmtId>, usize), Stop>
-        requires { Nests self.now.room self.now.depth (F.pre self.now.block) (F.post self.now.block) }
+        requires { Nests self.now.room self.now.depth
+            (F.pre self.now.block) (F.post self.now.block) }
         ensures { ReadsStmtStep tree.old tree.new result
             (read.stmt_step tokens.now self.now.room.turns self.now.room.inside
             (read.block tokens.now self.now.room.turns self.now.room.inside self.now.depth) at) }
@@ -313,7 +323,8 @@ impl<
         tree: &mut Tree,
         at: usize,
     ) -> Result<(Vec<StmtId>, usize), Stop>
-        requires { Nests self.now.room self.now.depth (F.pre self.now.block) (F.post self.now.block) }
+        requires { Nests self.now.room self.now.depth
+            (F.pre self.now.block) (F.post self.now.block) }
         ensures { ReadsStmts tree.old tree.new result
             (many nothing first (read.stmt_step tokens.now self.now.room.turns
             self.now.room.inside (read.block tokens.now self.now.room.turns self.now.room.inside
@@ -342,7 +353,8 @@ pub fn block(
     depth: usize,
     at: usize,
 ) -> Result<(Vec<StmtId>, usize), Stop>
-    ensures { ReadsStmts tree.old tree.new result (read.block tokens.now room.turns room.inside depth at) }
+    ensures { ReadsStmts tree.old tree.new result
+        (read.block tokens.now room.turns room.inside depth at) }
 {
     if depth == 0 {
         return Err(Stop::Fault);
@@ -368,7 +380,8 @@ pub fn statement(
     depth: usize,
     at: usize,
 ) -> Result<(StmtId, usize), Stop>
-    ensures { ReadsStmt tree.old tree.new result (read.stmt tokens.now room.turns room.inside depth at) }
+    ensures { ReadsStmt tree.old tree.new result
+        (read.stmt tokens.now room.turns room.inside depth at) }
 {
     BlockReader {
         alloc,

@@ -1,5 +1,5 @@
 -- Writing all bytes.
-use Rattle.std.proofs.Common.{◌≡◌, ◌∙◌, ap, sym, refl, subst, ℕ, ◌+◌, ◌<◌, List, [], ◌∷◌, ◌++◌, take, drop, length, append_assoc, arith}
+use Rattle.std.proofs.Common.{◌≡◌, ap, refl, ℕ, ◌<◌, List, [], ◌∷◌, ◌++◌, take, drop, length, append_assoc, arith}
 use Rattle.std.proofs.lemmas.List.{take-append-drop}
 use Rattle.std.specs.Prelude.{Option, Some, None, Result, Ok, Err}
 use Rattle.esm_ports.specs.declared.sink.SinkEnd.{SinkEnd}

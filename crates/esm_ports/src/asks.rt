@@ -52,7 +52,8 @@ impl Asks {
     pub fn add(&mut self, url: Text, kind: AskKind) -> Result<(), Memory>
         ensures ok { OnOk result (self.new ≡ asks_with self.old url kind) }
         ensures err { OnErr result (self.new ≡ self.old) }
-        ensures count { OnOk result (failed_count self.new ≡ failed_count self.old + failed_kind kind) }
+        ensures count { OnOk result (
+            failed_count self.new ≡ failed_count self.old + failed_kind kind) }
     {
         self.items.push(Asked { url, kind })?;
         self.failed += failures(kind);

@@ -12,7 +12,8 @@ pub type HeldFiles = TextMap<Vec<u8>>;
 
 // These files by their URLs. Of two with one URL the first is kept.
 pub(crate) fn by_url(alloc: Global, files: Vec<(Text, Vec<u8>)>) -> Result<HeldFiles, Memory>
-    ensures { IfOk result (λ held. (url : List ℕ) → held_at held url ≡ contents_of files.items url) }
+    ensures { IfOk result (λ held. (url : List ℕ) →
+        held_at held url ≡ contents_of files.items url) }
 {
     let mut held = TextMap::empty(alloc);
     for file in files {

@@ -39,7 +39,13 @@ impl MemSink {
     /// calls whose number, counted from 1, stands in `fail_at`. It doesn't allocate.
     pub fn new(alloc: Global, most: usize, fail_at: Vec<u64>) -> MemSink
         requires { 1 ≤ most }
-        ensures { result ≡ record { written = []; most = most; fail_at = fail_at.items; calls = 0; faults = 0 } }
+        ensures { result ≡ record {
+          written = [];
+          most = most;
+          fail_at = fail_at.items;
+          calls = 0;
+          faults = 0;
+        } }
     {
         MemSink {
             written: Vec::new(alloc),

@@ -83,7 +83,8 @@ impl Source for MemSource {
         ensures told { IsToldBy (held_at self.old.files) url.now result }
         ensures short { IfOk result (λ body. length body.items ≤ MAX_BODY_BYTES) }
         ensures holds { self.new.files ≡ self.old.files }
-        ensures failed { IsErrOf result FetchEnd.Failed → failed_count self.old.asked < failed_count self.new.asked }
+        ensures failed { IsErrOf result FetchEnd.Failed
+            → failed_count self.old.asked < failed_count self.new.asked }
         ensures plan { self.new.fail_at ≡ self.old.fail_at }
         ensures planned { FetchesByPlan self.old result }
     {

@@ -10,7 +10,8 @@ use crate::{Sink, SinkEnd};
 pub fn put_all<K: Sink>(out: &mut K, bytes: &[u8]) -> Result<(), SinkEnd>
     requires { K.faults out.old < 2 ^ 64 - 1 }
     ensures calls { Writes K.write_gives bytes.now out.old (refusal_of result) out.new }
-    ensures whole { PutAll bytes.now (K.written out.old) (K.written out.new) (K.faults out.old) (K.faults out.new) result }
+    ensures whole { PutAll bytes.now (K.written out.old) (K.written out.new)
+        (K.faults out.old) (K.faults out.new) result }
 {
     let mut rest = bytes;
     while !rest.is_empty() {

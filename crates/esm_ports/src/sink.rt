@@ -44,7 +44,8 @@ pub trait Sink: Drop {
     fn write(&mut self, piece: &[u8]) -> Result<usize, SinkEnd>
         requires some { 0 < length piece.now }
         requires room { faults self.old < 2 ^ 64 - 1 }
-        ensures wrote { Wrote piece.now (written self.old) (written self.new) (faults self.old) (faults self.new) result }
+        ensures wrote { Wrote piece.now (written self.old) (written self.new)
+            (faults self.old) (faults self.new) result }
         ensures gives { write_gives self.old piece.now result self.new };
 
     /// How often a write has failed.

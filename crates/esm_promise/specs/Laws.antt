@@ -1,8 +1,8 @@
 -- Laws of the definitions.
-use Rattle.std.specs.Prelude.{◌≡◌, ⊤, ℕ, true, List, [], ◌∷◌, is_some, Some}
+use Rattle.std.specs.Prelude.{◌≡◌, ⊤, ℕ, true, List, [], ◌∷◌, ◌++◌, map, slice_get, is_some, Some}
 use Rattle.esm_values.specs.Value.{Value}
 use Rattle.esm_promise.specs.Reactions.{Reaction}
-use Rattle.esm_promise.specs.Promises.{Promises, Job, Settled, make, make_fulfilled, register, settle, settled, is_pending}
+use Rattle.esm_promise.specs.Promises.{Promises, Pending, Done, Job, job, Settled, make, make_fulfilled, register, settle, settled, is_pending}
 
 -- promises of modules with numbers
 abbrev pub Numbered : Type 0
@@ -25,9 +25,19 @@ pub record SettlesOnce : Type 0 where
   pub settles : (ps : Numbered) (p : ℕ) (how : Settled (Value ℕ)) → is_pending ps p ≡ true → StaysSettled ps (settle ps p how)
   pub new : (ps : Numbered) (p : ℕ) (how : Settled (Value ℕ)) → is_pending ps p ≡ true → settled (settle ps p how) p ≡ Some how
 
--- each job's promise is settled, and the next job is the one that was added first
+-- each job's promise is settled
 pub record JobsAreOfSettled : Type 0 where
   pub made : (ps : Numbered) (rs : List (Reaction ℕ)) → AreSettled ps ps.jobs → AreSettled (make ps rs) (make ps rs).jobs
   pub registered : (ps : Numbered) (p : ℕ) (r : Reaction ℕ) → AreSettled ps ps.jobs → AreSettled (register ps p r) (register ps p r).jobs
   pub settles : (ps : Numbered) (p : ℕ) (how : Settled (Value ℕ)) → is_pending ps p ≡ true → AreSettled ps ps.jobs
       → AreSettled (settle ps p how) (settle ps p how).jobs
+
+-- jobs are added at the end: none by a reaction on a pending promise, one at once by a reaction on a settled promise, and one
+-- for each reaction, in order, by the settling of a promise
+pub record JobsAreInOrder : Type 0 where
+  pub pending : (ps : Numbered) (p : ℕ) (rs : List (Reaction ℕ)) (r : Reaction ℕ)
+      → slice_get ps.all p ≡ Some (Pending rs) → (register ps p r).jobs ≡ ps.jobs
+  pub at_once : (ps : Numbered) (p : ℕ) (how : Settled (Value ℕ)) (r : Reaction ℕ)
+      → slice_get ps.all p ≡ Some (Done how) → (register ps p r).jobs ≡ ps.jobs ++ job p r ∷ []
+  pub settles : (ps : Numbered) (p : ℕ) (rs : List (Reaction ℕ)) (how : Settled (Value ℕ))
+      → slice_get ps.all p ≡ Some (Pending rs) → (settle ps p how).jobs ≡ ps.jobs ++ map (job p) rs

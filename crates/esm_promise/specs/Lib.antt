@@ -1,3 +1,4 @@
 pub mod Promises
 pub mod Reactions
+pub mod Outer
 pub mod Laws

@@ -1,5 +1,5 @@
 //! Laws of the definitions, each the contract of a function without effect.
-ghost use Rattle.esm_promise.specs.Laws.{SettlesOnce, JobsAreOfSettled};
+ghost use Rattle.esm_promise.specs.Laws.{SettlesOnce, JobsAreOfSettled, JobsAreInOrder};
 
 /// What is settled stays settled as it is, whatever is made, registered, or settled besides.
 pub fn settles_once()
@@ -9,4 +9,10 @@ pub fn settles_once()
 /// Each job is that of a settled promise, so that there is a result that it is given.
 pub fn jobs_are_of_settled()
     ensures { JobsAreOfSettled }
+{}
+
+/// Jobs are added at the end: none by a reaction on a pending promise, one at once by a reaction on a settled one, and one for
+/// each reaction, in order, by the settling of a promise.
+pub fn jobs_are_in_order()
+    ensures { JobsAreInOrder }
 {}

@@ -1,10 +1,5 @@
 mod Members
-mod Remaining
-mod Candidates
-mod Searching
-mod Naming
-mod Walking
-mod KeyLemmas
-mod Sound
-mod SharedSetLaw
-mod SharedSetEnds
+mod AllSound
+mod Search
+mod SharedSet
+mod NameLists

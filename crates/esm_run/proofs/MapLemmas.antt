@@ -16,7 +16,7 @@ use Rattle.esm_ports.specs.declared.asked.AskKind.TheVariants.{Body, Absent, Fai
 use Rattle.esm_ports.specs.Asks.{asks_with}
 use Rattle.esm_import_map.specs.ImportMap.{Maps, no_maps}
 use Rattle.esm_import_map.specs.Reading.{import_map_of, json_of, of_json}
-use Rattle.esm_run.specs.Inner.MapReading.{Comes}
+use Rattle.esm_run.specs.Inner.MapReading.{FetchesMap}
 use Rattle.esm_run.specs.Taken.{Contents}
 use Rattle.esm_run.specs.declared.command_map.MapRefusal.{MapRefusal}
 use Rattle.esm_run.specs.declared.command_map.MapRefusal.TheVariants.{NotFetched, NotRead}
@@ -36,7 +36,7 @@ last_ask (ask ∷ asks) a b same = last_ask asks a b (cc same)
 
 one_kind : (desk : DeskChange) (url : Url) (one other : AskKind) → WasAsked desk url one → WasAsked desk url other → one ≡ other
 one_kind desk url one other p q =
-    let same : record { url = url; kind = one } ≡ record { url = url; kind = other } = last_ask desk.old _ _ (sym p ∙ q) in ap (λ (a : Asked). a.kind) same
+    let same : record { url = url; kind = one } ≡ record { url = url; kind = other } = last_ask desk.asked_before _ _ (sym p ∙ q) in ap (λ (a : Asked). a.kind) same
 
 -- ---- the first bytes of a text say what it says
 
@@ -91,11 +91,11 @@ refused_map map url desk base refusal there came = subst (λ m. MapBy m base des
 
 -- what was read of the body that the desk answered
 pub comes_read : (r : Result Maps (End MapRefusal)) (desk : DeskChange) (base : Parts) (url : Url) (bytes : List ℕ) → WasAsked desk url Body → AreHeld desk.holds url bytes
-    → Gives r (map_said bytes base) → Comes r base url desk
+    → Gives r (map_said bytes base) → FetchesMap r base url desk
 comes_read (Ok maps) desk base url bytes asked held gives = Read bytes asked held (sym gives)
 comes_read (Err (ends.Fault refusal)) desk base url bytes asked held gives = Read bytes asked held (sym gives)
 comes_read (Err ends.Memory) desk base url bytes asked held gives = inr asked
 
 pub comes_at : (r : Result Maps (End MapRefusal)) (desk : DeskChange) (base : Parts) (asked_url url : Url) (bytes : List ℕ) → asked_url ≡ url → WasAsked desk asked_url Body
-    → AreHeld desk.holds asked_url bytes → Gives r (map_said bytes base) → Comes r base url desk
-comes_at r desk base asked_url url bytes same asked held gives = subst (λ u. Comes r base u desk) same (comes_read r desk base asked_url bytes asked held gives)
+    → AreHeld desk.holds asked_url bytes → Gives r (map_said bytes base) → FetchesMap r base url desk
+comes_at r desk base asked_url url bytes same asked held gives = subst (λ u. FetchesMap r base u desk) same (comes_read r desk base asked_url bytes asked held gives)

@@ -19,19 +19,23 @@ use Rattle.esm_run.specs.Taken.{Contents}
 -- what contracts see of the desk as a call begins and at its return: what it was asked, and what it holds, where it
 -- tells
 pub record DeskChange : Type 0 where
-  pub old : List Asked
-  pub new : List Asked
+  pub asked_before : List Asked
+  pub asked_after : List Asked
   pub holds : Option Contents
 
 abbrev pub desk_change : {S : Type 0} → (S → List Asked) → (S → Option Contents) → S → S → DeskChange
-desk_change asked_of holds_of old new = record { old = asked_of old; new = asked_of new; holds = holds_of old }
+desk_change asked_of holds_of old new = record {
+  asked_before = asked_of old;
+  asked_after = asked_of new;
+  holds = holds_of old;
+}
 
 abbrev pub IsUnasked : DeskChange → Type 0
-IsUnasked desk = desk.new ≡ desk.old
+IsUnasked desk = desk.asked_after ≡ desk.asked_before
 
 -- the desk was asked once, for this URL, and answered so
 abbrev pub WasAsked : DeskChange → Url → AskKind → Type 0
-WasAsked desk url kind = desk.new ≡ asks_with desk.old url kind
+WasAsked desk url kind = desk.asked_after ≡ asks_with desk.asked_before url kind
 
 -- ---- what the desk's answer says
 

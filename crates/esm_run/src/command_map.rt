@@ -2,7 +2,7 @@
 ghost use Rattle.std.specs.Prelude.{◌≡◌, IfOk};
 ghost use Rattle.esm_base.specs.Ends.{Gives};
 ghost use Rattle.esm_run.specs.CommandMap as spec;
-ghost use Rattle.esm_run.specs.Inner.MapReading.{Comes, ComesTo};
+ghost use Rattle.esm_run.specs.Inner.MapReading.{FetchesMap, GivesMapOf};
 
 use crate::arguments::Command;
 use esm_base::{End, Memory, Text};
@@ -38,7 +38,7 @@ fn fetch_map<S: Source>(
     url: &Text,
     base: &Url,
 ) -> Result<ImportMap, End<MapRefusal>>
-    ensures comes { Comes result base.now url.now
+    ensures comes { FetchesMap result base.now url.now
         (spec.desk_change S.asked S.holds desk.old desk.new) }
     ensures holds { S.holds desk.new ≡ S.holds desk.old }
 {
@@ -57,7 +57,7 @@ pub(crate) fn map_of<S: Source>(
     desk: &mut S,
     command: &Command,
 ) -> Result<ImportMap, End<MapRefusal>>
-    ensures comes { ComesTo result command.now
+    ensures comes { GivesMapOf result command.now
         (spec.desk_change S.asked S.holds desk.old desk.new) }
     ensures holds { S.holds desk.new ≡ S.holds desk.old }
 {

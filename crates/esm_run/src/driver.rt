@@ -4,7 +4,7 @@ ghost use Rattle.esm_ast.specs.Outcome.{outcome_view};
 ghost use Rattle.esm_base.specs.Urls.{Url, has, is_usable};
 ghost use Rattle.esm_import_map.specs.ImportMap.{Maps};
 ghost use Rattle.esm_turn.specs.Represents.{RepresentsOn, asks_of, Represents};
-ghost use Rattle.esm_run.specs.Taken.{arrivals_of};
+ghost use Rattle.esm_run.specs.Taken.{deliveries_of};
 ghost use Rattle.esm_run.specs.Inner.Driving.{IsAmong, IsOpenAsk, Drives, DrivesOn, IsDriven};
 
 use crate::fetch::fetch_outcome;
@@ -46,7 +46,7 @@ fn hand_over(machine: &mut Machine, url: &Text, outcome: &Outcome) -> Result<(),
 {
     match machine.deliver(url, outcome) {
         Ok(()) => Ok(()),
-        Err(TurnEnd::Limit(_)) => Ok(()),
+        Err(TurnEnd::Fault(_limit)) => Ok(()),
         Err(TurnEnd::Memory) => Err(Memory),
     }
 }
@@ -63,9 +63,9 @@ fn take_delivery<S: Source>(
     requires open { IsOpenAsk machine.old url }
     ensures drives { (maps : Maps) (entry : Url)
         → IsDriven maps entry (S.holds source.old) (S.asked source.old) machine.old
-        (arrivals_of taken.old.items)
+        (deliveries_of taken.old.items)
         → DrivesOn maps entry (S.holds source.old) result (S.asked source.new) machine.new
-        (arrivals_of taken.new.items) }
+        (deliveries_of taken.new.items) }
     ensures holds { S.holds source.new ≡ S.holds source.old }
     ensures more { OnOk result (length taken.new.items ≡ length taken.old.items + 1) }
 {
@@ -93,7 +93,7 @@ pub(crate) fn drive<S: Source>(
     requires fresh { S.asked source.old ≡ [] }
     requires nothing { taken.old.items ≡ [] }
     ensures drives { Drives map entry.now (S.holds source.old) (S.asked source.new)
-        (arrivals_of taken.new.items) result }
+        (deliveries_of taken.new.items) result }
     ensures holds { S.holds source.new ≡ S.holds source.old }
 {
     laws::deliveries();

@@ -25,7 +25,7 @@ fn outcome_of(alloc: Global, body: Vec<u8>) -> Result<Outcome, Memory>
     }
 }
 
-// Fetches and reads what stands at a URL, by one fetch.
+// Fetches and reads what is at a URL, by one fetch.
 pub(crate) fn fetch_outcome<S: Source>(
     alloc: Global,
     source: &mut S,

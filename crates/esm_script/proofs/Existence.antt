@@ -8,7 +8,8 @@ use Rattle.esm_base.specs.declared.fault.TextFault.{TextFault}
 use Rattle.esm_base.specs.declared.fault.TextFault.TheVariants.{P1, P2, P3, P4, P6}
 use Rattle.esm_tree.specs.Syntax.{Item}
 use Rattle.esm_tree.specs.Lexeme.{Lexeme}
-use Rattle.esm_grammar.specs.Lexes.{AreTokens, without_mark, hashbang_len, too_deep}
+use Rattle.esm_base.specs.Mark.{without_mark}
+use Rattle.esm_grammar.specs.Lexes.{AreTokens, hashbang_len, too_deep}
 use Rattle.esm_grammar.specs.Items.{ItemsAt}
 use Rattle.esm_grammar.specs.ReadingItems.{module_items}
 use Rattle.esm_grammar.specs.EarlyErrors.{has_early_error}

@@ -20,7 +20,8 @@ fn init_awaits(value: &Initializer) -> bool
 
 // Whether a value of these bindings is awaited.
 fn bindings_await(bindings: &[LexicalBinding]) -> bool
-    ensures { (exprs : List Expr) → result ≡ entries.bindings_await (bindings_of exprs bindings.now) }
+    ensures { (exprs : List Expr) → result
+        ≡ entries.bindings_await (bindings_of exprs bindings.now) }
 {
     for binding in bindings {
         if init_awaits(&binding.value) {
@@ -51,7 +52,8 @@ fn either_awaits(tree: &Tree, below: usize, ids: &[StmtId], others: &[StmtId]) -
     requires bound { below ≤ length tree.now.stmts }
     requires below { AllStmtsBelow below ids.now }
     requires others_below { AllStmtsBelow below others.now }
-    ensures { result ≡ (entries.stmts_await (stmt_parts tree.now.stmts ids.now) || entries.stmts_await (stmt_parts tree.now.stmts others.now)) }
+    ensures { result ≡ (entries.stmts_await (stmt_parts tree.now.stmts ids.now)
+        || entries.stmts_await (stmt_parts tree.now.stmts others.now)) }
 {
     if stmts_await(tree, below, ids) {
         return true;

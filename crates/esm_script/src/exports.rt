@@ -18,7 +18,9 @@ use std::alloc::Global;
 
 // Adds declared names.
 fn add_bindings(exports: &mut Exports, bindings: &[LexicalBinding]) -> Result<(), Memory>
-    ensures { (exprs : List Expr) → OnOk result (Adds exports.old exports.new (map own_export (names_of (bindings_of exprs bindings.now)))) }
+    ensures { (exprs : List Expr)
+        → OnOk result (Adds exports.old exports.new (map own_export (names_of
+        (bindings_of exprs bindings.now)))) }
 {
     for binding in bindings {
         exports.add_own(&binding.name)?;
@@ -43,7 +45,8 @@ fn add_statement(
     id: StmtId,
 ) -> Result<(), Memory>
     requires { id.0 < length tree.now.stmts }
-    ensures { OnOk result (Adds exports.old exports.new (statement_exports (stmt_part tree.now.stmts id))) }
+    ensures { OnOk result (Adds exports.old exports.new (statement_exports
+        (stmt_part tree.now.stmts id))) }
 {
     match tree.stmt(id) {
         StmtNode::Default(_) => add_value(alloc, exports),
@@ -55,7 +58,8 @@ fn add_statement(
 
 // Adds a function that is exported as `default`.
 fn add_function(alloc: Global, exports: &mut Exports, name: &Option<Text>) -> Result<(), Memory>
-    ensures { OnOk result (Adds exports.old exports.new (default_export (or_star_default name.now) ∷ [])) }
+    ensures { OnOk result (Adds exports.old exports.new (default_export
+        (or_star_default name.now) ∷ [])) }
 {
     match name {
         Some(name) => {
@@ -77,7 +81,10 @@ fn add_exports(
     item: &ItemNode,
 ) -> Result<(), Memory>
     requires { item_need item.now ≤ length tree.now.stmts }
-    ensures { (imports : List Entry) → IsIndexOf imports index.now → OnOk result (Adds exports.old exports.new (entries.exports_of requests.now.keys imports (item_of tree.now.stmts item.now))) }
+    ensures { (imports : List Entry)
+        → IsIndexOf imports index.now
+        → OnOk result (Adds exports.old exports.new (entries.exports_of requests.now.keys imports
+        (item_of tree.now.stmts item.now))) }
 {
     match item {
         ItemNode::ExportAllAs(name, specifier) => {
@@ -103,8 +110,10 @@ pub(crate) fn exports_of(
     imports: &[ImportEntry],
     tree: &Tree,
 ) -> Result<Exports, Memory>
-    ensures locals { IfOk result (λ e. e.locals.items ≡ locals_of (all_exports requests.now.keys imports.now tree.now.items)) }
-    ensures indirects { IfOk result (λ e. e.indirects.items ≡ indirects_of (all_exports requests.now.keys imports.now tree.now.items)) }
+    ensures locals { IfOk result (λ e. e.locals.items
+        ≡ locals_of (all_exports requests.now.keys imports.now tree.now.items)) }
+    ensures indirects { IfOk result (λ e. e.indirects.items
+        ≡ indirects_of (all_exports requests.now.keys imports.now tree.now.items)) }
 {
     let index = ImportIndex::new(alloc, imports)?;
     let mut exports = Exports::new(alloc);

@@ -40,7 +40,8 @@ fn add_bindings(
     request: usize,
     bindings: &[ImportBinding],
 ) -> Result<(), Memory>
-    ensures { OnOk result (imports.new.items ≡ imports.old.items ++ map (import_entry request) bindings.now) }
+    ensures { OnOk result (imports.new.items
+        ≡ imports.old.items ++ map (import_entry request) bindings.now) }
 {
     for binding in bindings {
         let entry = entry_of(request, binding)?;
@@ -55,7 +56,9 @@ fn add_imports(
     requests: &IndexSet<Text>,
     item: &ItemNode,
 ) -> Result<(), Memory>
-    ensures { (stmts : List Stmt) → OnOk result (imports.new.items ≡ imports.old.items ++ entries.imports_of requests.now.keys (item_of stmts item.now)) }
+    ensures { (stmts : List Stmt)
+        → OnOk result (imports.new.items
+        ≡ imports.old.items ++ entries.imports_of requests.now.keys (item_of stmts item.now)) }
 {
     match item {
         ItemNode::Import(specifier, bindings) => {

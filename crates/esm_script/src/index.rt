@@ -22,7 +22,8 @@ fn put<'a>(
     by_local: &mut HashMap<&'a str, &'a ImportEntry>,
     entry: &'a ImportEntry,
 ) -> Result<(), Memory>
-    ensures { OnOk result ((name : List ℕ) → found_in by_local.new name ≡ update bytes_eq (found_in by_local.old) entry.now.local (Some entry.now) name) }
+    ensures { OnOk result ((name : List ℕ) → found_in by_local.new name
+        ≡ update bytes_eq (found_in by_local.old) entry.now.local (Some entry.now) name) }
 {
     by_local.insert(entry.local.as_str(), entry)?;
     Ok(())
@@ -42,7 +43,8 @@ impl<'a> ImportIndex<'a> {
 
     // The binding of a local name.
     pub(crate) fn find(&self, name: &str) -> Option<&'a ImportEntry>
-        ensures { (imports : List Entry) → IsIndexOf imports self.now → option_copied result ≡ import_named imports name.now }
+        ensures { (imports : List Entry)
+            → IsIndexOf imports self.now → option_copied result ≡ import_named imports name.now }
     {
         self.by_local.get(name).copied()
     }

@@ -59,7 +59,8 @@ impl Exports {
 
     // Adds the namespace of another module.
     pub(crate) fn add_space(&mut self, name: &Text, request: usize) -> Result<(), Memory>
-        ensures { OnOk result (Adds self.old self.new (indirect_export name.now request Wanted.Whole ∷ [])) }
+        ensures { OnOk result (Adds self.old self.new
+            (indirect_export name.now request Wanted.Whole ∷ [])) }
     {
         let exported = name.clone()?;
         self.add_indirect(exported, request, Wanted::Whole)
@@ -96,7 +97,9 @@ impl Exports {
         specifier: &ExportSpecifier,
         found: Option<&ImportEntry>,
     ) -> Result<(), Memory>
-        ensures { OnOk result (Adds self.old self.new (listed_by specifier.now.exported specifier.now.first (option_copied found.entry) ∷ [])) }
+        ensures { OnOk result (Adds self.old self.new
+            (listed_by specifier.now.exported specifier.now.first
+            (option_copied found.entry) ∷ [])) }
     {
         let exported = specifier.exported.clone()?;
         match found {
@@ -123,7 +126,9 @@ impl Exports {
         index: &ImportIndex,
         specifiers: &[ExportSpecifier],
     ) -> Result<(), Memory>
-        ensures { (imports : List Entry) → IsIndexOf imports index.now → OnOk result (Adds self.old self.new (map (listed imports) specifiers.now)) }
+        ensures { (imports : List Entry)
+            → IsIndexOf imports index.now
+            → OnOk result (Adds self.old self.new (map (listed imports) specifiers.now)) }
     {
         for specifier in specifiers {
             let found = index.find(specifier.first.as_str());

@@ -12,15 +12,19 @@ use esm_parse_mod::parse;
 use std::alloc::Global;
 use std::sync::Arc;
 
-// The tree that the bytes spell, to be shared.
+// The tree that the bytes spell, to be shared. It keeps no room for further parts.
 fn shared_tree(alloc: Global, bytes: &[u8]) -> Result<Arc<Tree>, ReadEnd>
-    ensures { MatchResult result (λ tree. Spells bytes.now (arc_value tree).items) (IsRefusedFor bytes.now) }
+    ensures { MatchResult result
+        (λ tree. Spells bytes.now (arc_value tree).items) (IsRefusedFor bytes.now) }
 {
     match parse(alloc, bytes) {
-        Ok(tree) => match Arc::new(alloc, tree) {
-            Ok(tree) => Ok(tree),
-            Err(_) => Err(ReadEnd::Memory),
-        },
+        Ok(mut tree) => {
+            tree.shrink_to_fit();
+            match Arc::new(alloc, tree) {
+                Ok(tree) => Ok(tree),
+                Err(_) => Err(ReadEnd::Memory),
+            }
+        }
         Err(end) => Err(end),
     }
 }

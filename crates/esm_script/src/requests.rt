@@ -26,7 +26,9 @@ fn specifier_of(item: &ItemNode) -> Option<&Text>
 
 // Adds what an item requests, unless it is there.
 fn add_request(found: &mut IndexSet<Text>, item: &ItemNode) -> Result<(), Memory>
-    ensures { (stmts : List Stmt) → OnOk result (found.new.keys ≡ entries.add_request found.old.keys (request_of (item_of stmts item.now))) }
+    ensures { (stmts : List Stmt)
+        → OnOk result (found.new.keys
+        ≡ entries.add_request found.old.keys (request_of (item_of stmts item.now))) }
 {
     match specifier_of(item) {
         Some(specifier) => {

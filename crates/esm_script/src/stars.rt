@@ -16,7 +16,9 @@ fn add_star(
     requests: &IndexSet<Text>,
     item: &ItemNode,
 ) -> Result<(), Memory>
-    ensures { (stmts : List Stmt) → OnOk result (stars.new.items ≡ stars.old.items ++ entries.stars_of requests.now.keys (item_of stmts item.now ∷ [])) }
+    ensures { (stmts : List Stmt)
+        → OnOk result (stars.new.items
+        ≡ stars.old.items ++ entries.stars_of requests.now.keys (item_of stmts item.now ∷ [])) }
 {
     match item {
         ItemNode::ExportAll(specifier) => {

@@ -1,5 +1,2 @@
-pub mod Greatest
-pub mod GreatestLaw
-pub mod Longest
-pub mod Prefixes
 pub mod Usable
+pub mod Keys

@@ -21,14 +21,16 @@ GreatestIs = (texts : List (List ℕ)) → MatchOption (greatest texts) (texts �
 
 -- whatever the import map, what a specifier resolves to may name a module
 abbrev pub ResolvesToUsable : Type 0
-ResolvesToUsable = (maps : Maps) (referrer : Url) (specifier : Text) (u : Url) → resolution_of_specifier maps referrer specifier ≡ Ok u → IsUsable u
+ResolvesToUsable = (maps : Maps) (referrer : Url) (specifier : Text) (u : Url)
+    → resolution_of_specifier maps referrer specifier ≡ Ok u → IsUsable u
 
 -- under the empty import map a specifier is its own URL, where that may name a module, and else nothing
 pub record ResolvesByItself : Type 0 where
-  pub is : (referrer : Url) (base url : Parts) (specifier : Text) → url_of None referrer ≡ Some base → url_like base specifier ≡ Some url
-      → is_usable (serialize url) ≡ true → resolution_of_specifier no_maps referrer specifier ≡ Ok (serialize url)
-  pub unusable : (referrer : Url) (base url : Parts) (specifier : Text) → url_of None referrer ≡ Some base → url_like base specifier ≡ Some url
-      → is_usable (serialize url) ≡ false → resolution_of_specifier no_maps referrer specifier ≡ Err S5
+  pub is : (referrer : Url) (base url : Parts) (specifier : Text) → url_of None referrer ≡ Some base
+      → url_like base specifier ≡ Some url → is_usable (serialize url) ≡ true
+      → resolution_of_specifier no_maps referrer specifier ≡ Ok (serialize url)
+  pub unusable : (referrer : Url) (base url : Parts) (specifier : Text) → url_of None referrer ≡ Some base
+      → url_like base specifier ≡ Some url → is_usable (serialize url) ≡ false → resolution_of_specifier no_maps referrer specifier ≡ Err S5
   pub bare : (referrer : Url) (base : Parts) (specifier : Text) → url_of None referrer ≡ Some base → url_like base specifier ≡ None
       → resolution_of_specifier no_maps referrer specifier ≡ Err S4
 

@@ -1,4 +1,4 @@
 pub mod Faults
+pub mod Inner
 pub mod Laws
-pub mod Lookups
 pub mod Resolution

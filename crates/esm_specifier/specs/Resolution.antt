@@ -1,5 +1,5 @@
 -- What a specifier resolves to: a URL, or a fault.
-use Rattle.std.specs.Prelude.{ℕ, List, [], ◌∷◌, length, drop, filter, bytes_eq, Bool, true, false, ◌&&◌, ◌||◌, Option, None, Some, is_some, unwrap_or, option_map, Result, Ok, Err, if◌then◌else◌}
+use Rattle.std.specs.Prelude.{ℕ, List, [], ◌∷◌, length, drop, filter, bytes_eq, Bool, true, ◌&&◌, ◌||◌, Option, None, Some, is_some, unwrap_or, option_map, Result, Ok, Err, if◌then◌else◌}
 use Rattle.std.specs.Map.{keys_of}
 use Rattle.std.specs.Option.{option_flatten}
 use Rattle.std.specs.Ordering.{is_lt}

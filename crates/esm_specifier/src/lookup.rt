@@ -1,7 +1,7 @@
 // Which key of which map decides.
 ghost use Rattle.std.specs.Prelude.{◌≡◌, None, MatchOption, true, false, is_some};
 ghost use Rattle.esm_base.specs.TextMap.{at};
-ghost use Rattle.esm_specifier.specs.Lookups.{Decides, IsInScope};
+ghost use Rattle.esm_specifier.specs.Inner.Lookups.{Decides, IsInScope};
 ghost use Rattle.esm_specifier.specs.Resolution.{deciding_key, deciding_scope, deciding_map, scope_at};
 
 use esm_base::TextMap;
@@ -61,8 +61,9 @@ fn find_in_scope<'a>(
     prefixes: bool,
     normal: &str,
 ) -> Option<Found<'a>>
-    ensures { MatchOption result (deciding_key prefixes normal.now (scope_at prefix.now scopes.now) ≡ None)
-        (λ f. Decides prefixes normal.now (scope_at prefix.now scopes.now) f.key_len f.address.now) }
+    ensures { let map = scope_at prefix.now scopes.now in
+        MatchOption result (deciding_key prefixes normal.now map ≡ None)
+        (λ f. Decides prefixes normal.now map f.key_len f.address.now) }
 {
     match scopes.get(prefix) {
         Some(map) => find_key(map, prefixes, normal),

@@ -1,5 +1,5 @@
 // Resolves a specifier.
-ghost use Rattle.std.specs.Prelude.{◌≡◌, ◌≤◌, true, take, length, IfOk, None, option_copied, Ok, Some};
+ghost use Rattle.std.specs.Prelude.{◌≡◌, true, take, IfOk, None, option_copied, Ok, Some};
 ghost use Rattle.std.specs.Str.{IsCharBoundary};
 ghost use Rattle.esm_base.specs.Ends.{Gives};
 ghost use Rattle.esm_base.specs.Urls.{IsCanonical, IsUsable, url_of};
@@ -30,7 +30,8 @@ fn follow(
     address: &Option<Url>,
 ) -> Result<Text, SpecEnd>
     requires { IsCharBoundary normal.now key_len }
-    ensures { Gives result (spec.usable (spec.by_address normal.now (take key_len normal.now) address.now)) }
+    ensures { Gives result (spec.usable
+        (spec.by_address normal.now (take key_len normal.now) address.now)) }
 {
     let Some(address) = address else {
         return Err(SpecEnd::Fault(SpecFault::S1));
@@ -67,7 +68,8 @@ fn resolve_normal(
     url: Option<&Url>,
     normal: &str,
 ) -> Result<Text, SpecEnd>
-    ensures { Gives result (spec.usable (spec.resolved map.now referrer.now (option_copied url.entry) normal.now)) }
+    ensures { Gives result (spec.usable
+        (spec.resolved map.now referrer.now (option_copied url.entry) normal.now)) }
 {
     let prefixes = match url {
         Some(url) => url.is_special(),

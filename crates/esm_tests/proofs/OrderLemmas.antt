@@ -5,8 +5,7 @@ use Rattle.std.specs.Prelude.{Option, Some, None, ◌||◌, bytes_eq}
 use Rattle.std.proofs.lemmas.Slice.Eq.{bytes_eq-Decides}
 use Rattle.esm_base.specs.Urls.{Url, has}
 use Rattle.esm_load.specs.Loading.{Loading}
-use Rattle.esm_turn.specs.declared.turn_end.TurnEnd.{TurnEnd}
-use Rattle.esm_turn.specs.Represents.{State, MayTake, MayTakeBy, asks_of, asks_by_stop}
+use Rattle.esm_turn.specs.Represents.{TurnEnd, State, MayTake, MayTakeBy, asks_of, asks_by_stop}
 
 or_left : (a b : Bool) → a ≡ true → (a || b) ≡ true
 or_left true b h = refl

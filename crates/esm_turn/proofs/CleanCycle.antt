@@ -1,18 +1,15 @@
 -- The files of the cycle are clean, and their direct run meets no limit.
-use Rattle.std.proofs.Common.{◌≡◌, ℕ, Bool, true, false, List, [], ◌∷◌, Some, Ok, refl, subst, sym, inl, inr, lit≤}
+use Rattle.std.proofs.Common.{◌≡◌, true, List, [], ◌∷◌, Ok, refl, subst, sym, inl, inr, lit≤}
 use Rattle.std.specs.Prelude.{◌⊎◌}
 use Rattle.url.proofs.OnLiterals.{url_on_literals}
 use Rattle.esm_import_map.specs.ImportMap.{no_maps}
-use Rattle.esm_tree.specs.Syntax.{Item}
 use Rattle.esm_ast.specs.Entries.{requests_of, requests_after, add_request, request_of, with_text}
 use Rattle.esm_base.specs.Urls.{Url, has, same_url}
-use Rattle.esm_realm.specs.Walk.{Visits, leaves}
 use Rattle.esm_realm.specs.Walk.Mark.{Enter, Pass, Leave}
 use Rattle.esm_realm.proofs.Urls.{same_text, or_true, or_left, or_cases, has_own}
 use Rattle.esm_realm.proofs.WalkBy.{walk_found}
 use Rattle.esm_load.specs.UrlTable.{targets_of}
-use Rattle.esm_turn.specs.Bodies.{run_bodies, opening_bodies}
-use Rattle.esm_turn.specs.Direct.{Closure, IsCleanFile, IsClean, DirectRun, MeetsNoLimit, file_targets, file_body}
+use Rattle.esm_turn.specs.Direct.{Closure, IsCleanFile, IsClean, DirectRun, file_targets}
 use Rattle.esm_turn.specs.Direct.Closure.{itself, requested}
 use Rattle.esm_turn.specs.Examples.{main_url, a_url, b_url, cycle_main_items, cycle_a_items, cycle_b_items, cycle_files, cycle_bodies, CleanCycle}
 
@@ -90,9 +87,9 @@ clean : IsClean no_maps cycle_files main_url
 unfolding IsSpelled
 clean = record {
   spelled = λ u c. each IsSpelled
-      (record { script = _; urls = a_url ∷ b_url ∷ []; file = refl; built = refl; resolves = main_resolves })
-      (record { script = _; urls = b_url ∷ []; file = refl; built = refl; resolves = a_resolves })
-      (record { script = _; urls = main_url ∷ []; file = refl; built = refl; resolves = b_resolves })
+      (record { text = _; urls = a_url ∷ b_url ∷ []; file = refl; built = refl; resolves = main_resolves })
+      (record { text = _; urls = b_url ∷ []; file = refl; built = refl; resolves = a_resolves })
+      (record { text = _; urls = main_url ∷ []; file = refl; built = refl; resolves = b_resolves })
       u (reached u c);
 }
 

@@ -1,27 +1,25 @@
 -- An allowed delivery has a turn.
-use Rattle.std.proofs.Common.{◌≡◌, ℕ, zero, suc, ◌+◌, ◌≤◌, ◌<◌, Bool, true, false, List, [], ◌∷◌, ◌++◌, Some, None, Option, refl, ap, subst, sym, ◌∙◌, arith}
+use Rattle.std.proofs.Common.{◌≡◌, ℕ, zero, suc, ◌≤◌, ◌<◌, true, List, [], ◌∷◌, ◌++◌, Some, None, Option, refl, ap, subst, sym, ◌∙◌, arith}
 use Rattle.std.specs.Prelude.{slice_get}
-use Rattle.std.specs.FinMap.{get}
 use Rattle.esm_import_map.specs.ImportMap.{Maps}
 use Rattle.esm_base.specs.declared.limits.Limit.{Limit}
 use Rattle.esm_base.specs.Urls.{Text, Url, has}
-use Rattle.esm_realm.specs.Walk.{IsWalk, leaves}
+use Rattle.esm_realm.specs.Walk.{leaves}
 use Rattle.esm_ast.specs.Outcome.{OutcomeView}
-use Rattle.esm_load.specs.Loading.{Loading, LoadState, LoadComplete, Thrown, PendingRequest, targets, body}
-use Rattle.esm_load.specs.Load.{Answers}
+use Rattle.esm_load.specs.Loading.{Loading, LoadState, LoadComplete, Thrown, body}
 use Rattle.esm_load.specs.Arrival.{Next, next, after_fetch}
-use Rattle.esm_load.specs.Steps.{AnswersNext, pending_left}
+use Rattle.esm_load.specs.Steps.{pending_left}
 use Rattle.esm_load.proofs.Left.{answers_fewer}
 use Rattle.esm_load.proofs.HasLoad.{has_answer, has_walk}
-use Rattle.esm_turn.specs.Bodies.{Bodies, run_bodies}
+use Rattle.esm_turn.specs.Bodies.{run_bodies}
 use Rattle.esm_turn.specs.World.{World, Evaluates, Follows, Jobs, Tasks, Turn, stopped, opening, with_jobs}
 use Rattle.esm_turn.specs.World.Evaluates.{evaluates}
 use Rattle.esm_turn.specs.World.Follows.{loaded, failed}
 use Rattle.esm_turn.specs.Run.{Delivery, Runs, asks}
 use Rattle.esm_turn.proofs.Keeps.{jobs_only}
 use Rattle.esm_turn.proofs.Ends.{next_is}
-use Rattle.esm_turn.proofs.Single.{IsWanted, IsSingle, HasThrown, Answered, goes, threw, whole}
-use Rattle.esm_turn.proofs.Phases.{Phase, quiet, ran, halted, IsKept, IsQuiet, answered_next, nobody_next, task_phase, settled_kept, asks_quiet, run_phase}
+use Rattle.esm_turn.proofs.Single.{Answered, goes, threw, whole}
+use Rattle.esm_turn.proofs.Phases.{Phase, quiet, ran, halted, IsQuiet, answered_next, nobody_next, task_phase, settled_kept, asks_quiet, run_phase}
 
 HasJobs : World → Type 0
 HasJobs w = (a : World) × Jobs w a

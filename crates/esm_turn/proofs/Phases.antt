@@ -2,26 +2,26 @@
 use mathlib.Core.Bool.{true≢false}
 use Rattle.std.proofs.Common.{◌≡◌, ℕ, ◌+◌, Bool, true, false, List, [], ◌∷◌, ◌++◌, Some, None, Option, refl, ap, subst, sym, ◌∙◌, inl, inr}
 use Rattle.std.specs.Prelude.{◌⊎◌, nat_lt, slice_get}
-use Rattle.std.specs.FinMap.{get, insert, get-empty}
+use Rattle.std.specs.FinMap.{get, insert}
 use Rattle.esm_import_map.specs.ImportMap.{Maps}
 use Rattle.esm_base.specs.declared.limits.Limit.{Limit}
-use Rattle.esm_base.specs.Urls.{Text, Url, url_cmp, has, same_url}
+use Rattle.esm_base.specs.Urls.{Text, Url, has, same_url}
 use Rattle.esm_realm.specs.Walk.{Mark, Visits, leaves}
 use Rattle.esm_realm.proofs.Urls.{cases, same_text, own_text, or_cases, not_both}
 use Rattle.esm_ast.specs.Outcome.{OutcomeView}
-use Rattle.esm_load.specs.UrlTable.{TableEntry, table_entry_of}
-use Rattle.esm_load.specs.Loading.{Loading, Asked, LoadComplete, Thrown, PendingRequest, Root, load_of, targets, body, opening_loading}
+use Rattle.esm_load.specs.UrlTable.{table_entry_of}
+use Rattle.esm_load.specs.Loading.{Loading, Asked, LoadComplete, Thrown, PendingRequest, Root, load_of, targets, body}
 use Rattle.esm_load.specs.Load.{Answers}
 use Rattle.esm_load.specs.Arrival.{bytes_of, Next, next, after_fetch, store, store_by, count, count_by, open_asks}
 use Rattle.esm_load.proofs.Kept.{answers_keeps}
 use Rattle.esm_load.proofs.Grows.{Has}
 use Rattle.esm_load.proofs.Grows.Has.{here}
 use Rattle.esm_turn.specs.Bodies.{Bodies, run_bodies}
-use Rattle.esm_turn.specs.World.{World, Jobs, Tasks, Turn, Evaluates, stopped, opening, with_jobs}
-use Rattle.esm_turn.specs.Run.{Delivery, Runs, asks, asks_by}
+use Rattle.esm_turn.specs.World.{World, Jobs, Tasks, Turn, stopped, opening, with_jobs}
+use Rattle.esm_turn.specs.Run.{Delivery, Runs, asks}
 use Rattle.esm_turn.proofs.Asks.{asks_live}
 use Rattle.esm_turn.proofs.Ends.{follows_whole, follows_thrown, evaluates_is, jobs_none, open_has, next_is, IsNext, get_new, get_old, has_cons}
-use Rattle.esm_turn.proofs.Single.{IsWanted, wanted_steps, IsSingle, HasThrown, Answered, goes, threw, whole, answers_single}
+use Rattle.esm_turn.proofs.Single.{IsWanted, wanted_steps, IsSingle, Answered, goes, threw, whole, answers_single}
 
 -- the bodies are those of one walk over what stands in the table now
 pub record IsEvaluated (w : World) : Type 0 where
@@ -180,7 +180,7 @@ turn_phase {w} {u} {c} (Turn.turn live t) q = tasks_phase t (quiet (settled_kept
 
 runs_phase : (ds : List Delivery) (w a : World) → Runs w ds a → Phase w → Phase a
 runs_phase [] w a r p = subst Phase (sym r) p
-runs_phase (d ∷ ds) w a r p = runs_phase ds r.1 a r.3 (turn_phase r.2 (asks_quiet w d.0 p r.0))
+runs_phase (d ∷ ds) w a r p = runs_phase ds r.1 a r.3 (turn_phase r.2 (asks_quiet w d.url p r.0))
 
 opening_kept : (maps : Maps) (entry : Url) → IsKept (opening maps entry)
 opening_kept maps entry = record {

@@ -1,22 +1,22 @@
 -- The entry's load is the only one: what it does to the list of loads, to the jobs and to who waits.
 use mathlib.Core.Bool.{true≢false}
-use Rattle.std.proofs.Common.{◌≡◌, ℕ, suc, Bool, true, false, List, [], ◌∷◌, ◌++◌, Some, None, Option, refl, ap, subst, sym, ◌∙◌, inl, inr}
+use Rattle.std.proofs.Common.{◌≡◌, ℕ, Bool, true, false, List, [], ◌∷◌, ◌++◌, Some, None, Option, refl, ap, subst, sym, ◌∙◌, inl, inr}
 use Rattle.std.specs.Prelude.{◌⊎◌, ◌||◌, ◌==◌, nat_lt, length, slice_get, slice_set}
 use Rattle.std.specs.List.{list_any}
 use Rattle.std.specs.FinMap.{get}
 use Rattle.esm_base.specs.declared.limits.Limit.{Limit}
 use Rattle.esm_base.specs.Urls.{Text, Url, has}
 use Rattle.esm_load.specs.UrlTable.{TableEntry}
-use Rattle.esm_load.specs.Loading.{Loading, LoadState, Open, LoadComplete, Thrown, PendingRequest, Root, Request, OpenLoad, open_load, open_load_in, load_of, is_of, begin, visit, throw, finish_by, ask_by}
+use Rattle.esm_load.specs.Loading.{Loading, LoadState, Open, LoadComplete, Thrown, PendingRequest, Root, Request, OpenLoad, open_load, open_load_in, load_of, is_of, throw, finish_by, ask_by}
 use Rattle.esm_load.specs.Load.{Enters, Asks, Answers}
 use Rattle.esm_load.specs.Load.Enters.{ended, known, enters}
 use Rattle.esm_load.specs.Load.Asks.{no_more, over, waits, throws, loads}
 use Rattle.esm_load.specs.Load.Answers.{late, no_root, no_module, root, request}
-use Rattle.esm_load.proofs.Kept.{Steps, answers_keeps}
+use Rattle.esm_load.proofs.Kept.{Steps}
 use Rattle.esm_load.proofs.OneLoad.{asks_late}
 use Rattle.esm_load.proofs.Clean.{Has-push, has_push}
 use Rattle.esm_load.proofs.Grows.{Has, has_left, has_last}
-use Rattle.esm_load.proofs.Grows.Has.{here, there}
+use Rattle.esm_load.proofs.Grows.Has.{here}
 
 -- ---- what is asked and not fetched is waited for
 

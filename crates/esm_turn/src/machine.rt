@@ -1,6 +1,7 @@
 // The machine: an entry, and the deliveries that it has taken.
 ghost use Rattle.std.specs.Prelude.{◌≡◌, All, List, [], ◌∷◌, ◌++◌, true, IfOk, IfErr, OnOk, Some, None, Err, is_some, option_map, slice_get, codes, IsSome, ◌↔◌};
 ghost use Rattle.esm_ast.specs.Outcome.{outcome_view};
+ghost use Rattle.esm_base.specs.declared.end.End.TheVariants as ends;
 ghost use Rattle.esm_base.specs.Limits.{limit_name};
 ghost use Rattle.esm_base.specs.Urls.{is_usable, IsUsable};
 ghost use Rattle.esm_realm.specs.Sound.{RecordParts};
@@ -8,8 +9,7 @@ ghost use Rattle.std.specs.Arc.{arc_value};
 ghost use Rattle.esm_load.specs.Loading.{Loading};
 ghost use Rattle.esm_load.specs.LoadsView.{RecordsMatch, loading_of};
 ghost use Rattle.esm_turn.specs.LastLine.{ending_by, last_line_by, live_ending, status_of};
-ghost use Rattle.esm_turn.specs.Represents.{IsEnded, MayTake, ShownBy, Represents, StoppedAs, Took, asks_of, ending_by_stop, ending_of};
-ghost use Rattle.esm_turn.specs.declared.turn_end.TurnEnd.{TurnEnd as EndOf};
+ghost use Rattle.esm_turn.specs.Represents.{IsEnded, MayTake, ShownBy, Represents, StoppedAs, TakesDelivery, TurnEnd as EndOf, asks_of, ending_by_stop, ending_of};
 
 use crate::TurnEnd;
 use crate::engine::Engine;
@@ -23,8 +23,8 @@ use std::alloc::Global;
 use std::marker::Model;
 use std::sync::Arc;
 
-/// An entry, and the deliveries that were taken. Contracts see what it holds of loading, its log, its steps and how
-/// it has stopped; `Represents` says for which lists of deliveries it stands.
+/// An entry, and the deliveries that were taken. Contracts see its loading, its log, its steps and how it has stopped;
+/// `Represents` says which lists of deliveries it represents.
 ///
 /// HTML, "fetch the descendants of and link a module script" and "run a module script", over fetches that end in any
 /// order, each in one turn.
@@ -46,9 +46,9 @@ impl Model for Machine {
 
     ghost coded = { Prim.hlevel (codes, maps.code, maps_code, coded_item) };
 
-    ghost use Rattle.esm_turn.specs.Parts.{PartsAgreeUnless, loading_in};
+    ghost use Rattle.esm_turn.specs.Inner.Parts.{PartsAgreeUnless, parts_loading};
 
-    ghost view = { λ m. record { loading = loading_in m.parts; log = m.parts.engine.log.items; steps = m.parts.engine.steps; stopped = m.stopped } };
+    ghost view = { λ m. record { loading = parts_loading m.parts; log = m.parts.engine.log.items; steps = m.parts.engine.steps; stopped = m.stopped } };
 
     ghost invariant = { λ m. PartsAgreeUnless m.stopped m.parts };
 }
@@ -73,7 +73,7 @@ fn stopped_status(end: TurnEnd) -> Option<Status>
     ensures { (l : Loading) → result ≡ option_map status_of (ending_by_stop (Some end) l) }
 {
     match end {
-        TurnEnd::Limit(_limit) => Some(Status::Limit),
+        TurnEnd::Fault(_limit) => Some(Status::Limit),
         TurnEnd::Memory => None,
     }
 }
@@ -101,7 +101,7 @@ fn stopped_line(alloc: Global, end: TurnEnd) -> Result<Text, Memory>
         → IfOk result (λ line. line ≡ last_line_by (ending_by_stop (Some end) l)) }
 {
     match end {
-        TurnEnd::Limit(limit) => limit_line(alloc, limit),
+        TurnEnd::Fault(limit) => limit_line(alloc, limit),
         TurnEnd::Memory => Err(Memory),
     }
 }
@@ -124,7 +124,7 @@ impl Machine {
     /// resolve by this import map.
     pub fn new(alloc: Global, map: Arc<ImportMap>, entry: Text) -> Result<Machine, Memory>
         requires { is_usable entry ≡ true }
-        ensures stands { IfOk result (λ m. Represents (arc_value map) entry m []) }
+        ensures represents { IfOk result (λ m. Represents (arc_value map) entry m []) }
         ensures live { IfOk result (λ m. m.stopped ≡ None) }
     {
         let mut realm = Realm::new(alloc);
@@ -144,7 +144,7 @@ impl Machine {
     }
 
     /// The URLs that are asked for and not delivered, in order of asking; none where the machine has stopped.
-    /// Each is canonical and at most 8,192 bytes long. It takes no memory.
+    /// Each is canonical and at most 8,192 bytes long. It doesn't allocate.
     pub fn asks(&self) -> &[Text]
         ensures usable { All IsUsable result.now }
         ensures open { result.now ≡ asks_of self.now }
@@ -160,12 +160,12 @@ impl Machine {
     /// One turn: the fetch of an open ask has ended so, and all that follows from it is done. Where the machine had
     /// stopped it answers the same again and changes nothing.
     ///
-    /// Limit comes exactly where the standard run of the deliveries stops by that limit in this turn: L1 where more
+    /// A limit comes exactly where the standard run of the deliveries stops by it in this turn: L1 where more
     /// than 4,096 URLs are asked for, L2 where more than 16,777,216 bytes were delivered, L3 at step 1,000,001.
     pub fn deliver(&mut self, url: &Text, outcome: &Outcome) -> Result<(), TurnEnd>
         requires { MayTake self.old url.now }
         ensures turn { self.old.stopped ≡ None
-            → Took self.old url.now (outcome_view outcome.now) result self.new }
+            → TakesDelivery self.old url.now (outcome_view outcome.now) result self.new }
         ensures again { (end : EndOf) → self.old.stopped ≡ Some end
             → (result ≡ Err end) × (self.new ≡ self.old) }
         ensures goes_on { OnOk result (self.new.stopped ≡ None) }
@@ -183,7 +183,7 @@ impl Machine {
         }
     }
 
-    /// How the machine has stopped, if it has. It takes no memory.
+    /// How the machine has stopped, if it has. It doesn't allocate.
     pub fn stopped(&self) -> Option<TurnEnd>
         ensures state { result ≡ self.now.stopped }
         ensures standard { ShownBy self.now (StoppedAs result) }
@@ -191,7 +191,7 @@ impl Machine {
         self.stopped
     }
 
-    /// What the bodies have written, without the last line. It takes no memory.
+    /// What the bodies have written, without the last line. It doesn't allocate.
     pub fn log(&self) -> &[u8]
         ensures state { result.now ≡ self.now.log }
         ensures standard { ShownBy self.now (λ what. result.now ≡ what.log) }
@@ -199,12 +199,20 @@ impl Machine {
         self.parts.engine.log()
     }
 
-    /// The status of the run; none while an ask is open, and after want of memory. It takes no memory.
+    /// The same, given away: the machine ends here. It doesn't allocate.
+    pub fn into_log(self) -> Vec<u8>
+        ensures state { result.items ≡ self.log }
+        ensures standard { ShownBy self (λ what. result.items ≡ what.log) }
+    {
+        self.parts.engine.into_log()
+    }
+
+    /// The status of the run; none while an ask is open, and after memory ran out. It doesn't allocate.
     pub fn end(&self) -> Option<Status>
         ensures state { result ≡ option_map status_of (ending_of self.now) }
         ensures known { is_some result ≡ is_some (ending_of self.now) }
         ensures exactly { IsSome result ↔ IsEnded self.now }
-        ensures memory { self.now.stopped ≡ Some TurnEnd.Memory → result ≡ None }
+        ensures memory { self.now.stopped ≡ Some ends.Memory → result ≡ None }
         ensures standard { ShownBy self.now (λ what. result ≡ what.status) }
         ensures ended { ShownBy self.now (λ what. is_some result ≡ what.ended) }
     {

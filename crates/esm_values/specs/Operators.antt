@@ -11,7 +11,8 @@ use Rattle.esm_values.specs.Plans.Comes.{Goes, Leaves}
 use Rattle.esm_values.specs.Plans.Plan.{Ends, Asks}
 use Rattle.esm_values.specs.declared.errors.FaultKind.{FaultKind}
 use Rattle.esm_values.specs.declared.errors.FaultKind.TheVariants as kinds
-use Rattle.esm_values.specs.declared.limits.TheConstants.{MAX_TEXT_BYTES, BYTES_PER_STEP}
+use Rattle.esm_base.specs.declared.limits.TheConstants.{MAX_TEXT_BYTES}
+use Rattle.esm_values.specs.declared.limits.TheConstants.{BYTES_PER_STEP}
 
 -- what operators see of a value
 pub data Look : Type 0 where

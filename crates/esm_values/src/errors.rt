@@ -62,7 +62,8 @@ impl Errors {
     /// ECMA-262, Error Objects.
     pub fn make(&mut self, alloc: Global, kind: FaultKind, message: &str) -> Result<ErrorId, Memory>
         ensures id { IfOk result (λ id. id.0 ≡ spec.next_error self.old) }
-        ensures ok { OnOk result (self.new ≡ spec.make_error self.old (spec.fault kind message.now)) }
+        ensures ok { OnOk result (self.new
+            ≡ spec.make_error self.old (spec.fault kind message.now)) }
         ensures err { OnErr result (self.new ≡ self.old) }
     {
         let message = RcText::copy(alloc, message)?;

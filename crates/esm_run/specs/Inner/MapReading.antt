@@ -14,18 +14,18 @@ use Rattle.esm_run.specs.CommandMap.{DeskChange, IsUnasked, WasAsked, ReadsMap, 
 abbrev pub AsksAtMost : Url → DeskChange → Type 0
 AsksAtMost url desk = IsUnasked desk ⊎ WasAsked desk url Body
 
--- what one fetch of the map comes to
-abbrev pub Comes : Result Maps (End MapRefusal) → Parts → Url → DeskChange → Type 0
-Comes (Ok maps) base url desk = ReadsMap desk base url (Ok maps)
-Comes (Err (Fault refusal)) base url desk = ReadsMap desk base url (Err refusal)
-Comes (Err Memory) base url desk = AsksAtMost url desk
+-- one fetch of the map gives this result: the map or why there is none, unless memory ran out
+abbrev pub FetchesMap : Result Maps (End MapRefusal) → Parts → Url → DeskChange → Type 0
+FetchesMap (Ok maps) base url desk = ReadsMap desk base url (Ok maps)
+FetchesMap (Err (Fault refusal)) base url desk = ReadsMap desk base url (Err refusal)
+FetchesMap (Err Memory) base url desk = AsksAtMost url desk
 
 abbrev pub MayHaveAsked : Option Url → DeskChange → Type 0
 MayHaveAsked None desk = IsUnasked desk
 MayHaveAsked (Some url) desk = AsksAtMost url desk
 
--- what the map of a command comes to
-abbrev pub ComesTo : Result Maps (End MapRefusal) → Command → DeskChange → Type 0
-ComesTo (Ok maps) command desk = MapOf command desk (Ok maps)
-ComesTo (Err (Fault refusal)) command desk = MapOf command desk (Err refusal)
-ComesTo (Err Memory) command desk = MayHaveAsked command.map desk
+-- the result is the import map of the command, or why there is none, unless memory ran out
+abbrev pub GivesMapOf : Result Maps (End MapRefusal) → Command → DeskChange → Type 0
+GivesMapOf (Ok maps) command desk = MapOf command desk (Ok maps)
+GivesMapOf (Err (Fault refusal)) command desk = MapOf command desk (Err refusal)
+GivesMapOf (Err Memory) command desk = MayHaveAsked command.map desk

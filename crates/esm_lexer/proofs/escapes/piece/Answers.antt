@@ -1,7 +1,7 @@
 use Rattle.std.proofs.Common.{◌≡◌, ℕ, ◌==◌, true, List, ◌∷◌, Some, refl, ap, ◌∙◌, arith, length-drop}
 use Rattle.esm_grammar.specs.Reading.{pick}
 use Rattle.esm_grammar.specs.Strings.{piece, escape}
-use Rattle.esm_lexer.specs.Pieces.{chars_of}
+use Rattle.esm_lexer.specs.Inner.Pieces.{chars_of}
 use Rattle.esm_lexer.proofs.Fronts.{skip, range_is, head_is, none_left}
 use Rattle.esm_lexer.proofs.escapes.piece.Goals as goal
 

@@ -5,8 +5,8 @@ use Rattle.std.specs.List.{remove}
 use Rattle.std.specs.List.Sorted.{IsNonDecreasing}
 use Rattle.std.proofs.lemmas.Option.{slice_get_within}
 use Rattle.esm_load.specs.declared.table.Slot.{Slot}
-use Rattle.esm_load.proofs.OpenPlaces.{places_rise, place_listed, as_many, taken}
-use Rattle.esm_load.proofs.Standings.{index_get, some_is}
+use Rattle.esm_load.proofs.Indices.OpenPlaces.{places_rise, place_listed, as_many, taken}
+use Rattle.esm_load.proofs.Records.States.{index_get, some_is}
 use Rattle.esm_load.proofs.arriving.after_fetch.Goals as goal
 
 pub close-requires-clause-rise : goal.close-requires-clause-rise
@@ -27,11 +27,11 @@ returns c =
     let inside = slice_get_within ss c.args.place c.requires.open.slot c.requires.open.at in
     let at = index_get ss c.args.place c.index_mut.result.now inside c.index_mut.ensures.value in
     let same : c.index_mut.result.now ≡ c.requires.open.slot = some_is (sym at ∙ c.requires.open.at) in
-    let put : Slot = record { url = c.index_mut.result.now.url; stand = c.args.stand } in
+    let put : Slot = record { url = c.index_mut.result.now.url; state = c.args.state } in
     let here = ap (λ ks. slice_get ks c.close.ensures.at) (sym c.requires.asks.places) ∙ (c.close.ensures.found ∙ ap (λ k. Some k) (sym (zero-add c.args.place))) in
     let out = taken 0 ss c.args.place c.requires.open.slot put c.close.ensures.at c.requires.open.at c.requires.open.fetching c.requires.fetched here in
     record {
-      slots = λ s e. ap (λ (s : Slot). slice_set ss c.args.place (record s { stand = c.args.stand })) (some_is (sym at ∙ e));
+      slots = λ s e. ap (λ (s : Slot). slice_set ss c.args.place (record s { state = c.args.state })) (some_is (sym at ∙ e));
       asks = record {
         urls = c.close.ensures.urls ∙ (ap (λ us. remove us c.close.ensures.at) c.requires.asks.urls ∙ out.urls);
         places = c.close.ensures.places ∙ (ap (λ ks. remove ks c.close.ensures.at) c.requires.asks.places ∙ out.places);
@@ -40,8 +40,8 @@ returns c =
       numbers = refl;
       queues = refl;
       flags = refl;
-      waiters = refl;
-      waiting = refl;
+      requests = refl;
+      pending_count = refl;
       stage = refl;
       visited = refl;
       trees = refl;

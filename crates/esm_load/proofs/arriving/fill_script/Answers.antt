@@ -2,7 +2,7 @@ use Rattle.std.proofs.Common.{ap, sym, ◌∙◌, refl}
 use Rattle.esm_tree.specs.Syntax.{Parts}
 use Rattle.esm_load.specs.Forms.{is_built}
 use Rattle.esm_load.specs.UrlTable.{Broken, script_entry, not_built_error}
-use Rattle.esm_load.specs.Arriving.Filled.{AsBroken}
+use Rattle.esm_load.specs.Inner.Arriving.Filled.{AsBroken}
 use Rattle.esm_load.proofs.arriving.fill_script.Goals as goal
 
 pub fill_module-requires-clause-built : goal.fill_module-requires-clause-built

@@ -1,5 +1,5 @@
 use Rattle.std.proofs.Common.{◌∙◌}
-use Rattle.esm_load.proofs.Arrived.{parse_printed}
+use Rattle.esm_load.proofs.Fetched.TableEntry.{parse_printed}
 use Rattle.esm_load.proofs.arriving.parse_fault.Goals as goal
 
 pub returns : goal.returns

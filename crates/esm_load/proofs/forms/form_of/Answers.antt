@@ -1,4 +1,4 @@
-use Rattle.std.proofs.Common.{refl, sym, ap, ◌∙◌, ◌+◌, ◌<◌, ◌≤◌, arith}
+use Rattle.std.proofs.Common.{refl, arith}
 use Rattle.esm_load.proofs.FormLemmas.{other_item}
 use Rattle.esm_load.proofs.forms.form_of.Goals as goal
 

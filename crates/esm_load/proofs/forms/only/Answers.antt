@@ -1,4 +1,4 @@
-use Rattle.std.proofs.Common.{sym, ◌∙◌}
+use Rattle.std.proofs.Common.{◌∙◌}
 use Rattle.esm_load.proofs.FormLemmas.{one_below, only_one, not_one}
 use Rattle.esm_load.proofs.forms.only.Goals as goal
 

@@ -1,4 +1,4 @@
-use Rattle.std.proofs.Common.{sym, ap, ◌∙◌, ◌<◌, ◌≤◌, arith}
+use Rattle.std.proofs.Common.{sym, ap, ◌∙◌, arith}
 use Rattle.esm_load.specs.Forms.{printed_text}
 use Rattle.esm_load.proofs.FormLemmas.{other_printed, below_more}
 use Rattle.esm_load.proofs.forms.printed.Goals as goal

@@ -1,5 +1,5 @@
-use Rattle.std.proofs.Common.{refl, sym, ap, ◌∙◌, ◌+◌, ◌<◌, ◌≤◌, arith}
-use Rattle.esm_load.specs.Forms.{statement_form, print_form}
+use Rattle.std.proofs.Common.{refl, sym, ap, ◌∙◌, arith}
+use Rattle.esm_load.specs.Forms.{statement_form}
 use Rattle.esm_load.proofs.FormLemmas.{other_statement}
 use Rattle.esm_load.proofs.forms.statement.Goals as goal
 

@@ -1,4 +1,4 @@
-use Rattle.std.proofs.Common.{◌≡◌, Err, ap}
+use Rattle.std.proofs.Common.{Err, ap}
 use Rattle.esm_parse_expr.proofs.of_text.parse_among.Goals as goal
 
 pub returns-in-Ok : goal.returns-in-Ok

@@ -1,7 +1,6 @@
-use Rattle.std.proofs.Common.{◌≡◌, ◌≤◌, ◌<◌, ℕ, Bool, true, List, Result, Ok, Err, refl, sym, subst, ap, ◌∙◌, arith, length}
+use Rattle.std.proofs.Common.{◌≡◌, ◌<◌, ℕ, Bool, true, List, Result, Ok, Err, refl, sym, subst, ◌∙◌, arith, length}
 use Rattle.std.specs.Result.{IfOk}
 use Rattle.esm_tree.specs.Lexeme.{Lexeme}
-use Rattle.esm_tree.specs.Syntax.{Expr}
 use Rattle.esm_tree.specs.Flat.{part}
 use Rattle.esm_tree.specs.declared.node.ExprId.{ExprId}
 use Rattle.esm_grammar.specs.Lexes.{AreTokens}

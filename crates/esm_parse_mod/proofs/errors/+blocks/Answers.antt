@@ -1,9 +1,9 @@
-use Rattle.std.proofs.Common.{◌≡◌, ◌<◌, ◌∙◌, ◌+◌, arith, ◌||◌, ◌++◌, [], ◌∷◌, drop, get_or, sym, ap, refl, subst}
+use Rattle.std.proofs.Common.{◌≡◌, ◌<◌, ◌∙◌, ◌+◌, arith, ◌||◌, ◌++◌, [], ◌∷◌, drop, get_or, sym, ap, subst}
 use Rattle.esm_tree.specs.Flat.{stmt_parts}
 use Rattle.esm_tree.specs.declared.node.StmtId.{StmtId}
 use Rattle.esm_grammar.specs.EarlyErrors.{has_repeat, block_names, stmts_scopes, stmt_scopes, scopes_of}
 use Rattle.std.specs.Result.{IfOk}
-use Rattle.esm_parse_mod.specs.Names.{texts, given, any_clashes}
+use Rattle.esm_parse_mod.specs.Inner.Names.{texts, given, any_clashes}
 use Rattle.esm_parse_mod.proofs.OutcomeLemmas.{stmts_below}
 use Rattle.esm_parse_mod.proofs.NamesLemmas.{at_is, past, get_or_any, below_at}
 use Rattle.esm_parse_mod.proofs.SeenLemmas.{clash_here, clashes_next, clashes_none, clashes_both, other_scopes}

@@ -1,5 +1,5 @@
-use Rattle.std.proofs.Common.{◌≡◌, ◌∙◌, ◌++◌, ◌∷◌, [], sym, ap, refl}
-use Rattle.esm_parse_mod.specs.Names.{texts, binding_names}
+use Rattle.std.proofs.Common.{◌∙◌, ◌++◌, ◌∷◌, [], ap, refl}
+use Rattle.esm_parse_mod.specs.Inner.Names.{texts, binding_names}
 use Rattle.esm_parse_mod.proofs.NamesLemmas.{at_is, past, texts_push, gathered, all_gathered}
 use Rattle.esm_parse_mod.proofs.errors.add_bindings.Goals as goal
 

@@ -1,6 +1,5 @@
-use Rattle.std.proofs.Common.{◌≡◌, ◌∙◌, ◌++◌, [], ◌∷◌, sym, ap, refl, append-nil}
+use Rattle.std.proofs.Common.{sym, append-nil}
 use Rattle.esm_grammar.specs.EarlyErrors.{name_list}
-use Rattle.esm_parse_mod.specs.Names.{texts}
 use Rattle.esm_parse_mod.proofs.errors.add_given.Goals as goal
 
 pub returns-in-Some : goal.returns-in-Some

@@ -1,6 +1,6 @@
-use Rattle.std.proofs.Common.{◌≡◌, ◌<◌, ◌+◌, ◌∙◌, ◌++◌, [], ◌∷◌, arith, sym, ap, refl, append-nil}
+use Rattle.std.proofs.Common.{◌∙◌, ◌++◌, arith, sym, ap, append-nil}
 use Rattle.esm_grammar.specs.EarlyErrors.{declared_of}
-use Rattle.esm_parse_mod.specs.Names.{texts}
+use Rattle.esm_parse_mod.specs.Inner.Names.{texts}
 use Rattle.esm_parse_mod.proofs.EarlyLemmas.{none_declared}
 use Rattle.esm_parse_mod.proofs.errors.add_item_names.Goals as goal
 

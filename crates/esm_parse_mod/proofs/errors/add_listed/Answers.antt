@@ -1,5 +1,5 @@
-use Rattle.std.proofs.Common.{◌≡◌, ◌∙◌, ◌++◌, ◌∷◌, [], map, sym, ap, refl}
-use Rattle.esm_parse_mod.specs.Names.{texts}
+use Rattle.std.proofs.Common.{◌∙◌, ◌++◌, ◌∷◌, [], map, ap, refl}
+use Rattle.esm_parse_mod.specs.Inner.Names.{texts}
 use Rattle.esm_parse_mod.proofs.NamesLemmas.{at_is, past, texts_push, gathered, all_gathered}
 use Rattle.esm_parse_mod.proofs.errors.add_listed.Goals as goal
 

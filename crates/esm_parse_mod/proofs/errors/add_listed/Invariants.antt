@@ -1,5 +1,5 @@
 use Rattle.std.proofs.Common.{◌≡◌, ◌++◌, drop, map}
-use Rattle.esm_parse_mod.specs.Names.{texts}
+use Rattle.esm_parse_mod.specs.Inner.Names.{texts}
 use Rattle.esm_parse_mod.proofs.errors.add_listed.Given as goal
 
 abbrev pub invariant-loop-specifier : goal.invariant-loop-specifier

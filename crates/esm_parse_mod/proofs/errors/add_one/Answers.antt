@@ -1,5 +1,5 @@
-use Rattle.std.proofs.Common.{◌≡◌, ◌∙◌, ◌++◌, ◌∷◌, [], sym, ap, refl}
-use Rattle.esm_parse_mod.specs.Names.{texts}
+use Rattle.std.proofs.Common.{◌∙◌, ap}
+use Rattle.esm_parse_mod.specs.Inner.Names.{texts}
 use Rattle.esm_parse_mod.proofs.NamesLemmas.{texts_push}
 use Rattle.esm_parse_mod.proofs.errors.add_one.Goals as goal
 

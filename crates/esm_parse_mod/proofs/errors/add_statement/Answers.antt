@@ -1,7 +1,7 @@
-use Rattle.std.proofs.Common.{◌≡◌, ◌∙◌, ◌++◌, [], ◌∷◌, sym, ap, refl, subst}
+use Rattle.std.proofs.Common.{◌≡◌, ◌∙◌, ◌++◌, sym, ap, subst}
 use Rattle.std.specs.Result.{OnOk}
 use Rattle.esm_grammar.specs.EarlyErrors.{statement_exported}
-use Rattle.esm_parse_mod.specs.Names.{texts}
+use Rattle.esm_parse_mod.specs.Inner.Names.{texts}
 use Rattle.esm_parse_mod.proofs.EarlyLemmas.{not_default}
 use Rattle.esm_parse_mod.proofs.errors.add_statement.Goals as goal
 

@@ -1,7 +1,6 @@
-use Rattle.std.proofs.Common.{◌≡◌, ◌∙◌, ◌++◌, ◌∷◌, [], get_or, sym, ap, refl}
-use Rattle.esm_grammar.specs.Names.{Text}
-use Rattle.esm_parse_mod.specs.Names.{texts}
-use Rattle.esm_parse_mod.proofs.NamesLemmas.{at_is, past, get_or_any, texts_push, gathered, all_gathered}
+use Rattle.std.proofs.Common.{◌∙◌, ◌++◌, ◌∷◌, [], ap, refl}
+use Rattle.esm_parse_mod.specs.Inner.Names.{texts}
+use Rattle.esm_parse_mod.proofs.NamesLemmas.{at_is, past, texts_push, gathered, all_gathered}
 use Rattle.esm_parse_mod.proofs.errors.add_texts.Goals as goal
 
 pub loop-text-init : goal.loop-text-init

@@ -1,7 +1,7 @@
 use Rattle.std.proofs.Common.{◌≡◌, ◌++◌, drop}
 use Rattle.esm_tree.specs.Flat.{items_of}
 use Rattle.esm_grammar.specs.EarlyErrors.{module_names}
-use Rattle.esm_parse_mod.specs.Names.{texts}
+use Rattle.esm_parse_mod.specs.Inner.Names.{texts}
 use Rattle.esm_parse_mod.proofs.errors.all_declared.Given as goal
 
 abbrev pub invariant-loop-item : goal.invariant-loop-item

@@ -1,8 +1,8 @@
-use Rattle.std.proofs.Common.{◌≡◌, ◌∙◌, ◌++◌, ◌∷◌, [], sym, ap, refl, append-nil}
+use Rattle.std.proofs.Common.{◌∙◌, ◌++◌, sym, ap, append-nil}
 use Rattle.esm_tree.specs.Flat.{items_of}
 use Rattle.esm_grammar.specs.EarlyErrors.{exported_names}
-use Rattle.esm_parse_mod.specs.Names.{texts}
-use Rattle.esm_parse_mod.proofs.NamesLemmas.{at_is, past, get_or_any, gathered}
+use Rattle.esm_parse_mod.specs.Inner.Names.{texts}
+use Rattle.esm_parse_mod.proofs.NamesLemmas.{at_is, past, gathered}
 use Rattle.esm_parse_mod.proofs.EarlyLemmas.{need_at, exported_at, exported_past}
 use Rattle.esm_parse_mod.proofs.errors.all_exported.Goals as goal
 

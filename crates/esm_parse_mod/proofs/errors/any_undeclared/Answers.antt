@@ -1,6 +1,6 @@
-use Rattle.std.proofs.Common.{◌≡◌, ◌∙◌, ◌+◌, ◌||◌, not, drop, sym, ap}
+use Rattle.std.proofs.Common.{◌∙◌, ◌+◌, ◌||◌, not, drop, sym, ap}
 use Rattle.std.specs.List.{list_any}
-use Rattle.esm_parse_mod.specs.Names.{is_unlisted, held}
+use Rattle.esm_parse_mod.specs.Inner.Names.{is_unlisted, held}
 use Rattle.esm_parse_mod.proofs.NamesLemmas.{at_is, past}
 use Rattle.esm_parse_mod.proofs.errors.any_undeclared.Goals as goal
 

@@ -1,7 +1,7 @@
-use Rattle.std.proofs.Common.{◌≡◌, ◌∙◌, ◌+◌, ◌||◌, drop, sym, ap}
+use Rattle.std.proofs.Common.{◌∙◌, ◌+◌, ◌||◌, drop, sym, ap}
 use Rattle.esm_tree.specs.Flat.{items_of, item_of}
 use Rattle.esm_grammar.specs.EarlyErrors.{item_scopes}
-use Rattle.esm_parse_mod.specs.Names.{any_item_wrong, any_clashes, held}
+use Rattle.esm_parse_mod.specs.Inner.Names.{any_item_wrong, any_clashes, held}
 use Rattle.esm_parse_mod.proofs.NamesLemmas.{at_is, past}
 use Rattle.esm_parse_mod.proofs.EarlyLemmas.{need_at, wrong_at, wrong_past}
 use Rattle.esm_parse_mod.proofs.errors.any_wrong.Goals as goal

@@ -1,4 +1,4 @@
-use Rattle.std.proofs.Common.{◌≡◌, ◌∙◌, ◌+◌, ◌∷◌, [], List, true, cond, drop, get_or, sym, ap, refl, subst}
+use Rattle.std.proofs.Common.{◌∙◌, ◌+◌, ◌∷◌, [], true, cond, drop, get_or, sym, ap, subst}
 use Rattle.std.specs.List.{list_any}
 use Rattle.std.specs.Borrow.{Bor}
 use Rattle.std.specs.Ordering.{nat_cmp}

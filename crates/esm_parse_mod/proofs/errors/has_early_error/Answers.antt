@@ -1,8 +1,8 @@
-use Rattle.std.proofs.Common.{◌≡◌, ◌∙◌, sym, ap, refl, subst, codes}
+use Rattle.std.proofs.Common.{◌≡◌, ◌∙◌, sym, ap, subst, codes}
 use Rattle.std.specs.Result.{IfOk}
 use Rattle.esm_grammar.specs.Names.{has_text}
 use Rattle.esm_grammar.specs.EarlyErrors.{has_repeat, exported_names, module_names, exports_twice, exports_then, declares_twice}
-use Rattle.esm_parse_mod.specs.Names.{texts, any_item_wrong, held, Holds}
+use Rattle.esm_parse_mod.specs.Inner.Names.{texts, any_item_wrong, held, Holds}
 use Rattle.esm_parse_mod.proofs.EarlyLemmas.{unset, twice_first, then_next, declares_next, errors_last}
 use Rattle.esm_parse_mod.proofs.errors.has_early_error.Goals as goal
 

@@ -1,4 +1,3 @@
-use Rattle.std.proofs.Common.{◌≡◌, refl}
 use Rattle.esm_parse_mod.proofs.errors.holds.Goals as goal
 
 pub returns : goal.returns

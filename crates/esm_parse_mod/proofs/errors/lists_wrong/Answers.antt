@@ -1,7 +1,7 @@
-use Rattle.std.proofs.Common.{◌≡◌, ◌∙◌, [], sym, ap, refl}
+use Rattle.std.proofs.Common.{◌∙◌, sym, ap}
 use Rattle.std.specs.List.{list_any}
 use Rattle.esm_grammar.specs.EarlyErrors.{listed_of}
-use Rattle.esm_parse_mod.specs.Names.{is_unlisted, held}
+use Rattle.esm_parse_mod.specs.Inner.Names.{is_unlisted, held}
 use Rattle.esm_parse_mod.proofs.EarlyLemmas.{none_listed}
 use Rattle.esm_parse_mod.proofs.errors.lists_wrong.Goals as goal
 

@@ -1,8 +1,7 @@
-use Rattle.std.proofs.Common.{◌≡◌, ◌<◌, ◌≤◌, inl, inr, Some, None, true, false, refl, arith, ◌∙◌, sym, subst, ap}
+use Rattle.std.proofs.Common.{inl, inr, ◌∙◌, sym, subst}
 use Rattle.esm_grammar.specs.Lexes.{AreTokens}
 use Rattle.esm_grammar.proofs.SoundItems as sound
 use Rattle.esm_grammar.proofs.CompleteItems as complete
-use Rattle.esm_parse_mod.proofs.StatementLemmas.{not_so, so}
 use Rattle.esm_parse_mod.proofs.NameLemmas.{not_some}
 use Rattle.esm_parse_mod.proofs.module.tree_of.Goals as goal
 

@@ -1,5 +1,5 @@
 use Rattle.std.proofs.Common.{ap, refl}
-use Rattle.esm_run.specs.Taken.{arrivals_of}
+use Rattle.esm_run.specs.Taken.{deliveries_of}
 use Rattle.esm_run.specs.CommandMap.{desk_change}
 use Rattle.esm_run.specs.Report.{MapShown, EntryRun}
 use Rattle.esm_run.proofs.MapLemmas.{refused_map}
@@ -13,4 +13,4 @@ returns-in-Some g c =
     MapShown c.in-Some.url c.in-Err-Fault.refusal c.in-Some.is
     (refused_map c.args.command.now.map c.in-Some.url (desk_change g.S.Source.asked g.S.Source.holds c.args.desk.now c.map_of.new.desk) c.args.command.now.base c.in-Err-Fault.refusal c.in-Some.is
     (rw c.in-Err-Fault.field-0-is at c.in-Err-Fault.ensures.comes))
-    (record { taken_none = ap arrivals_of c.requires.nothing; untouched = refl; ends = c.show_refusal.ensures })
+    (record { taken_none = ap deliveries_of c.requires.nothing; untouched = refl; ends = c.show_refusal.ensures })

@@ -1,4 +1,4 @@
-use Rattle.esm_specifier.proofs.Longest.{decided_whole, undecided_whole}
+use Rattle.esm_specifier.proofs.Keys.Longest.{decided_whole, undecided_whole}
 use Rattle.esm_specifier.proofs.lookup.find_key.Goals as goal
 
 pub returns-in-Some : goal.returns-in-Some

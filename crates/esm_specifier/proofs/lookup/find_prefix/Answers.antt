@@ -2,8 +2,8 @@ use Rattle.std.proofs.Common.{◌≡◌, ◌<◌, ◌+◌, ◌-◌, length, take
 use Rattle.std.proofs.lemmas.Str.{IsCharBoundary-after_ascii}
 use Rattle.esm_base.specs.TextMap.{at}
 use Rattle.esm_specifier.specs.Resolution.{reaches}
-use Rattle.esm_specifier.proofs.Longest.{longest_start, longest_step, decided, undecided, absent, missing, passes, passes_then}
-use Rattle.esm_specifier.proofs.Prefixes.{reached_prefix}
+use Rattle.esm_specifier.proofs.Keys.Longest.{longest_start, longest_step, decided, undecided, absent, missing, passes, passes_then}
+use Rattle.esm_specifier.proofs.Keys.Prefixes.{reached_prefix}
 use Rattle.esm_specifier.proofs.lookup.find_prefix.Goals as goal
 
 pub loop-place-init : goal.loop-place-init

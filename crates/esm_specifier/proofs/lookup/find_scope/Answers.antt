@@ -1,4 +1,4 @@
-use Rattle.esm_specifier.proofs.Longest.{decided_scope_whole}
+use Rattle.esm_specifier.proofs.Keys.Longest.{decided_scope_whole}
 use Rattle.esm_specifier.proofs.lookup.find_scope.Goals as goal
 
 pub returns-in-Some : goal.returns-in-Some

@@ -1,9 +1,9 @@
 use Rattle.std.proofs.Common.{◌≡◌, ◌<◌, ◌+◌, ◌-◌, length, take, get_or, true, refl, sym, ap, ◌∙◌, subst, arith}
 use Rattle.std.proofs.lemmas.Str.{IsCharBoundary-after_ascii}
 use Rattle.esm_specifier.specs.Resolution.{decides, scope_at}
-use Rattle.esm_specifier.specs.Lookups.{Decides}
-use Rattle.esm_specifier.proofs.Longest.{longest_start, longest_step, undecided, passes, passes_then, decides_reaches, scope_without, decided_scope}
-use Rattle.esm_specifier.proofs.Prefixes.{reached_prefix}
+use Rattle.esm_specifier.specs.Inner.Lookups.{Decides}
+use Rattle.esm_specifier.proofs.Keys.Longest.{longest_start, longest_step, undecided, passes, passes_then, decides_reaches, scope_without, decided_scope}
+use Rattle.esm_specifier.proofs.Keys.Prefixes.{reached_prefix}
 use Rattle.esm_specifier.proofs.lookup.find_scope_prefix.Goals as goal
 
 pub loop-end-init : goal.loop-end-init

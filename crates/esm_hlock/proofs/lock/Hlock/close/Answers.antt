@@ -2,7 +2,7 @@ use Rattle.std.proofs.Common.{rules, ◌∙◌, sym, subst, ◌≡◌}
 use Rattle.std.specs.Prelude.{IsSome, Some}
 use Rattle.esm_hlock.specs.Makers.{Continues}
 use Rattle.esm_hlock.specs.Closing.{ClosedWith}
-use Rattle.esm_hlock.proofs.Ends.{closed, behind, closes, none_out}
+use Rattle.esm_hlock.proofs.Keeps.Ends.{closed, behind, closes, none_out}
 use Rattle.esm_hlock.proofs.lock.Hlock.close.Goals as goal
 
 pub unwrap-requires : goal.unwrap-requires

@@ -1,9 +1,9 @@
 use Rattle.std.proofs.Common.{rules, ap, sym, subst}
 use lib.ListN.{get_elem?}
 use Rattle.esm_hlock.specs.Makers.{Continues}
-use Rattle.esm_hlock.specs.Views.{joined_from}
-use Rattle.esm_hlock.proofs.Lists.{none_in}
-use Rattle.esm_hlock.proofs.Passes.{joins_seats, looks_back}
+use Rattle.esm_hlock.specs.Inner.Seats.{joined_from}
+use Rattle.esm_hlock.proofs.Basics.Lists.{none_in}
+use Rattle.esm_hlock.proofs.Keeps.Passes.{joins_seats, looks_back}
 use Rattle.esm_hlock.proofs.lock.Hlock.join.Goals as goal
 
 pub join_seat-requires : goal.join_seat-requires

@@ -4,7 +4,7 @@ use Rattle.std.specs.Prelude.{slice_get}
 use Rattle.std.specs.List.Sorted.{IsNonDecreasing}
 use Rattle.std.proofs.lemmas.List.Sorted.{searched}
 use Rattle.std.proofs.lemmas.Option.{slice_get_within, get_or_from_slice_get}
-use Rattle.esm_load.proofs.Entries.{get_within}
+use Rattle.esm_load.proofs.Records.Entries.{get_within}
 use Rattle.esm_load.proofs.asks.OpenAsks.close.Goals as goal
 
 -- an element at a place, as a search gives it

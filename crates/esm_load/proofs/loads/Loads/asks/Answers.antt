@@ -3,10 +3,10 @@ use Rattle.std.proofs.Common.{◌≡◌, sym, ◌∙◌, subst}
 use Rattle.std.specs.Prelude.{All}
 use Rattle.esm_base.specs.Urls.{IsUsable}
 use Rattle.esm_load.specs.Arrival.{open_asks}
-use Rattle.esm_load.specs.TableView.{view_of}
+use Rattle.esm_load.specs.Inner.TableView.{view_of}
 use Rattle.esm_load.specs.LoadsView.{LoadsView, RecordsMatch, loading_of}
-use Rattle.esm_load.proofs.Entries.{asks_are}
-use Rattle.esm_load.proofs.OpenPlaces.{open_usable}
+use Rattle.esm_load.proofs.Records.Entries.{asks_are}
+use Rattle.esm_load.proofs.Indices.OpenPlaces.{open_usable}
 use Rattle.esm_load.proofs.loads.Loads.asks.Goals as goal
 
 pub returns-clause-asks : goal.returns-clause-asks

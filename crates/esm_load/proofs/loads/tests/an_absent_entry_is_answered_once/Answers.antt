@@ -6,7 +6,7 @@ use Rattle.esm_import_map.specs.ImportMap.{no_maps}
 use Rattle.esm_load.specs.Arrival.{open_asks}
 use Rattle.esm_load.specs.Loading.{Loading}
 use Rattle.esm_load.specs.Steps.{HasNoNext}
-use Rattle.esm_load.proofs.First.{opening_open, opening_answered}
+use Rattle.esm_load.proofs.Indices.EntryUrl.{opening_open, opening_answered}
 use Rattle.esm_load.proofs.loads.tests.an_absent_entry_is_answered_once.Goals as goal
 
 pub ask_entry-requires-clause-usable : goal.ask_entry-requires-clause-usable

@@ -1,4 +1,3 @@
-use Rattle.std.proofs.Common.{◌≡◌, ◌+◌, refl, sym, ap, ◌∙◌}
 use Rattle.std.proofs.lemmas.Result.{err_from_is_err_and}
 use Rattle.esm_grammar.specs.Reading as read
 use Rattle.esm_parse_expr.proofs.OutcomeLemmas.{grows_none, refused, continued}

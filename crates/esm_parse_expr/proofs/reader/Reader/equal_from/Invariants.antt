@@ -2,7 +2,7 @@ use Rattle.std.proofs.Common.{◌≡◌, ◌<◌, length, ◌-◌}
 use Rattle.esm_tree.specs.Flat.{AllComparedBelow, part, compared_parts}
 use Rattle.esm_grammar.specs.Reading as read
 use Rattle.esm_parse_expr.specs.Outcome.{Grows}
-use Rattle.esm_parse_expr.specs.Operators.{compared_with}
+use Rattle.esm_parse_expr.specs.Inner.Operators.{compared_with}
 use Rattle.esm_parse_expr.proofs.Compared.{gathered}
 use Rattle.esm_parse_expr.proofs.reader.Reader.equal_from.Given as goal
 

@@ -1,4 +1,4 @@
-use Rattle.std.proofs.Common.{Some, refl, sym, ap, ◌∙◌, ◌+◌, ◌-◌, [], ◌∷◌, length, arith, length-append}
+use Rattle.std.proofs.Common.{sym, ap, ◌∙◌, ◌+◌, ◌-◌, arith}
 use Rattle.std.proofs.Math.Nat.{sub-zero}
 use Rattle.std.proofs.lemmas.Result.{err_from_is_err_and}
 use Rattle.esm_tree.specs.Syntax.{Sum, none, more}

@@ -4,7 +4,7 @@ use Rattle.esm_tree.specs.Flat.{AllBelow, part, parts}
 use Rattle.esm_tree.specs.declared.lexeme.Terminal.TheVariants as t
 use Rattle.esm_grammar.specs.Reading as read
 use Rattle.esm_parse_expr.specs.Outcome.{Grows}
-use Rattle.esm_parse_expr.specs.Operators.{joined_with}
+use Rattle.esm_parse_expr.specs.Inner.Operators.{joined_with}
 use Rattle.esm_parse_expr.proofs.Lists.{gathered}
 use Rattle.esm_parse_expr.proofs.reader.Reader.sum_from.Given as goal
 

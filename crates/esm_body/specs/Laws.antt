@@ -1,0 +1,73 @@
+-- Laws of the definitions, over modules with numbers, where import() is a function of what it is given and changes nothing but
+-- promises, errors and the modules that are there.
+use Rattle.std.specs.Prelude.{◌≡◌, ℕ, ◌+◌, nat_eq, List, Option, Result}
+use Rattle.esm_base.specs.declared.limits.Limit.{Limit}
+use Rattle.esm_values.specs.Value.{Value}
+use Rattle.esm_values.specs.Ran.{Ran}
+use Rattle.esm_promise.specs.Promises.{Settled}
+use Rattle.esm_promise.specs.Outer.{Outer}
+use Rattle.esm_env.specs.Modules.{Modules}
+use Rattle.esm_tree.specs.Syntax.{Stmts}
+use Rattle.esm_tree.specs.Syntax.{Stmt as Statement}
+use Rattle.esm_values.specs.Plans.Comes.{Goes, Stops}
+use Rattle.esm_values.specs.declared.errors.FaultKind.TheVariants as kinds
+use Rattle.esm_env.specs.Cells.{Reading as reading}
+use Rattle.esm_body.specs.Rest.{Rest, more}
+use Rattle.esm_body.specs.Rest.Part.{Whole, Tries}
+use Rattle.esm_body.specs.State.{State, Importing}
+use Rattle.esm_body.specs.Acts.{Inner, read_answer, throws_new, not_initialized}
+use Rattle.esm_body.specs.Moves.{Move, On, RewritesBody, caught}
+use Rattle.esm_body.specs.Segment.{Active, Ended, Segment}
+use Rattle.esm_body.specs.Bodies.{StartsBody, RunsBody, ResumesBody}
+
+abbrev pub Around : Type 0
+Around = Outer ℕ (Modules ℕ)
+
+abbrev pub Here : Type 0
+Here = State ℕ (Modules ℕ)
+
+abbrev pub Importer : Type 0
+Importer = Around → ℕ → List ℕ → ℕ → Result (Unit {0}) Limit × Around
+
+-- what an import() that is a function comes to
+abbrev pub imports_by : Importer → Importing ℕ (Modules ℕ)
+imports_by f o m text p end after = f o m text p ≡ (end, after)
+
+abbrev pub itself : Modules ℕ → Modules ℕ
+itself g = g
+
+-- a rewriting, a segment, and each call for a body have one outcome
+pub record HaveOneOutcome : Type 0 where
+  pub rewriting : (f : Importer) (m : ℕ) (w one other : Inner ℕ (Modules ℕ)) (r : Rest (Value ℕ)) (a b : Move (Value ℕ) Limit)
+      → RewritesBody nat_eq itself (imports_by f) m w r a one → RewritesBody nat_eq itself (imports_by f) m w r b other
+      → (b ≡ a) × (other ≡ one)
+  pub segment : (f : Importer) (m : ℕ) (w one other : Here) (r : Rest (Value ℕ)) (callers : List (Active ℕ)) (a b : Ended ℕ)
+      → Segment nat_eq itself (imports_by f) w m r callers a one → Segment nat_eq itself (imports_by f) w m r callers b other
+      → (b ≡ a) × (other ≡ one)
+  pub start : (f : Importer) (m done : ℕ) (w one other : Here) (a b : Result (Unit {0}) Limit)
+      → StartsBody nat_eq itself (imports_by f) w m done a one → StartsBody nat_eq itself (imports_by f) w m done b other
+      → (b ≡ a) × (other ≡ one)
+  pub run : (f : Importer) (m : ℕ) (w one other : Here) (a b : Result (Ran (Value ℕ)) Limit)
+      → RunsBody nat_eq itself (imports_by f) w m a one → RunsBody nat_eq itself (imports_by f) w m b other
+      → (b ≡ a) × (other ≡ one)
+  pub resume : (f : Importer) (m : ℕ) (how : Settled (Value ℕ)) (w one other : Here) (a b : Result (Unit {0}) Limit)
+      → ResumesBody nat_eq itself (imports_by f) w m how a one → ResumesBody nat_eq itself (imports_by f) w m how b other
+      → (b ≡ a) × (other ≡ one)
+
+-- a statement that begins takes one step
+abbrev pub StatementsTakeSteps : Type 0
+StatementsTakeSteps = (f : Importer) (m : ℕ) (w after : Inner ℕ (Modules ℕ)) (s : Statement) (rest r : Rest (Value ℕ))
+    → RewritesBody nat_eq itself (imports_by f) m w (more (Whole s) rest) (On (Goes r)) after
+    → after.state.engine.steps ≡ w.state.engine.steps + 1
+
+-- a limit that is passed in the block of a `try` stops all: its handler doesn't go on
+abbrev pub StopsAreNotCaught : Type 0
+StopsAreNotCaught = (f : Importer) (m : ℕ) (w after : Inner ℕ (Modules ℕ)) (r rest : Rest (Value ℕ)) (x : Option (List ℕ))
+    (handler : Stmts) (why : Limit)
+    → RewritesBody nat_eq itself (imports_by f) m w r (On (Stops why)) after
+    → RewritesBody nat_eq itself (imports_by f) m w (more (Tries r x handler) rest) (On (Stops why)) after
+
+-- an unset name throws a ReferenceError
+abbrev pub UnsetThrows : Type 0
+UnsetThrows = (w : Inner ℕ (Modules ℕ)) (x : List ℕ)
+    → read_answer w x reading.Unset ≡ throws_new w kinds.ReferenceError (not_initialized x)

@@ -1,0 +1,22 @@
+use Rattle.std.proofs.Common.{◌+◌, arith}
+use Rattle.esm_expr_eval.proofs.Steps as steps
+use Rattle.esm_expr_eval.specs.declared.frame.Frame.TheVariants as f
+use Rattle.esm_expr_eval.proofs.frame.print_on.Goals as goal
+
+pub returns-in-Some-clause-tells : goal.returns-in-Some-clause-tells
+returns-in-Some-clause-tells g c = steps.begins_tells g.W.World.url_of g.W.World.acts c.args.tree.now.exprs c.args.frames.now.items _ _ _ (f.Print c.args.at (c.args.next + 1) c.push.new.self) c.in-Some.id _ (steps.print_next g.W.World.url_of g.W.World.acts c.args.tree.now.exprs c.args.frames.now.items _ c.args.at c.args.next c.args.value c.args.values c.push.new.self c.in-Some.id c.in-Ok.ensures.items c.in-Some.ensures.next.1) c.begin_in.ensures
+
+pub returns-in-Some-clause-keeps : goal.returns-in-Some-clause-keeps
+returns-in-Some-clause-keeps g c =
+    let b = c.in-Some.ensures.next.0 in
+    let a = c.requires.at in
+    let k = steps.operand_work c.in-Some.ensures.next.1 in
+    steps.begins_keeps c.args.tree.now.exprs c.args.frames.now.items _ (f.Print c.args.at (c.args.next + 1) c.push.new.self) c.in-Some.id _ _ c.requires.frames c.requires.at (omega (arith, a, b)) (omega (arith, k)) c.begin_in.ensures
+
+pub returns-in-None-clause-tells : goal.returns-in-None-clause-tells
+returns-in-None-clause-tells g c =
+    let called = rw c.in-Ok.ensures.items at c.print.ensures in
+    rw c.in-None.ensures.next (steps.printed_tells_behind g.W.World.url_of g.W.World.acts c.args.tree.now.exprs c.args.frames.now.items _ _ c.args.values.items c.args.value _ called)
+
+pub returns-in-None-clause-keeps : goal.returns-in-None-clause-keeps
+returns-in-None-clause-keeps g c = steps.printed_keeps g.W.World.url_of g.W.World.acts c.args.tree.now.exprs c.args.frames.now.items _ _ _ _ _ c.requires.frames (omega arith) c.print.ensures

@@ -1,0 +1,63 @@
+-- What an expression under way stands for.
+use Rattle.std.specs.Prelude.{◌≡◌, ℕ, List, length, Option, Some, None, Result, Ok, Err}
+use Rattle.esm_tree.specs.Syntax as ast
+use Rattle.esm_values.specs.Plans.{Acting}
+use Rattle.std.specs.Arc.{arc_value}
+use Rattle.esm_expr_eval.specs.Terms.{Term, fill}
+use Rattle.esm_expr_eval.specs.Terms.Term.{Val, Waits}
+use Rattle.esm_expr_eval.specs.Ends.{Leads, End}
+use Rattle.esm_values.specs.Code.{Worth, value_of, values_of, numbered}
+use Rattle.esm_expr_eval.specs.Frames.{around, at_focus, AreFrames, IsFocus}
+use Rattle.esm_values.specs.declared.value.Value.{Value}
+use Rattle.esm_expr_eval.specs.declared.frame.Frame.{Frame}
+use Rattle.esm_expr_eval.specs.declared.frame.Focus.{Focus}
+use Rattle.esm_expr_eval.specs.declared.frame.Focus.TheVariants as focus
+use Rattle.esm_expr_eval.specs.declared.machine.ExprFrame.{ExprFrame}
+use Rattle.esm_expr_eval.specs.declared.machine.Move.{Move}
+use Rattle.esm_expr_eval.specs.declared.machine.Move.TheVariants as move
+use Rattle.esm_expr_eval.specs.declared.world.ExprEnd.{ExprEnd}
+use Rattle.esm_expr_eval.specs.declared.world.ExprEnd.TheVariants as ends
+
+module _ {W S : Type 0} (url : W → List ℕ) (acts : Acting W Worth S) where
+  -- the answer is that to which rewriting leads, and behind a call the rest is what remains
+  abbrev pub Comes_to : W → Term Worth → Result Move (ExprEnd S) → W → Term Worth → Type 0
+  Comes_to w t (Ok (move.Value v)) after rest = Leads numbered url acts w t (End.Value (value_of v)) after
+  Comes_to w t (Ok (move.Thrown v)) after rest = Leads numbered url acts w t (End.Thrown (value_of v)) after
+  Comes_to w t (Ok (move.Call f vs)) after rest = Leads numbered url acts w t (End.Call (value_of f) (values_of vs.items) rest) after
+  Comes_to w t (Err (ends.Stopped why)) after rest = Leads numbered url acts w t (End.Stopped why) after
+  Comes_to w t (Err ends.Memory) after rest = Unit {0}
+
+  abbrev pub Moves : List ast.Expr → W → Term Worth → Result Move (ExprEnd S) → W → List Frame → Type 0
+  Moves exprs w t r after frames = Comes_to w t r after (around exprs frames Waits)
+
+abbrev pub Stays : {S : Type 0} → List ast.Expr → Result Move (ExprEnd S) → List Frame → Type 0
+Stays exprs (Ok (move.Value v)) frames = Unit {0}
+Stays exprs (Ok (move.Thrown v)) frames = Unit {0}
+Stays exprs (Ok (move.Call f vs)) frames = AreFrames (length exprs) frames
+Stays exprs (Err end) frames = Unit {0}
+
+-- what remains
+abbrev pub rest_of : ExprFrame → Term Worth
+rest_of s = around (arc_value s.tree).exprs s.frames.items (at_focus (arc_value s.tree).exprs s.focus)
+
+abbrev pub IsSound : ExprFrame → Type 0
+IsSound s = AreFrames (length (arc_value s.tree).exprs) s.frames.items × IsFocus (length (arc_value s.tree).exprs) s.focus
+
+-- a value is given just where a call is under way
+abbrev pub IsGiven : Option Value → Focus → Type 0
+IsGiven None focus.Waits = ⊥
+IsGiven None (focus.Begin id) = Unit {0}
+IsGiven None (focus.Value v) = Unit {0}
+IsGiven (Some v) focus.Waits = Unit {0}
+IsGiven (Some v) (focus.Begin id) = ⊥
+IsGiven (Some v) (focus.Value u) = ⊥
+
+abbrev pub with_given : Option Value → Term Worth → Term Worth
+with_given None t = t
+with_given (Some v) t = fill (Val (value_of v)) t
+
+abbrev pub StaysSound : {S : Type 0} → Result Move (ExprEnd S) → ExprFrame → Type 0
+StaysSound (Ok (move.Value v)) s = Unit {0}
+StaysSound (Ok (move.Thrown v)) s = Unit {0}
+StaysSound (Ok (move.Call f vs)) s = IsSound s × (s.focus ≡ focus.Waits)
+StaysSound (Err end) s = Unit {0}

@@ -1,0 +1,13 @@
+//! Evaluation of expressions over any world.
+#![tactic(auto)]
+
+mod frame;
+pub mod laws;
+mod machine;
+mod nodes;
+mod sums;
+mod world;
+
+pub use frame::Frame;
+pub use machine::{ExprFrame, Move};
+pub use world::{ExprEnd, Out, World};

@@ -1,0 +1,135 @@
+// The evaluation of an expression.
+ghost use Rattle.std.specs.Prelude.{◌≡◌, ◌+◌, ◌<◌, length, IfOk};
+ghost use Rattle.std.specs.Arc.{arc_value};
+ghost use Rattle.esm_tree.specs.Flat.{part};
+ghost use Rattle.esm_expr_eval.specs.Frames.{around, at_focus, AreFrames, IsFocus, frames_work, focus_work, Tells, Keeps};
+ghost use Rattle.esm_expr_eval.specs.Machine.{Moves, Stays, Comes_to, rest_of, IsSound, IsGiven, with_given, StaysSound};
+ghost use Rattle.esm_expr_eval.specs.Terms.{term};
+ghost use Rattle.esm_values.specs.Code.{numbered};
+
+use crate::frame::{Focus, Frame, Next, begin, go_on};
+use crate::world::{ExprEnd, World};
+use esm_base::Memory;
+use esm_tree::{ExprId, Tree};
+use esm_values::Value;
+use std::alloc::Global;
+use std::mem;
+use std::sync::Arc;
+
+/// What an expression goes on to.
+#[derive(Drop)]
+pub enum Move {
+    /// To its value.
+    Value(Value),
+    /// To a throw.
+    Thrown(Value),
+    /// A call of a function with these values; the next advance is given its value.
+    Call(Value, Vec<Value>),
+}
+
+/// An expression under way: what remains of it, with values in place of what was evaluated.
+#[derive(Drop)]
+pub struct ExprFrame {
+    alloc: Global,
+    tree: Arc<Tree>,
+    frames: Vec<Frame>,
+    focus: Focus,
+}
+
+/// One turn: a part begins, or what is around a value goes on.
+fn turn<W: World>(
+    alloc: Global,
+    tree: &Tree,
+    frames: &mut Vec<Frame>,
+    focus: Focus,
+    world: &mut W,
+) -> Result<Next, ExprEnd<W::Stop>>
+    requires focus { IsFocus (length tree.now.exprs) focus }
+    requires frames { AreFrames (length tree.now.exprs) frames.old.items }
+    ensures tells { Tells W.url_of W.acts tree.now.exprs world.old
+        (around tree.now.exprs frames.old.items (at_focus tree.now.exprs focus))
+        result world.new frames.new.items }
+    ensures keeps { Keeps tree.now.exprs (frames_work tree.now.exprs frames.old.items + focus_work
+        tree.now.exprs focus) result frames.new.items }
+{
+    match focus {
+        Focus::Begin(id) => begin(alloc, tree, frames, id, world),
+        Focus::Value(value) => {
+            match frames.pop() {
+                Some(frame) => go_on(alloc, tree, frames, frame, value, world),
+                None => Ok(Next::Done(value)),
+            }
+        }
+        Focus::Waits => Err(ExprEnd::Memory),
+    }
+}
+
+/// Turns up to a value, a throw or a call.
+fn run<W: World>(
+    alloc: Global,
+    tree: &Tree,
+    frames: &mut Vec<Frame>,
+    focus: Focus,
+    world: &mut W,
+) -> Result<Move, ExprEnd<W::Stop>>
+    requires focus { IsFocus (length tree.now.exprs) focus }
+    requires frames { AreFrames (length tree.now.exprs) frames.old.items }
+    ensures moves { Moves W.url_of W.acts tree.now.exprs world.old
+        (around tree.now.exprs frames.old.items (at_focus tree.now.exprs focus))
+        result world.new frames.new.items }
+    ensures stays { Stays tree.now.exprs result frames.new.items }
+{
+    let mut part = focus;
+    loop {
+        match turn(alloc, tree, frames, part, world) {
+            Ok(Next::Focus(next)) => part = next,
+            Ok(Next::Done(value)) => return Ok(Move::Value(value)),
+            Ok(Next::Thrown(error)) => return Ok(Move::Thrown(error)),
+            Ok(Next::Call(callee, values)) => return Ok(Move::Call(callee, values)),
+            Err(end) => return Err(end),
+        }
+    }
+}
+
+impl ExprFrame {
+    /// The evaluation of an expression of a tree.
+    pub fn new(alloc: Global, tree: Arc<Tree>, at: ExprId) -> Result<ExprFrame, Memory>
+        requires { at.0 < length (arc_value tree).exprs }
+        ensures { IfOk result (λ s. IsSound s
+            × (rest_of s ≡ term numbered (part (arc_value tree).exprs at))) }
+    {
+        Ok(ExprFrame {
+            alloc,
+            tree,
+            frames: Vec::new(alloc),
+            focus: Focus::Begin(at),
+        })
+    }
+
+    /// Goes on, with the value of the call that the last advance answered.
+    pub fn advance<W: World>(
+        &mut self,
+        world: &mut W,
+        given: Option<Value>,
+    ) -> Result<Move, ExprEnd<W::Stop>>
+        requires sound { IsSound self.old }
+        requires given { IsGiven given self.old.focus }
+        ensures moves { Comes_to W.url_of W.acts world.old (with_given given (rest_of self.old))
+            result world.new (rest_of self.new) }
+        ensures sound { StaysSound result self.new }
+    {
+        match given {
+            Some(value) => run(
+                self.alloc,
+                &self.tree,
+                &mut self.frames,
+                Focus::Value(value),
+                world,
+            ),
+            None => {
+                let focus = mem::replace(&mut self.focus, Focus::Waits);
+                run(self.alloc, &self.tree, &mut self.frames, focus, world)
+            }
+        }
+    }
+}

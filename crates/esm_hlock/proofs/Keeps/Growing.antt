@@ -1,0 +1,117 @@
+-- What one more entry does to what the seats have seen, and to the makers.
+use Rattle.std.proofs.Common.{◌≡◌, ℕ, ◌+◌, ◌<◌, ◌≢◌, false, List, [], ◌∷◌, ◌++◌, length, drop, sym, refl, ap, ◌∙◌, subst, inl, inr, arith, Option, Some, None, append_assoc, append-nil, eq-eqb, ne_eqb}
+use mathlib.Core.Logic.{dite}
+use mathlib.Core.Option.{some}
+use native.Mathlib.Decide.{ℕ_discrete}
+use lib.ListN.{get_elem?}
+use Rattle.atomic_table.specs.Table.{State}
+use Rattle.esm_hlock.specs.declared.view.View.{View}
+use Rattle.esm_hlock.specs.Makers.{times, is_maker, enlisted, names, Continues, number_after, numbers_after, MayMake, IsStep}
+use Rattle.esm_hlock.specs.Rule.{Kept, total}
+use Rattle.esm_hlock.specs.Views.{HasAllMakers}
+use Rattle.esm_hlock.proofs.Basics.Lists.{drop_all, total_at, total_two}
+use Rattle.esm_hlock.proofs.Basics.Counts.{times_self, times_other, names_at_most_one, names_other, names_own}
+
+module _ {E : Type 0} (maker : E → Option ℕ) where
+  -- a history continues itself
+  pub continues_self : (history : List E) (number : Option ℕ) → Continues maker history history number
+  continues_self history number = ([], sym (append-nil history), λ k e. refl)
+
+  -- an entry of another maker changes nothing of that
+  pub continues_more : (history now seen : List E) (number : Option ℕ) (e : E) → now ≡ history ++ e ∷ [] → ((k : ℕ) → number ≡ Some k → is_maker k (maker e) ≡ false) → Continues maker history seen number → Continues maker now seen number
+  continues_more history now seen number e is other (rest, at, none) = (
+    rest ++ e ∷ [],
+    is ∙ (ap (λ l. l ++ e ∷ []) at ∙ append_assoc seen rest (e ∷ [])),
+    λ k mine. names_other maker k rest e (other k mine) ∙ none k mine,
+  )
+
+  -- a number that a seat with all shares doesn't list is no maker's yet
+  pub is_new : (v : View E) (k : ℕ) → HasAllMakers maker v → v.shares ≡ 1024 → times k v.numbers ≡ 0 → names maker k v.seen ≡ 0
+  is_new v k all whole none = dite (ℕ_discrete (names maker k v.seen) 1)
+      (λ one. let h = all whole k one in absurd (omega arith))
+      (λ ne. let b = names_at_most_one maker k v.seen in omega arith)
+
+  -- where no entry was added, number and numbers are what they were
+  number_nil : (n : Option ℕ) → number_after maker n [] ≡ n
+  number_nil (Some k) = refl
+  number_nil None = refl
+
+  numbers_nil : (n : Option ℕ) (ns : List ℕ) → numbers_after maker n ns [] ≡ ns
+  numbers_nil (Some k) ns = refl
+  numbers_nil None ns = refl
+
+module _ {T E : Type 0} (story : T → List E) (maker : E → Option ℕ) (s : State (Option T) (View E)) (r : Kept story maker s) (id : ℕ) (v : View E) (at : get_elem? s.views id ≡ some v) where
+  -- what the rule asks of a longer history, where the seat has this number and these numbers
+  pub record Grows (now : List E) (number : Option ℕ) (numbers : List ℕ) : Type 0 where
+    pub others : (j : ℕ) (u : View E) → j ≢ id → get_elem? s.views j ≡ some u → Continues maker now u.seen u.number
+    pub own : (k : ℕ) → number ≡ Some k → 0 < times k numbers
+    pub makers : (k : ℕ) → total (λ v. times k v.numbers) s.views + times k numbers ≡ names maker k now + times k v.numbers
+
+  -- no entry was added
+  stays : (now : List E) → now ≡ r.history → Grows now v.number v.numbers
+  stays now is = record {
+    others = λ j u ne there. subst (λ l. Continues maker l u.seen u.number) (sym is) (r.each j u there).begins;
+    own = (r.each id v at).own;
+    makers = λ k. let m = r.makers k in let n : names maker k now ≡ names maker k r.history = ap (names maker k) is in omega arith;
+  }
+
+  -- an entry with no maker
+  unmade : (now : List E) (e : E) → now ≡ r.history ++ e ∷ [] → maker e ≡ None → Grows now v.number v.numbers
+  unmade now e is no_maker = record {
+    others = λ j u ne there. continues_more maker r.history now u.seen u.number e is (λ k _. ap (is_maker k) no_maker) (r.each j u there).begins;
+    own = (r.each id v at).own;
+    makers = λ k. let m = r.makers k in let n : names maker k now ≡ names maker k r.history = ap (names maker k) is ∙ names_other maker k r.history e (ap (is_maker k) no_maker) in omega arith;
+  }
+
+  -- an entry with the seat's own number
+  mine : (now : List E) (e : E) (i : ℕ) → now ≡ r.history ++ e ∷ [] → maker e ≡ Some i → v.number ≡ Some i → Grows now v.number v.numbers
+  mine now e i is made own = let has = (r.each id v at).own i own in record {
+    others = λ j u ne there. let f = r.each j u there in continues_more maker r.history now u.seen u.number e is
+        (λ k other. ap (is_maker k) made ∙ ne_eqb i k
+        (λ same. let twice = total_two (λ v. times i v.numbers) s.views j id u v ne there at in let m = r.makers i in let b = names_at_most_one maker i r.history in
+        let o : 0 < times i u.numbers = subst (λ (x : ℕ). 0 < times x u.numbers) (sym same) (f.own k other) in omega arith))
+        f.begins;
+    own = (r.each id v at).own;
+    makers = λ k. let m = r.makers k in dite (ℕ_discrete i k)
+        (λ same. let n : names maker k now ≡ 1 = ap (names maker k) is ∙ names_own maker k r.history e (ap (is_maker k) made ∙ eq-eqb i k same) in
+        let h : 0 < times k v.numbers = subst (λ (x : ℕ). 0 < times x v.numbers) same has in let b = names_at_most_one maker k r.history in
+        let a = total_at (λ v. times k v.numbers) s.views id v at in omega arith)
+        (λ ne. let n : names maker k now ≡ names maker k r.history = ap (names maker k) is ∙ names_other maker k r.history e (ap (is_maker k) made ∙ ne_eqb i k ne) in omega arith);
+  }
+
+  -- an entry with a number that is new
+  new_one : (now : List E) (e : E) (i : ℕ) → now ≡ r.history ++ e ∷ [] → maker e ≡ Some i → names maker i r.history ≡ 0 → Grows now (Some i) (i ∷ v.numbers)
+  new_one now e i is made new = record {
+    others = λ j u ne there. let f = r.each j u there in continues_more maker r.history now u.seen u.number e is
+        (λ k other. ap (is_maker k) made ∙ ne_eqb i k
+        (λ same. let once = total_at (λ v. times i v.numbers) s.views j u there in let m = r.makers i in
+        let o : 0 < times i u.numbers = subst (λ (x : ℕ). 0 < times x u.numbers) (sym same) (f.own k other) in omega arith))
+        f.begins;
+    own = λ k same. let is : i ≡ k = cc in subst (λ (x : ℕ). 0 < times x (i ∷ v.numbers)) is (let t = times_self i v.numbers in omega arith);
+    makers = λ k. let m = r.makers k in dite (ℕ_discrete i k)
+        (λ same. let n : names maker k now ≡ 1 = ap (names maker k) is ∙ names_own maker k r.history e (ap (is_maker k) made ∙ eq-eqb i k same) in
+        let z : names maker k r.history ≡ 0 = subst (λ (x : ℕ). names maker x r.history ≡ 0) same new in
+        let t : times k (i ∷ v.numbers) ≡ 1 + times k v.numbers = subst (λ (x : ℕ). times x (i ∷ v.numbers) ≡ 1 + times x v.numbers) same (times_self i v.numbers) in omega arith)
+        (λ ne. let n : names maker k now ≡ names maker k r.history = ap (names maker k) is ∙ names_other maker k r.history e (ap (is_maker k) made ∙ ne_eqb i k ne) in
+        let t = times_other k i v.numbers ne in omega arith);
+  }
+
+  -- one entry was added, by who may make it
+  by_one : (now : List E) (e : E) → now ≡ r.history ++ e ∷ [] → (m : Option ℕ) → maker e ≡ m → (n : Option ℕ) → v.number ≡ n → MayMake maker r.history n m
+      → Grows now (number_after maker n (e ∷ [])) (numbers_after maker n v.numbers (e ∷ []))
+  by_one now e is None made (Some i) number may = subst (λ n. Grows now n v.numbers) number (unmade now e is made)
+  by_one now e is None made None number may = subst (λ (p : Option ℕ × List ℕ). Grows now p.0 p.1) (λ k. (sym made k, enlisted (sym made k) v.numbers))
+      (subst (λ n. Grows now n v.numbers) number (unmade now e is made))
+  by_one now e is (Some j) made (Some i) number may = subst (λ n. Grows now n v.numbers) number (mine now e i is (made ∙ ap Some (sym may)) number)
+  by_one now e is (Some j) made None number may = subst (λ (p : Option ℕ × List ℕ). Grows now p.0 p.1) (λ k. (sym made k, enlisted (sym made k) v.numbers)) (new_one now e j is made may)
+
+  -- the seat leaves the history as it was, or one entry longer
+  pub grows : (now : List E) → v.seen ≡ r.history → IsStep maker v.number v.seen now
+      → Grows now (number_after maker v.number (drop (length v.seen) now)) (numbers_after maker v.number v.numbers (drop (length v.seen) now))
+  grows now seen (inl same) = let none_added : drop (length v.seen) now ≡ [] = ap (drop (length v.seen)) (same ∙ sym (append-nil v.seen)) ∙ drop_all v.seen [] in
+      subst (λ (p : Option ℕ × List ℕ). Grows now p.0 p.1)
+      (λ k. ((sym (number_nil maker v.number) ∙ ap (number_after maker v.number) (sym none_added)) k, (sym (numbers_nil maker v.number v.numbers) ∙ ap (numbers_after maker v.number v.numbers) (sym none_added)) k))
+      (stays now (same ∙ seen))
+  grows now seen (inr (e, is, may)) = let added : drop (length v.seen) now ≡ e ∷ [] = ap (drop (length v.seen)) is ∙ drop_all v.seen (e ∷ []) in
+      subst (λ (l : List E). Grows now (number_after maker v.number l) (numbers_after maker v.number v.numbers l)) (sym added)
+      (by_one now e (is ∙ ap (λ l. l ++ e ∷ []) seen) (maker e) refl v.number refl (subst (λ l. MayMake maker l v.number (maker e)) seen may))

@@ -1,0 +1,3 @@
+pub mod TableEntry
+pub mod FetchedUrl
+pub mod Stored

@@ -1,0 +1,4 @@
+pub mod Next
+pub mod Requests
+pub mod Roots
+pub mod Finishing

@@ -1,0 +1,10 @@
+pub mod Lists
+pub mod Places
+pub mod OpenPlaces
+pub mod Stages
+pub mod AddedUrl
+pub mod Queues
+pub mod AddedRequest
+pub mod AnsweredRequest
+pub mod VisitedModule
+pub mod EntryUrl

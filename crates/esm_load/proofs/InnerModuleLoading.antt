@@ -1,0 +1,4 @@
+pub mod Asked
+pub mod EnterFacts
+pub mod EnterSteps
+pub mod Thrown

@@ -1,0 +1,2 @@
+pub mod SharedSetLaw
+pub mod SharedSetEnds

@@ -1,0 +1,4 @@
+pub mod Added
+pub mod Index
+pub mod Inside
+pub mod Search

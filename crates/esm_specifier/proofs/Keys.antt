@@ -1,0 +1,4 @@
+pub mod Prefixes
+pub mod Greatest
+pub mod GreatestLaw
+pub mod Longest
