@@ -263,7 +263,7 @@ module _ {N V W S : Type 0} (E : Evaluation N V W) (acts : Acts N V W S) (L : Is
       let l = L.make_body_promise w x in
       record {
         later = later_on E w (E.make_body_promise w x) v (later_alike E w (E.make_body_promise w x) l) (later_call (E.make_body_promise w x) v x s);
-        now = inr s.starts;
+        now = inr (steady.starts _ _ _ _ p);
         dones = λ y h. inl (sym (ap (λ n. n.done) (s.nodes y ∙ l.nodes y)) ∙ h);
       }
 

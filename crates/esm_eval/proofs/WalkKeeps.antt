@@ -8,7 +8,7 @@ use Rattle.esm_realm.proofs.Urls.{cases, not_both}
 use Rattle.esm_realm.proofs.Lists.{in_first}
 use Rattle.esm_eval.specs.Nodes.{Phase, NotEntered, Evaluating, EvaluatingAsync, Evaluated, was_entered, Node, Acts}
 use Rattle.esm_eval.specs.Evaluation.{Evaluation, IsLawful, IsSteady, IsSteadyCall, IsAlike, phase, waits, add_wait, wait_on}
-use Rattle.esm_eval.specs.Evaluate.{Completion, Ends, Throws, Stops, StartsBody, RunsBody, Leaves, Marks, Walks, EvaluatesRoot, Evaluates, enter, close, keep, fulfill_by}
+use Rattle.esm_eval.specs.Evaluate.{End, Ends, Throws, Stops, StartsBody, RunsBody, Leaves, Marks, Walks, EvaluatesRoot, Evaluates, enter, close, keep, fulfill_by}
 use Rattle.esm_eval.specs.Evaluate.Marks.{done, enters, passes, pass_throws, stays, component, leave_throws, leave_stops}
 use Rattle.esm_eval.specs.Waiting.{IsBetweenCalls}
 use Rattle.esm_eval.proofs.Fits.{Fits, walk_fits}
@@ -43,19 +43,19 @@ module _ {N V W S : Type 0} (E : Evaluation N V W) (acts : Acts N V W S) (L : Is
         known = λ z. ap (λ n. was_entered n.phase) (s.nodes z);
       }
 
-  start_step : (w v : W) (x : N) (opened : List N) → IsSteadyCall E (E.make_body_promise (E.add_stamp w x) x) x v → was_entered (phase E w x) ≡ true → Amid E w opened → Step w v opened
-  start_step w v x opened c b a =
+  start_step : (w v : W) (x : N) (opened : List N) → IsSteadyCall E (E.make_body_promise (E.add_stamp w x) x) x v → E.begun v x ≡ true → was_entered (phase E w x) ≡ true → Amid E w opened → Step w v opened
+  start_step w v x opened c begins b a =
       let s = L.add_stamp w x in
       let p = L.make_body_promise (E.add_stamp w x) x in
       let nodes : (z : N) → E.node v z ≡ E.node w z = λ z. c.nodes z ∙ p.nodes z ∙ s.nodes z in
       record {
-        amid = amid_stamp E w v opened x L (like_nodes E w v nodes) (c.stamps ∙ p.stamps ∙ s.stamps) (λ z h. c.begun z (p.begun z ∙ s.begun z ∙ h)) b (inl c.starts) a;
+        amid = amid_stamp E w v opened x L (like_nodes E w v nodes) (c.stamps ∙ p.stamps ∙ s.stamps) (λ z h. c.begun z (p.begun z ∙ s.begun z ∙ h)) b (inl begins) a;
         known = λ z. ap (λ n. was_entered n.phase) (nodes z);
       }
 
   pub leave_step : {w : W} {x : N} {mid : W} (opened : List N) → Leaves E acts w x Ends mid → was_entered (phase E w x) ≡ true → Amid E w opened → Step w mid opened
   leave_step {w} {x} {mid} opened (Leaves.runs n o (RunsBody.ends p)) b a = run_step w mid x opened (steady.call _ _ _ _ p) a
-  leave_step {w} {x} {mid} opened (Leaves.starts n o (StartsBody.starts p)) b a = start_step w mid x opened (steady.call _ _ _ _ p) b a
+  leave_step {w} {x} {mid} opened (Leaves.starts n o (StartsBody.starts p)) b a = start_step w mid x opened (steady.call _ _ _ _ p) (steady.starts _ _ _ _ p) b a
   leave_step {w} {x} opened (Leaves.waiting {y = y} {ys = ys} n) b a = stamp_step w x y ys opened n b a
 
   pub throw_step : {w : W} {x : N} {v : V} {mid : W} (opened : List N) → Leaves E acts w x (Throws v) mid → Amid E w opened → Amid E mid opened
@@ -65,7 +65,7 @@ module _ {N V W S : Type 0} (E : Evaluation N V W) (acts : Acts N V W S) (L : Is
       no_throw : {w : W} {x : N} {v : V} {mid : W} {C : Type 0} → StartsBody E acts w x (Throws v) mid → C
       no_throw p = elim p [ ]
 
-  abbrev Kept : Completion V S → W → Type 0
+  abbrev Kept : End V S → W → Type 0
   Kept Ends after = Amid E after []
   Kept (Throws v) after = Amid E after []
   Kept (Stops why) after = Unit {0}
@@ -89,7 +89,7 @@ module _ {N V W S : Type 0} (E : Evaluation N V W) (acts : Acts N V W S) (L : Is
     pub has : (w : W) (seen : List N) (x : N) → Known w seen → is_in E.same seen x ≡ true → was_entered (phase E w x) ≡ true
     has w seen x k h = sym (k x) ∙ h
 
-    pub marks_keep : {w : W} {opened : List N} {ms : List (Mark N)} {end : Completion V S} {after : W} (seen : List N) → Marks E acts to w opened ms end after → Fit seen ms → Known w seen → Amid E w opened → Kept end after
+    pub marks_keep : {w : W} {opened : List N} {ms : List (Mark N)} {end : End V S} {after : W} (seen : List N) → Marks E acts to w opened ms end after → Fit seen ms → Known w seen → Amid E w opened → Kept end after
     marks_keep seen done f k a = a
     marks_keep {w} {opened} seen (enters {x = x} p) f k a =
         marks_keep (x ∷ seen) p f.1 (known_enter w seen x k) (amid_enter E L w opened x (not_entered (phase E w x) (sym (k x) ∙ f.0)) a)
@@ -123,7 +123,7 @@ module _ {N V W S : Type 0} (E : Evaluation N V W) (acts : Acts N V W S) (L : Is
   pub keep_keeps : (w : W) (m : N) → Amid E w [] → Amid E (keep E w m) []
   keep_keeps w m a = amid_like E w (keep E w m) [] (keep_like w m) (keep_grown w m) a
 
-  walks_keep : {w : W} {m : N} {end : Completion V S} {after : W} → Walks E acts w m (keep E w m) end after → Amid E w [] → Kept end after
+  walks_keep : {w : W} {m : N} {end : End V S} {after : W} → Walks E acts w m (keep E w m) end after → Amid E w [] → Kept end after
   walks_keep {w} {m} p a = marks_keep (E.targets w) p.closed p.leads
       (subst (λ ms. Fit (E.targets w) p.closed ms) (append-nil p.marks) (walk_fits E.same L.own L.equal (E.targets w) p.walk.1))
       (λ y. p.closed_is y ∙ sym (ap was_entered ((keep_like w m).phases y))) (keep_keeps w m a)

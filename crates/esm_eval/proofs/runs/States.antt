@@ -8,9 +8,9 @@ use Rattle.esm_eval.specs.SmallWorld.{Name, A, B, C, D, Promise, Small, opening,
 abbrev pub nd : Phase → Option Name → Option Name → Option ℕ → Bool → List Name → List Name → Node Name Name
 nd p e r k d ws us = record { phase = p; error = e; cycle_root = r; promise = k; done = d; waits = ws; waiters = us }
 
--- a world: the nodes of A to D, the stamps, the promises, the log
-abbrev pub at : Node Name Name → Node Name Name → Node Name Name → Node Name Name → List Name → List Promise → List Name → Small
-at a b c d stamps promises log = record { nodes = record { a = a; b = b; c = c; d = d }; stamps = stamps; promises = promises; log = log }
+-- a world: the nodes of A to D, the stamps, the promises, those settled, the log
+abbrev pub at : Node Name Name → Node Name Name → Node Name Name → Node Name Name → List Name → List Promise → List ℕ → List Name → Small
+at a b c d stamps promises settled log = record { nodes = record { a = a; b = b; c = c; d = d }; stamps = stamps; promises = promises; settled = settled; log = log }
 
 pub async : EvaluatingAsync ≢ Evaluated
 async e = cc
