@@ -6,15 +6,15 @@ use Rattle.esm_realm.specs.Walk.{is_in}
 use Rattle.esm_realm.proofs.Urls.{not_true, not_both}
 use Rattle.esm_realm.proofs.Lists as lists
 use Rattle.esm_realm.proofs.Lists.{either}
-use Rattle.esm_eval.specs.Nodes.{Phase, NotBegun, Evaluating, EvaluatingAsync, Evaluated, has_begun}
+use Rattle.esm_eval.specs.Nodes.{Phase, NotEntered, Evaluating, EvaluatingAsync, Evaluated, was_entered}
 use Rattle.esm_eval.specs.Evaluation.{Evaluation, IsLawful, IsAlike, phase, waits, waiters, is_done, is_stamped, root_of}
 use Rattle.esm_eval.specs.Waiting.{HasOpenWait, IsBetweenCalls}
 
-pub not_begun : (p : Phase) → has_begun p ≡ false → p ≡ NotBegun
-not_begun NotBegun h = refl
-not_begun Evaluating h = cc
-not_begun EvaluatingAsync h = cc
-not_begun Evaluated h = cc
+pub not_entered : (p : Phase) → was_entered p ≡ false → p ≡ NotEntered
+not_entered NotEntered h = refl
+not_entered Evaluating h = cc
+not_entered EvaluatingAsync h = cc
+not_entered Evaluated h = cc
 
 pub some_is : {A : Type 0} {x y : A} → Some x ≡ Some y → x ≡ y
 some_is h = cc
@@ -45,10 +45,10 @@ module _ {N V W : Type 0} (E : Evaluation N V W) where
   -- amid a walk with these modules on the stack
   pub record Amid (w : W) (opened : List N) : Type 0 where
     pub open_is : (y : N) → phase E w y ≡ Evaluating → In opened y
-    pub entered : (y : N) → In opened y → has_begun (phase E w y) ≡ true
-    pub unstamped : (y : N) → phase E w y ≡ NotBegun → is_stamped E w y ≡ false
-    pub new : (y : N) → phase E w y ≡ NotBegun → is_done E w y ≡ false
-    pub free : (y : N) → phase E w y ≡ NotBegun → waits E w y ≡ []
+    pub entered : (y : N) → In opened y → was_entered (phase E w y) ≡ true
+    pub unstamped : (y : N) → phase E w y ≡ NotEntered → is_stamped E w y ≡ false
+    pub new : (y : N) → phase E w y ≡ NotEntered → is_done E w y ≡ false
+    pub free : (y : N) → phase E w y ≡ NotEntered → waits E w y ≡ []
     pub undone : (y : N) → phase E w y ≡ Evaluating → is_done E w y ≡ false
     pub shut : (y z : N) → In opened y → In (waits E w y) z → is_done E w z ≡ false
     pub moves : (y : N) → In opened y → is_stamped E w y ≡ true → (E.begun w y ≡ true) ⊎ HasWait w y
@@ -126,7 +126,7 @@ module _ {N V W : Type 0} (E : Evaluation N V W) where
   pub amid_like : (w v : W) (opened : List N) → IsLike w v → HasGrown w v → Amid w opened → Amid v opened
   amid_like w v opened l g a = record {
     open_is = λ y h. a.open_is y (sym (l.phases y) ∙ h);
-    entered = λ y h. ap has_begun (l.phases y) ∙ a.entered y h;
+    entered = λ y h. ap was_entered (l.phases y) ∙ a.entered y h;
     unstamped = λ y h. stamped_like w v g.stamps y ∙ a.unstamped y (sym (l.phases y) ∙ h);
     new = λ y h. l.dones y ∙ a.new y (sym (l.phases y) ∙ h);
     free = λ y h. l.all_waits y ∙ a.free y (sym (l.phases y) ∙ h);
@@ -143,11 +143,11 @@ module _ {N V W : Type 0} (E : Evaluation N V W) where
       moves y (inr h) = inr (h.0, in_like _ (sym (l.all_waits y)) h.1)
 
   -- x gets an order, and its body begins or it waits
-  pub amid_stamp : (w v : W) (opened : List N) (x : N) → IsLawful E → IsLike w v → E.stamps v ≡ E.stamps w ++ x ∷ [] → ((y : N) → E.begun w y ≡ true → E.begun v y ≡ true) → has_begun (phase E w x) ≡ true → (E.begun v x ≡ true) ⊎ HasWait v x → Amid w opened → Amid v opened
+  pub amid_stamp : (w v : W) (opened : List N) (x : N) → IsLawful E → IsLike w v → E.stamps v ≡ E.stamps w ++ x ∷ [] → ((y : N) → E.begun w y ≡ true → E.begun v y ≡ true) → was_entered (phase E w x) ≡ true → (E.begun v x ≡ true) ⊎ HasWait v x → Amid w opened → Amid v opened
   amid_stamp w v opened x L l s g b m a = record {
     open_is = λ y h. a.open_is y (sym (l.phases y) ∙ h);
-    entered = λ y h. ap has_begun (l.phases y) ∙ a.entered y h;
-    unstamped = λ y h. not_true (is_stamped E v y) (λ k. either (split y k) (λ q. not_both (is_stamped E w y) q (a.unstamped y (sym (l.phases y) ∙ h))) (λ q. not_both (has_begun (phase E w x)) b (ap (λ z. has_begun (phase E w z)) (sym q) ∙ ap has_begun (sym (l.phases y) ∙ h))));
+    entered = λ y h. ap was_entered (l.phases y) ∙ a.entered y h;
+    unstamped = λ y h. not_true (is_stamped E v y) (λ k. either (split y k) (λ q. not_both (is_stamped E w y) q (a.unstamped y (sym (l.phases y) ∙ h))) (λ q. not_both (was_entered (phase E w x)) b (ap (λ z. was_entered (phase E w z)) (sym q) ∙ ap was_entered (sym (l.phases y) ∙ h))));
     new = λ y h. l.dones y ∙ a.new y (sym (l.phases y) ∙ h);
     free = λ y h. l.all_waits y ∙ a.free y (sym (l.phases y) ∙ h);
     undone = λ y h. l.dones y ∙ a.undone y (sym (l.phases y) ∙ h);

@@ -5,7 +5,7 @@ use Rattle.std.specs.Option.{unwrap_or}
 use Rattle.esm_realm.specs.Walk.{is_in}
 use Rattle.esm_realm.proofs.Urls.{cases, not_true, not_both}
 use Rattle.esm_realm.proofs.Lists.{either, in_first, in_later, in_cons}
-use Rattle.esm_eval.specs.Nodes.{NotBegun, EvaluatingAsync, Evaluated, has_begun, Node, Acts}
+use Rattle.esm_eval.specs.Nodes.{NotEntered, EvaluatingAsync, Evaluated, was_entered, Node, Acts}
 use Rattle.esm_eval.specs.Evaluation.{Evaluation, IsLawful, IsSteady, IsSteadyCall, IsAlike, phase, waits, waiters, is_done, is_stamped, root_of, fulfill_kept, reject_kept}
 use Rattle.esm_eval.specs.Evaluate.{Ends, Throws, StartsBody, RunsBody}
 use Rattle.esm_eval.specs.BodyEnd.{IsReady, AreOver, ReadyAmong, Rejects, RejectsAll, GoOn, Fulfills, finish, refuse}
@@ -23,13 +23,13 @@ module _ {N V W : Type 0} (E : Evaluation N V W) where
     pub errors : (y : N) → (E.node v y).error ≡ None → (E.node w y).error ≡ None
     pub ends : (y : N) → is_done E v y ≡ true → (is_done E w y ≡ true) ⊎ (phase E v y ≡ Evaluated)
     pub grown : HasGrown E w v
-    pub awaits : (y : N) → has_begun (phase E w y) ≡ true → E.awaits v y ≡ E.awaits w y
+    pub awaits : (y : N) → was_entered (phase E w y) ≡ true → E.awaits v y ≡ E.awaits w y
 
   stays_over : {w v : W} → Later w v → (y : N) → phase E w y ≡ Evaluated → phase E v y ≡ Evaluated
   stays_over l y h = either (l.phases y) (λ e. e ∙ h) (λ e. e)
 
-  stays_begun : {w v : W} → Later w v → (y : N) → has_begun (phase E w y) ≡ true → has_begun (phase E v y) ≡ true
-  stays_begun l y h = either (l.phases y) (λ e. ap has_begun e ∙ h) (λ e. ap has_begun e)
+  stays_entered : {w v : W} → Later w v → (y : N) → was_entered (phase E w y) ≡ true → was_entered (phase E v y) ≡ true
+  stays_entered l y h = either (l.phases y) (λ e. ap was_entered e ∙ h) (λ e. ap was_entered e)
 
   pub later_on : (u v w : W) → Later u v → Later v w → Later u w
   later_on u v w k l = record {
@@ -40,10 +40,10 @@ module _ {N V W : Type 0} (E : Evaluation N V W) where
     errors = λ y h. k.errors y (l.errors y h);
     ends = λ y h. either (l.ends y h) (λ d. either (k.ends y d) inl (λ e. inr (stays_over l y e))) inr;
     grown = record { stamps = l.grown.stamps ∙ k.grown.stamps; begun = λ y h. l.grown.begun y (k.grown.begun y h) };
-    awaits = λ y h. l.awaits y (stays_begun k y h) ∙ k.awaits y h;
+    awaits = λ y h. l.awaits y (stays_entered k y h) ∙ k.awaits y h;
   }
 
-  later_nodes : (w v : W) → ((y : N) → E.node v y ≡ E.node w y) → HasGrown E w v → ((y : N) → has_begun (phase E w y) ≡ true → E.awaits v y ≡ E.awaits w y) → Later w v
+  later_nodes : (w v : W) → ((y : N) → E.node v y ≡ E.node w y) → HasGrown E w v → ((y : N) → was_entered (phase E w y) ≡ true → E.awaits v y ≡ E.awaits w y) → Later w v
   later_nodes w v e g a = record {
     phases = λ y. inl (ap (λ n. n.phase) (e y));
     all_waits = λ y. ap (λ n. n.waits) (e y);
@@ -183,7 +183,7 @@ module _ {N V W : Type 0} (E : Evaluation N V W) where
         stamps : (x : N) → is_stamped E v x ≡ is_stamped E w x
         stamps x = ap (λ xs. is_in E.same xs x) l.grown.stamps
 
-        new : (x : N) → phase E v x ≡ NotBegun → phase E w x ≡ NotBegun
+        new : (x : N) → phase E v x ≡ NotEntered → phase E w x ≡ NotEntered
         new x h = either (l.phases x) (λ e. sym e ∙ h) (λ e. let k = sym e ∙ h in cc)
 
         async : (x : N) → phase E v x ≡ EvaluatingAsync → phase E w x ≡ EvaluatingAsync
@@ -218,8 +218,8 @@ module _ {N V W : Type 0} (E : Evaluation N V W) where
     ready_among (ReadyAmong.kept {x = x} {xs = zs} {ys = ys} r p) y h s = either (in_cons E.same L.own L.equal x zs y h) (λ e. subst (λ z. In E (x ∷ ys) z) (sym e) (in_first E.same L.own L.equal x ys)) (λ k. in_later E.same L.own L.equal x ys y (ready_among p y k s))
     ready_among {w} (ReadyAmong.dropped {x = x} {xs = zs} n p) y h s = either (in_cons E.same L.own L.equal x zs y h) (λ e. absurd (n (subst (λ z. IsReady E w z) e s))) (λ k. ready_among p y k s)
 
-    pub ready_begun : {w : W} {y : N} → IsReady E w y → has_begun (phase E w y) ≡ true
-    ready_begun (IsReady.ready s p b f r) = ap has_begun p
+    pub ready_entered : {w : W} {y : N} → IsReady E w y → was_entered (phase E w y) ≡ true
+    ready_entered (IsReady.ready s p b f r) = ap was_entered p
 
     open_or_over : (v : W) (ys : List N) → ((y : N) × In E ys y × (is_done E v y ≡ false)) ⊎ ((y : N) → In E ys y → is_done E v y ≡ true)
     open_or_over v [] = inr (λ y h. cc)
@@ -241,10 +241,10 @@ module _ {N V W : Type 0} (E : Evaluation N V W) where
       pub now : (phase E u x ≡ Evaluated) ⊎ (E.begun u x ≡ true)
       pub dones : (y : N) → is_done E u y ≡ true → (is_done E w y ≡ true) ⊎ (((y ≡ x) × (E.awaits w y ≡ false)) ⊎ AllOver w u y)
 
-    abbrev pub HaveBegun : W → List N → Type 0
-    HaveBegun w xs = (x : N) → In E xs x → has_begun (phase E w x) ≡ true
+    abbrev pub WereEntered : W → List N → Type 0
+    WereEntered w xs = (x : N) → In E xs x → was_entered (phase E w x) ≡ true
 
-    went_on : (w u v : W) (x : N) (xs : List N) → HaveBegun w xs → One w u x → Went u v xs → Went w v (x ∷ xs)
+    went_on : (w u v : W) (x : N) (xs : List N) → WereEntered w xs → One w u x → Went u v xs → Went w v (x ∷ xs)
     went_on w u v x xs b o q = record {
       later = later_on w u v o.later q.later;
       now = λ z h. either (in_cons E.same L.own L.equal x xs z h) (λ e. subst (λ t. (phase E v t ≡ Evaluated) ⊎ (E.begun v t ≡ true)) (sym e) (either o.now (λ k. inl (stays_over q.later x k)) (λ k. inr (q.later.grown.begun x k)))) (q.now z);
@@ -263,7 +263,7 @@ module _ {N V W S : Type 0} (E : Evaluation N V W) (acts : Acts N V W S) (L : Is
       let l = L.make_body_promise w x in
       record {
         later = later_on E w (E.make_body_promise w x) v (later_alike E w (E.make_body_promise w x) l) (later_call (E.make_body_promise w x) v x s);
-        now = inr s.starts;
+        now = inr (steady.starts _ _ _ _ p);
         dones = λ y h. inl (sym (ap (λ n. n.done) (s.nodes y ∙ l.nodes y)) ∙ h);
       }
 
@@ -288,25 +288,25 @@ module _ {N V W S : Type 0} (E : Evaluation N V W) (acts : Acts N V W S) (L : Is
         dones = λ y h. either (q.dones y h) (λ d. inl (sym (ap (λ n. n.done) (s.nodes y)) ∙ d)) (λ o. inr (inr (over_from E late l y o)));
       }
 
-  rest_begun : (w u : W) (x : N) (xs : List N) → Later E w u → HaveBegun E L w (x ∷ xs) → HaveBegun E L u xs
-  rest_begun w u x xs l b y h = stays_begun E l y (b y (in_later E.same L.own L.equal x xs y h))
+  rest_entered : (w u : W) (x : N) (xs : List N) → Later E w u → WereEntered E L w (x ∷ xs) → WereEntered E L u xs
+  rest_entered w u x xs l b y h = stays_entered E l y (b y (in_later E.same L.own L.equal x xs y h))
 
-  tail_begun : (w : W) (x : N) (xs : List N) → HaveBegun E L w (x ∷ xs) → HaveBegun E L w xs
-  tail_begun w x xs b y h = b y (in_later E.same L.own L.equal x xs y h)
+  tail_entered : (w : W) (x : N) (xs : List N) → WereEntered E L w (x ∷ xs) → WereEntered E L w xs
+  tail_entered w x xs b y h = b y (in_later E.same L.own L.equal x xs y h)
 
-  pub go_on : {w : W} {xs : List N} {v : W} → GoOn E acts w xs (Ok tt) v → HaveBegun E L w xs → Went E L w v xs
+  pub go_on : {w : W} {xs : List N} {v : W} → GoOn E acts w xs (Ok tt) v → WereEntered E L w xs → Went E L w v xs
   go_on {w} GoOn.none b = record { later = later_same E w; now = λ x h. cc; dones = λ y h. inl h }
   go_on {w} {v = v} (GoOn.skips {x = x} {xs = xs} h p) b =
-      went_on E L w w v x xs (tail_begun w x xs b) (record { later = later_same E w; now = inl h; dones = λ y k. inl k }) (go_on p (tail_begun w x xs b))
+      went_on E L w w v x xs (tail_entered w x xs b) (record { later = later_same E w; now = inl h; dones = λ y k. inl k }) (go_on p (tail_entered w x xs b))
   go_on {w} {v = v} (GoOn.starts {mid = mid} {x = x} {xs = xs} n o s p) b =
       let one = one_start w mid x s in
-      went_on E L w mid v x xs (tail_begun w x xs b) one (go_on p (rest_begun w mid x xs one.later b))
+      went_on E L w mid v x xs (tail_entered w x xs b) one (go_on p (rest_entered w mid x xs one.later b))
   go_on {w} {v = v} (GoOn.runs {mid = mid} {x = x} {xs = xs} n o s p) b =
       let one = one_run w mid x o s in
-      went_on E L w (finish E mid x) v x xs (tail_begun w x xs b) one (go_on p (rest_begun w (finish E mid x) x xs one.later b))
+      went_on E L w (finish E mid x) v x xs (tail_entered w x xs b) one (go_on p (rest_entered w (finish E mid x) x xs one.later b))
   go_on {w} {v = v} (GoOn.throws {mid = mid} {late = late} {x = x} {xs = xs} u n o s r p) b =
       let one = one_throw w mid late x u s r in
-      went_on E L w late v x xs (tail_begun w x xs b) one (go_on p (rest_begun w late x xs one.later b))
+      went_on E L w late v x xs (tail_entered w x xs b) one (go_on p (rest_entered w late x xs one.later b))
 
   module _ (w v : W) (m : N) (b : IsBetweenCalls E w) (xs : List N) (r : ReadyAmong E (finish E w m) (E.stamps (finish E w m)) xs) (p : GoOn E acts (finish E w m) xs (Ok tt) v) where
     abbrev mid : W
@@ -316,7 +316,7 @@ module _ {N V W S : Type 0} (E : Evaluation N V W) (acts : Acts N V W S) (L : Is
     first = finished E L w m
 
     went : Went E L mid v xs
-    went = go_on p (λ x h. ready_begun E L (among_ready E L r x h))
+    went = go_on p (λ x h. ready_entered E L (among_ready E L r x h))
 
     whole : Later E w v
     whole = later_on E w mid v first.later went.later

@@ -7,14 +7,14 @@ use Rattle.esm_realm.specs.Components.{opened_from}
 use Rattle.esm_realm.proofs.Urls.{not_true, not_both}
 use Rattle.esm_realm.proofs.Lists as lists
 use Rattle.esm_realm.proofs.Lists.{either, in_first, in_later, in_cons}
-use Rattle.esm_eval.specs.Nodes.{Phase, NotBegun, Evaluating, EvaluatingAsync, Evaluated, has_begun, Node, Acts}
+use Rattle.esm_eval.specs.Nodes.{Phase, NotEntered, Evaluating, EvaluatingAsync, Evaluated, was_entered, Node, Acts}
 use Rattle.esm_eval.specs.Evaluation.{Evaluation, IsLawful, IsSteady, IsAlike, phase, is_stamped, add_wait, wait_on, put_wait}
 use Rattle.esm_eval.specs.Evaluate.{End, Ends, Throws, Stops, StartsBody, RunsBody, Leaves, Marks, Walks, EvaluatesRoot, Evaluates, enter, close, fail, keep, fulfill_by, closed_phase}
 use Rattle.esm_eval.specs.Evaluate.Marks.{done, enters, passes, pass_throws, stays, component, leave_throws, leave_stops}
-use Rattle.esm_eval.specs.Begins.{AreDistinct, First, BeginsOne, IsUnbegun}
+use Rattle.esm_eval.specs.Begins.{EachOnce, First, BeginsOne, HaveBegunOnce}
 use Rattle.esm_eval.proofs.Fits.{Fits, walk_fits}
 use Rattle.esm_eval.proofs.Paths.{Paths, walk_path}
-use Rattle.esm_eval.proofs.Amid.{In, Amid, of_between, not_begun}
+use Rattle.esm_eval.proofs.Amid.{In, Amid, of_between, not_entered}
 use Rattle.esm_eval.proofs.Puts.{put_at, amid_enter, amid_close, close_known, amid_pass}
 use Rattle.esm_eval.proofs.WalkKeeps.{Known, leave_step, known_enter, known_step, keep_like, keep_keeps, evaluates_keep}
 
@@ -53,41 +53,41 @@ module _ {N V W : Type 0} (E : Evaluation N V W) (L : IsLawful E) where
   quiet_wait w x (Some y) = quiet_on w (put_wait E w x y) (add_wait E w x (Some y)) (quiet_put w x _) (quiet_put (put_wait E w x y) y _)
 
   -- where x has begun it still has
-  fail_back : (v : V) (ys : List N) (w : W) (z : N) → phase E (fail E w v ys) z ≡ NotBegun → phase E w z ≡ NotBegun
+  fail_back : (v : V) (ys : List N) (w : W) (z : N) → phase E (fail E w v ys) z ≡ NotEntered → phase E w z ≡ NotEntered
   fail_back v [] w z h = h
   fail_back v (y ∷ ys) w z h =
       let n : Node N V = record (E.node w y) { phase = Evaluated; error = Some v } in
-      let k : phase E (E.put w y n) z ≡ NotBegun = fail_back v ys (E.put w y n) z h in
+      let k : phase E (E.put w y n) z ≡ NotEntered = fail_back v ys (E.put w y n) z h in
       either (put_at E L w y n z) (λ q. let e = sym (ap (λ m. m.phase) q.1) ∙ k in cc) (λ q. sym (ap (λ m. m.phase) q.1) ∙ k)
 
   -- amid a walk: the modules of the path, which were entered and aren't left, have no order, and their bodies haven't begun
   pub record Calm (w : W) (path : List N) : Type 0 where
-    pub unbegun : (y : N) → phase E w y ≡ NotBegun → E.begun w y ≡ false
-    pub unstamped : (y : N) → phase E w y ≡ NotBegun → is_stamped E w y ≡ false
+    pub unbegun : (y : N) → phase E w y ≡ NotEntered → E.begun w y ≡ false
+    pub unstamped : (y : N) → phase E w y ≡ NotEntered → is_stamped E w y ≡ false
     pub still : (y : N) → In E path y → (E.begun w y ≡ false) × (is_stamped E w y ≡ false)
-    pub distinct : AreDistinct E.same (E.stamps w)
+    pub distinct : EachOnce E.same (E.stamps w)
 
   stamped_quiet : (w v : W) → E.stamps v ≡ E.stamps w → (y : N) → is_stamped E v y ≡ is_stamped E w y
   stamped_quiet w v e y = ap (λ xs. is_in E.same xs y) e
 
-  calm_on : (w v : W) (path : List N) → IsQuiet w v → ((y : N) → phase E v y ≡ NotBegun → phase E w y ≡ NotBegun) → Calm w path → Calm v path
+  calm_on : (w v : W) (path : List N) → IsQuiet w v → ((y : N) → phase E v y ≡ NotEntered → phase E w y ≡ NotEntered) → Calm w path → Calm v path
   calm_on w v path q back c = record {
     unbegun = λ y h. q.begun y ∙ c.unbegun y (back y h);
     unstamped = λ y h. stamped_quiet w v q.stamps y ∙ c.unstamped y (back y h);
     still = λ y h. let k = c.still y h in (q.begun y ∙ k.0, stamped_quiet w v q.stamps y ∙ k.1);
-    distinct = subst (λ xs. AreDistinct E.same xs) (sym q.stamps) c.distinct;
+    distinct = subst (λ xs. EachOnce E.same xs) (sym q.stamps) c.distinct;
   }
 
-  back_of : (w v : W) → ((y : N) → has_begun (phase E v y) ≡ has_begun (phase E w y)) → (y : N) → phase E v y ≡ NotBegun → phase E w y ≡ NotBegun
-  back_of w v e y h = not_begun (phase E w y) (sym (e y) ∙ ap has_begun h)
+  back_of : (w v : W) → ((y : N) → was_entered (phase E v y) ≡ was_entered (phase E w y)) → (y : N) → phase E v y ≡ NotEntered → phase E w y ≡ NotEntered
+  back_of w v e y h = not_entered (phase E w y) (sym (e y) ∙ ap was_entered h)
 
-  calm_enter : (w : W) (path : List N) (x : N) → phase E w x ≡ NotBegun → Calm w path → Calm (enter E w x) (x ∷ path)
+  calm_enter : (w : W) (path : List N) (x : N) → phase E w x ≡ NotEntered → Calm w path → Calm (enter E w x) (x ∷ path)
   calm_enter w path x f c = record {
     unbegun = λ y h. q.begun y ∙ c.unbegun y (back y h);
     unstamped = λ y h. stamped_quiet w (enter E w x) q.stamps y ∙ c.unstamped y (back y h);
     still = λ y h. let k = either (in_cons E.same L.own L.equal x path y h) (λ e. subst (λ z. (E.begun w z ≡ false) × (is_stamped E w z ≡ false)) (sym e) (c.unbegun x f, c.unstamped x f)) (c.still y) in
         (q.begun y ∙ k.0, stamped_quiet w (enter E w x) q.stamps y ∙ k.1);
-    distinct = subst (λ xs. AreDistinct E.same xs) (sym q.stamps) c.distinct;
+    distinct = subst (λ xs. EachOnce E.same xs) (sym q.stamps) c.distinct;
   }
     where
       n : Node N V
@@ -96,10 +96,10 @@ module _ {N V W : Type 0} (E : Evaluation N V W) (L : IsLawful E) where
       q : IsQuiet w (enter E w x)
       q = quiet_put w x n
 
-      back : (y : N) → phase E (enter E w x) y ≡ NotBegun → phase E w y ≡ NotBegun
+      back : (y : N) → phase E (enter E w x) y ≡ NotEntered → phase E w y ≡ NotEntered
       back y h = either (put_at E L w x n y) (λ q. let e = sym (ap (λ m. m.phase) q.1) ∙ h in cc) (λ q. sym (ap (λ m. m.phase) q.1) ∙ h)
 
-  snoc_distinct : (xs : List N) (x : N) → is_in E.same xs x ≡ false → AreDistinct E.same xs → AreDistinct E.same (xs ++ x ∷ [])
+  snoc_distinct : (xs : List N) (x : N) → is_in E.same xs x ≡ false → EachOnce E.same xs → EachOnce E.same (xs ++ x ∷ [])
   snoc_distinct [] x h d = (refl, tt)
   snoc_distinct (y ∷ ys) x h d = (lists.out_both E.same L.own L.equal ys (x ∷ []) y d.0 one, snoc_distinct ys x (not_true (is_in E.same ys x) (λ k. not_both (is_in E.same (y ∷ ys) x) (in_later E.same L.own L.equal y ys x k) h)) d.1)
     where
@@ -111,9 +111,9 @@ module _ {N V W : Type 0} (E : Evaluation N V W) (L : IsLawful E) where
     pub nodes : (y : N) → E.node v y ≡ E.node w y
     pub begun : (y : N) → E.begun v y ≡ true → (E.begun w y ≡ true) ⊎ (y ≡ x)
     pub stamped : (y : N) → is_stamped E v y ≡ true → (is_stamped E w y ≡ true) ⊎ (y ≡ x)
-    pub distinct : AreDistinct E.same (E.stamps v)
+    pub distinct : EachOnce E.same (E.stamps v)
 
-  pub calm_left : (w v : W) (x : N) (rest : List N) → has_begun (phase E w x) ≡ true → is_in E.same rest x ≡ false → LeftBy w v x → Calm w (x ∷ rest) → Calm v rest
+  pub calm_left : (w v : W) (x : N) (rest : List N) → was_entered (phase E w x) ≡ true → is_in E.same rest x ≡ false → LeftBy w v x → Calm w (x ∷ rest) → Calm v rest
   calm_left w v x rest b out l c = record {
     unbegun = λ y h. not_true (E.begun v y) (λ k. either (l.begun y k) (λ i. not_both (E.begun w y) i (c.unbegun y (back y h))) (λ e. other y h e));
     unstamped = λ y h. not_true (is_stamped E v y) (λ k. either (l.stamped y k) (λ i. not_both (is_stamped E w y) i (c.unstamped y (back y h))) (λ e. other y h e));
@@ -124,11 +124,11 @@ module _ {N V W : Type 0} (E : Evaluation N V W) (L : IsLawful E) where
     distinct = l.distinct;
   }
     where
-      back : (y : N) → phase E v y ≡ NotBegun → phase E w y ≡ NotBegun
+      back : (y : N) → phase E v y ≡ NotEntered → phase E w y ≡ NotEntered
       back y h = sym (ap (λ m. m.phase) (l.nodes y)) ∙ h
 
-      other : (y : N) → phase E v y ≡ NotBegun → y ≡ x → ⊥
-      other y h e = not_both (has_begun (phase E w x)) b (ap (λ z. has_begun (phase E w z)) (sym e) ∙ ap has_begun (back y h))
+      other : (y : N) → phase E v y ≡ NotEntered → y ≡ x → ⊥
+      other y h e = not_both (was_entered (phase E w x)) b (ap (λ z. was_entered (phase E w z)) (sym e) ∙ ap was_entered (back y h))
 
       apart : (y : N) → In E rest y → y ≡ x → ⊥
       apart y h e = not_both (is_in E.same rest x) (subst (λ z. In E rest z) e h) out
@@ -183,22 +183,22 @@ module _ {N V W S : Type 0} (E : Evaluation N V W) (acts : Acts N V W S) (L : Is
   start_of {w} {x} {mid = mid} (StartsBody.starts p) = let s = steady.call _ _ _ _ p in behind_promise w mid x (record { nodes = s.nodes; stamps = s.stamps; begun = one.call _ _ _ _ p })
   start_of {w} {x} {mid = mid} (StartsBody.stops why p) = let s = steady.call _ _ _ _ p in behind_promise w mid x (record { nodes = s.nodes; stamps = s.stamps; begun = one.call _ _ _ _ p })
 
-  left_stamp : (w : W) (x : N) → is_stamped E w x ≡ false → AreDistinct E.same (E.stamps w) → LeftBy E L w (E.add_stamp w x) x
+  left_stamp : (w : W) (x : N) → is_stamped E w x ≡ false → EachOnce E.same (E.stamps w) → LeftBy E L w (E.add_stamp w x) x
   left_stamp w x u d =
       let s = L.add_stamp w x in
       record {
         nodes = s.nodes;
         begun = λ y h. inl (sym (s.begun y) ∙ h);
         stamped = λ y h. either (lists.in_split E.same L.own L.equal (E.stamps w) (x ∷ []) y (subst (λ xs. is_in E.same xs y ≡ true) s.stamps h)) inl (λ k. either (in_cons E.same L.own L.equal x [] y k) inr (λ z. cc));
-        distinct = subst (λ xs. AreDistinct E.same xs) (sym s.stamps) (snoc_distinct E L (E.stamps w) x u d);
+        distinct = subst (λ xs. EachOnce E.same xs) (sym s.stamps) (snoc_distinct E L (E.stamps w) x u d);
       }
 
-  left_call : (w v : W) (x : N) → CallOf w v x → AreDistinct E.same (E.stamps w) → LeftBy E L w v x
+  left_call : (w v : W) (x : N) → CallOf w v x → EachOnce E.same (E.stamps w) → LeftBy E L w v x
   left_call w v x c d = record {
     nodes = c.nodes;
     begun = c.begun;
     stamped = λ y h. inl (sym (stamped_quiet E L w v c.stamps y) ∙ h);
-    distinct = subst (λ xs. AreDistinct E.same xs) (sym c.stamps) d;
+    distinct = subst (λ xs. EachOnce E.same xs) (sym c.stamps) d;
   }
 
   left_on : (u v w : W) (x : N) → LeftBy E L u v x → LeftBy E L v w x → LeftBy E L u w x
@@ -209,7 +209,7 @@ module _ {N V W S : Type 0} (E : Evaluation N V W) (acts : Acts N V W S) (L : Is
     distinct = l.distinct;
   }
 
-  left_by : {w : W} {x : N} {end : End V S} {mid : W} → Leaves E acts w x end mid → is_stamped E w x ≡ false → AreDistinct E.same (E.stamps w) → LeftBy E L w mid x
+  left_by : {w : W} {x : N} {end : End V S} {mid : W} → Leaves E acts w x end mid → is_stamped E w x ≡ false → EachOnce E.same (E.stamps w) → LeftBy E L w mid x
   left_by {w} {x} {mid = mid} (Leaves.runs n o r) u d = left_call w mid x (run_of r) d
   left_by {w} {x} {mid = mid} (Leaves.starts n o r) u d =
       let s = left_stamp w x u d in
@@ -228,14 +228,14 @@ module _ {N V W S : Type 0} (E : Evaluation N V W) (acts : Acts N V W S) (L : Is
     abbrev Path : List N → List (Mark N) → Type 0
     Path = Paths E.same L.own L.equal to
 
-    begins : (w : W) (seen : List N) (x : N) → Known E acts L steady w seen → is_in E.same seen x ≡ true → has_begun (phase E w x) ≡ true
+    begins : (w : W) (seen : List N) (x : N) → Known E acts L steady w seen → is_in E.same seen x ≡ true → was_entered (phase E w x) ≡ true
     begins w seen x k h = sym (k x) ∙ h
 
     record Left (w mid : W) (x : N) (opened rest seen : List N) : Type 0 where
       unbegun : E.begun w x ≡ false
       calm : Calm E L mid rest
 
-    leaves : {w mid : W} {x : N} {end : End V S} (opened path rest seen : List N) → Leaves E acts w x end mid → path ≡ x ∷ rest → is_in E.same rest x ≡ false → has_begun (phase E w x) ≡ true → Calm E L w path → Left w mid x opened rest seen
+    leaves : {w mid : W} {x : N} {end : End V S} (opened path rest seen : List N) → Leaves E acts w x end mid → path ≡ x ∷ rest → is_in E.same rest x ≡ false → was_entered (phase E w x) ≡ true → Calm E L w path → Left w mid x opened rest seen
     leaves {w} {mid} {x} opened path rest seen l e out b c =
         let c' : Calm E L w (x ∷ rest) = subst (λ p. Calm E L w p) e c in
         let s = c'.still x (in_first E.same L.own L.equal x rest) in
@@ -245,7 +245,7 @@ module _ {N V W S : Type 0} (E : Evaluation N V W) (acts : Acts N V W S) (L : Is
         → Marks E (First E acts) to w opened ms end after × KeptCalm end after
     marks_once {w} seen path done f ps k a c = (done, calm_drop E L w path c)
     marks_once {w} {opened} seen path (enters {x = x} p) f ps k a c =
-        let new : phase E w x ≡ NotBegun = not_begun (phase E w x) (sym (k x) ∙ f.0) in
+        let new : phase E w x ≡ NotEntered = not_entered (phase E w x) (sym (k x) ∙ f.0) in
         let r = marks_once (x ∷ seen) (x ∷ path) p f.1 ps (known_enter E acts L steady w seen x k) (amid_enter E L w opened x new a) (calm_enter E L w path x new c) in
         (enters r.0, r.1)
     marks_once {w} {opened} seen path (passes {x = x} {t = t} s n p) f ps k a c =
@@ -274,7 +274,7 @@ module _ {N V W S : Type 0} (E : Evaluation N V W) (acts : Acts N V W S) (L : Is
         let left = leaves opened path ps.0 seen l ps.1 ps.2 (begins w seen x k f.0) c in
         (leave_stops why (once_leave l left.unbegun), tt)
 
-  calm_of : (w : W) → IsUnbegun E w → Calm E L w []
+  calm_of : (w : W) → HaveBegunOnce E w → Calm E L w []
   calm_of w u = record { unbegun = u.unbegun; unstamped = u.between.unstamped; still = λ y h. cc; distinct = u.distinct }
 
   calm_alike : (w v : W) → IsAlike E w v → Calm E L w [] → Calm E L v []
@@ -289,7 +289,7 @@ module _ {N V W S : Type 0} (E : Evaluation N V W) (acts : Acts N V W S) (L : Is
       let to = E.targets w in
       let r = marks_once to p.closed [] p.leads (subst (λ ms. Fit to p.closed ms) (append-nil p.marks) (walk_fits E.same L.own L.equal to p.walk.1))
       (subst (λ ms. Path to [] ms) (append-nil p.marks) (walk_path E.same L.own L.equal to p.walk.1))
-      (λ y. p.closed_is y ∙ sym (ap has_begun ((keep_like E acts L steady w m).phases y))) (keep_keeps E acts L steady w m a) (calm_keep w m c) in
+      (λ y. p.closed_is y ∙ sym (ap was_entered ((keep_like E acts L steady w m).phases y))) (keep_keeps E acts L steady w m a) (calm_keep w m c) in
       (record { closed = p.closed; closed_is = p.closed_is; marks = p.marks; walk = p.walk; leads = r.0 }, r.1)
 
   root_once : {w : W} {m : N} {a : Result ℕ S} {after : W} → EvaluatesRoot E acts w m a after → Amid E w [] → Calm E L w [] → EvaluatesRoot E (First E acts) w m a after
@@ -299,11 +299,11 @@ module _ {N V W S : Type 0} (E : Evaluation N V W) (acts : Acts N V W S) (L : Is
   root_once (EvaluatesRoot.throws v h e p) a c = EvaluatesRoot.throws v h e (walks_once p a c).0
   root_once (EvaluatesRoot.stops why h e p) a c = EvaluatesRoot.stops why h e (walks_once p a c).0
 
-  pub evaluates_once : (w after : W) (m : N) (a : Result ℕ S) → IsUnbegun E w → Evaluates E acts w m a after → Evaluates E (First E acts) w m a after
+  pub evaluates_once : (w after : W) (m : N) (a : Result ℕ S) → HaveBegunOnce E w → Evaluates E acts w m a after → Evaluates E (First E acts) w m a after
   evaluates_once w after m a u p = root_once p (of_between E w u.between) (calm_of w u)
 
   calm_fulfill : (w : W) (p : ℕ) (h : Phase) → Calm E L w [] → Calm E L (fulfill_by E w p h) []
-  calm_fulfill w p NotBegun c = c
+  calm_fulfill w p NotEntered c = c
   calm_fulfill w p Evaluating c = c
   calm_fulfill w p EvaluatingAsync c = c
   calm_fulfill w p Evaluated c = calm_alike w (E.fulfill w p) (L.fulfill w p) c
@@ -314,7 +314,7 @@ module _ {N V W S : Type 0} (E : Evaluation N V W) (acts : Acts N V W S) (L : Is
   root_calm {w} {m} (EvaluatesRoot.walks {after = after} h e p) a c = calm_fulfill after (E.next_promise w) (phase E after m) (walks_once p a c).1
   root_calm {w} (EvaluatesRoot.throws {after = after} v h e p) a c = calm_alike after (E.reject after (E.next_promise w) v) (L.reject after (E.next_promise w) v) (walks_once p a c).1
 
-  pub evaluates_keeps_unbegun : (w after : W) (m : N) (p : ℕ) → IsUnbegun E w → Evaluates E acts w m (Ok p) after → IsUnbegun E after
+  pub evaluates_keeps_unbegun : (w after : W) (m : N) (p : ℕ) → HaveBegunOnce E w → Evaluates E acts w m (Ok p) after → HaveBegunOnce E after
   evaluates_keeps_unbegun w after m p u h =
       let c = root_calm h (of_between E w u.between) (calm_of w u) in
       record { between = evaluates_keep E acts L steady w after m p u.between h; unbegun = c.unbegun; distinct = c.distinct }

@@ -4,13 +4,13 @@ use Rattle.std.specs.Prelude.{◌⊎◌, Result, Ok}
 use Rattle.esm_realm.specs.Walk.{is_in}
 use Rattle.esm_realm.proofs.Urls.{not_true, not_both}
 use Rattle.esm_realm.proofs.Lists.{either, in_first, in_later, in_cons}
-use Rattle.esm_eval.specs.Nodes.{NotBegun, Evaluated, has_begun, Acts}
+use Rattle.esm_eval.specs.Nodes.{NotEntered, Evaluated, was_entered, Acts}
 use Rattle.esm_eval.specs.Evaluation.{Evaluation, IsLawful, IsSteady, phase}
 use Rattle.esm_eval.specs.BodyEnd.{IsReady, ReadyAmong, Rejects, RejectsAll, GoOn, Fulfills, finish, refuse}
-use Rattle.esm_eval.specs.Begins.{AreDistinct, First, BeginsOne, IsUnbegun}
+use Rattle.esm_eval.specs.Begins.{EachOnce, First, BeginsOne, HaveBegunOnce}
 use Rattle.esm_eval.specs.Laws.{BeginsOnce}
 use Rattle.esm_eval.proofs.Amid.{In}
-use Rattle.esm_eval.proofs.EndsKeep.{Later, later_on, rejects_go, finished, kept_alike, refused_alike, among_ready, rejects_keep, fulfills_keep, go_on, ready_begun}
+use Rattle.esm_eval.proofs.EndsKeep.{Later, later_on, rejects_go, finished, kept_alike, refused_alike, among_ready, rejects_keep, fulfills_keep, go_on, ready_entered}
 use Rattle.esm_eval.proofs.WaitsStayOpen.{opens}
 use Rattle.esm_eval.proofs.Once.{IsQuiet, quiet_on, quiet_put, quiet_same, quiet_alike, once_run, once_start, run_of, start_of, CallOf, evaluates_once, evaluates_keeps_unbegun}
 
@@ -39,7 +39,7 @@ module _ {N V W : Type 0} (E : Evaluation N V W) (L : IsLawful E) where
   among_in (ReadyAmong.kept {x = x} {xs = zs} {ys = ys} r p) y h = either (in_cons E.same L.own L.equal x ys y h) (λ e. subst (λ z. In E (x ∷ zs) z) (sym e) (in_first E.same L.own L.equal x zs)) (λ k. in_later E.same L.own L.equal x zs y (among_in p y k))
   among_in (ReadyAmong.dropped {x = x} {xs = zs} n p) y h = in_later E.same L.own L.equal x zs y (among_in p y h)
 
-  among_distinct : {w : W} {zs xs : List N} → ReadyAmong E w zs xs → AreDistinct E.same zs → AreDistinct E.same xs
+  among_distinct : {w : W} {zs xs : List N} → ReadyAmong E w zs xs → EachOnce E.same zs → EachOnce E.same xs
   among_distinct ReadyAmong.none d = tt
   among_distinct (ReadyAmong.kept {x = x} {xs = zs} {ys = ys} r p) d = (not_true (is_in E.same ys x) (λ k. not_both (is_in E.same zs x) (among_in p x k) d.0), among_distinct p d.1)
   among_distinct (ReadyAmong.dropped n p) d = among_distinct p d.1
@@ -64,7 +64,7 @@ module _ {N V W : Type 0} (E : Evaluation N V W) (L : IsLawful E) where
     begun = λ y h. either (l.begun y h) (λ i. either (k.begun y i) inl (λ j. inr (either (in_cons E.same L.own L.equal x [] y j) (λ e. subst (λ z. In E (x ∷ xs) z) (sym e) (in_first E.same L.own L.equal x xs)) (λ z. cc)))) (λ i. inr (in_later E.same L.own L.equal x xs y i));
   }
 
-  rest_unbegun : (w u : W) (x : N) (xs : List N) → AreDistinct E.same (x ∷ xs) → Unbegun w (x ∷ xs) → Began w u (x ∷ []) → Unbegun u xs
+  rest_unbegun : (w u : W) (x : N) (xs : List N) → EachOnce E.same (x ∷ xs) → Unbegun w (x ∷ xs) → Began w u (x ∷ []) → Unbegun u xs
   unfolding Unbegun
   rest_unbegun w u x xs d b k y h = not_true (E.begun u y) (λ i. either (k.begun y i) (λ j. not_both (E.begun w y) j (b y (in_later E.same L.own L.equal x xs y h)))
       (λ j. either (in_cons E.same L.own L.equal x [] y j) (λ e. not_both (is_in E.same xs x) (subst (λ z. In E xs z) e h) d.0) (λ z. cc)))
@@ -76,7 +76,7 @@ module _ {N V W S : Type 0} (E : Evaluation N V W) (acts : Acts N V W S) (L : Is
   began_then : (w u v : W) (x : N) → Began E L w u (x ∷ []) → IsQuiet E L u v → Began E L w v (x ∷ [])
   began_then w u v x k q = record { stamps = q.stamps ∙ k.stamps; begun = λ y h. k.begun y (sym (q.begun y) ∙ h) }
 
-  go_once : {w : W} {xs : List N} {end : Result (Unit {0}) S} {v : W} → GoOn E acts w xs end v → AreDistinct E.same xs → Unbegun E L w xs → GoOn E (First E acts) w xs end v × Began E L w v xs
+  go_once : {w : W} {xs : List N} {end : Result (Unit {0}) S} {v : W} → GoOn E acts w xs end v → EachOnce E.same xs → Unbegun E L w xs → GoOn E (First E acts) w xs end v × Began E L w v xs
   unfolding Unbegun
   go_once {w} GoOn.none d b = (GoOn.none, record { stamps = refl; begun = λ y h. inl h })
   go_once {w} {v = v} (GoOn.skips {x = x} {xs = xs} h p) d b =
@@ -105,50 +105,50 @@ module _ {N V W S : Type 0} (E : Evaluation N V W) (acts : Acts N V W S) (L : Is
   )
 
   -- the modules that are ready, in the order of stamps, before any of them goes on
-  ready_once : (w : W) (m : N) (xs : List N) → IsUnbegun E w → ReadyAmong E (finish E w m) (E.stamps (finish E w m)) xs → AreDistinct E.same xs × Unbegun E L (finish E w m) xs
+  ready_once : (w : W) (m : N) (xs : List N) → HaveBegunOnce E w → ReadyAmong E (finish E w m) (E.stamps (finish E w m)) xs → EachOnce E.same xs × Unbegun E L (finish E w m) xs
   unfolding Unbegun
   ready_once w m xs u r =
-      (among_distinct E L r (subst (λ zs. AreDistinct E.same zs) (sym (quiet_finish E L w m).stamps) u.distinct), λ y h. ready_unbegun E L (among_ready E L r y h))
+      (among_distinct E L r (subst (λ zs. EachOnce E.same zs) (sym (quiet_finish E L w m).stamps) u.distinct), λ y h. ready_unbegun E L (among_ready E L r y h))
 
-  pub fulfills_once : (w after : W) (m : N) (a : Result (Unit {0}) S) → IsUnbegun E w → Fulfills E acts w m a after → Fulfills E (First E acts) w m a after
+  pub fulfills_once : (w after : W) (m : N) (a : Result (Unit {0}) S) → HaveBegunOnce E w → Fulfills E acts w m a after → Fulfills E (First E acts) w m a after
   fulfills_once w after m a u (Fulfills.over h) = Fulfills.over h
   fulfills_once w after m a u (Fulfills.goes_on {xs = xs} n r p) = let k = ready_once w m xs u r in Fulfills.goes_on n r (go_once p k.0 k.1).0
 
-  pub rejects_keeps_unbegun : (w after : W) (m : N) (v : V) → IsUnbegun E w → Rejects E w m v after → IsUnbegun E after
+  pub rejects_keeps_unbegun : (w after : W) (m : N) (v : V) → HaveBegunOnce E w → Rejects E w m v after → HaveBegunOnce E after
   rejects_keeps_unbegun w after m v u p =
       let q = quiet_rejects E L p in
       let l = (rejects_go E L p).later in
       record {
         between = rejects_keep E L w after m v u.between p;
         unbegun = λ y h. q.begun y ∙ u.unbegun y (either (l.phases y) (λ e. sym e ∙ h) (λ e. let k = sym e ∙ h in cc));
-        distinct = subst (λ zs. AreDistinct E.same zs) (sym q.stamps) u.distinct;
+        distinct = subst (λ zs. EachOnce E.same zs) (sym q.stamps) u.distinct;
       }
 
-  went_unbegun : (w v : W) (m : N) (xs : List N) → IsUnbegun E w → Fulfills E acts w m (Ok tt) v → ReadyAmong E (finish E w m) (E.stamps (finish E w m)) xs → GoOn E acts (finish E w m) xs (Ok tt) v → IsUnbegun E v
+  went_unbegun : (w v : W) (m : N) (xs : List N) → HaveBegunOnce E w → Fulfills E acts w m (Ok tt) v → ReadyAmong E (finish E w m) (E.stamps (finish E w m)) xs → GoOn E acts (finish E w m) xs (Ok tt) v → HaveBegunOnce E v
   went_unbegun w v m xs u f r p =
       let k = ready_once w m xs u r in
       let b = (go_once p k.0 k.1).1 in
       let q = quiet_finish E L w m in
       let first = finished E L w m in
-      let went = go_on E acts L steady p (λ x h. ready_begun E L (among_ready E L r x h)) in
+      let went = go_on E acts L steady p (λ x h. ready_entered E L (among_ready E L r x h)) in
       let l : Later E w v = later_on E w (finish E w m) v first.later went.later in
-      let new : (y : N) → phase E v y ≡ NotBegun → phase E w y ≡ NotBegun = λ y h. either (l.phases y) (λ e. sym e ∙ h) (λ e. let i = sym e ∙ h in cc) in
-      let before : (y : N) → phase E v y ≡ NotBegun → phase E (finish E w m) y ≡ NotBegun = λ y h. either (went.later.phases y) (λ e. sym e ∙ h) (λ e. let i = sym e ∙ h in cc) in
+      let new : (y : N) → phase E v y ≡ NotEntered → phase E w y ≡ NotEntered = λ y h. either (l.phases y) (λ e. sym e ∙ h) (λ e. let i = sym e ∙ h in cc) in
+      let before : (y : N) → phase E v y ≡ NotEntered → phase E (finish E w m) y ≡ NotEntered = λ y h. either (went.later.phases y) (λ e. sym e ∙ h) (λ e. let i = sym e ∙ h in cc) in
       record {
         between = fulfills_keep E acts L steady w v m u.between f;
         unbegun = λ y h. not_true (E.begun v y) (λ i. either (b.begun y i) (λ j. not_both (E.begun w y) (sym (q.begun y) ∙ j) (u.unbegun y (new y h)))
-            (λ j. not_both (has_begun (phase E (finish E w m) y)) (ready_begun E L (among_ready E L r y j)) (ap has_begun (before y h))));
-        distinct = subst (λ zs. AreDistinct E.same zs) (sym (b.stamps ∙ q.stamps)) u.distinct;
+            (λ j. not_both (was_entered (phase E (finish E w m) y)) (ready_entered E L (among_ready E L r y j)) (ap was_entered (before y h))));
+        distinct = subst (λ zs. EachOnce E.same zs) (sym (b.stamps ∙ q.stamps)) u.distinct;
       }
 
-  pub fulfills_keeps_unbegun : (w after : W) (m : N) → IsUnbegun E w → Fulfills E acts w m (Ok tt) after → IsUnbegun E after
+  pub fulfills_keeps_unbegun : (w after : W) (m : N) → HaveBegunOnce E w → Fulfills E acts w m (Ok tt) after → HaveBegunOnce E after
   fulfills_keeps_unbegun w after m u (Fulfills.over h) = u
   fulfills_keeps_unbegun w after m u (Fulfills.goes_on {xs = xs} n r p) = went_unbegun w after m xs u (Fulfills.goes_on n r p) r p
 
 module _ {N V W S : Type 0} (E : Evaluation N V W) (acts : Acts N V W S) where
   pub begins_once : BeginsOnce E acts
   begins_once L steady one = record {
-    opening = λ w o b. record { between = opens E acts w o; unbegun = λ x h. b x; distinct = subst (λ xs. AreDistinct E.same xs) (sym o.stamps) tt };
+    opening = λ w o b. record { between = opens E acts w o; unbegun = λ x h. b x; distinct = subst (λ xs. EachOnce E.same xs) (sym o.stamps) tt };
     evaluates = evaluates_once E acts L steady one;
     fulfills = fulfills_once E acts L steady one;
     keeps_evaluates = evaluates_keeps_unbegun E acts L steady one;

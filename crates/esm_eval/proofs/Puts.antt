@@ -8,7 +8,7 @@ use Rattle.esm_realm.specs.Components.{opened_before, opened_from}
 use Rattle.esm_realm.proofs.Urls.{cases, not_both}
 use Rattle.esm_realm.proofs.Lists as lists
 use Rattle.esm_realm.proofs.Lists.{either}
-use Rattle.esm_eval.specs.Nodes.{Phase, NotBegun, Evaluating, EvaluatingAsync, Evaluated, has_begun, Node}
+use Rattle.esm_eval.specs.Nodes.{Phase, NotEntered, Evaluating, EvaluatingAsync, Evaluated, was_entered, Node}
 use Rattle.esm_eval.specs.Evaluation.{Evaluation, IsLawful, phase, waits, waiters, is_done, is_stamped, root_of, put_wait, put_waiter, add_wait, wait_on, wait_by}
 use Rattle.esm_eval.specs.Evaluate.{enter, closed_phase, close, fail}
 use Rattle.esm_eval.specs.Waiting.{HasOpenWait}
@@ -82,10 +82,10 @@ module _ {N V W : Type 0} (E : Evaluation N V W) (L : IsLawful E) where
     same_phase : (y : N) → E.node after y ≡ E.node w y → phase E after y ≡ phase E w y
     same_phase y e = ap (λ m. m.phase) e
 
-  pub amid_enter : (w : W) (opened : List N) (x : N) → phase E w x ≡ NotBegun → Amid E w opened → Amid E (enter E w x) (opened ++ x ∷ [])
+  pub amid_enter : (w : W) (opened : List N) (x : N) → phase E w x ≡ NotEntered → Amid E w opened → Amid E (enter E w x) (opened ++ x ∷ [])
   amid_enter w opened x fresh a = record {
     open_is = λ y h. either (at y) (λ q. subst (λ z. In E (opened ++ x ∷ []) z) (sym q.0) last) (λ q. lists.in_left E.same L.own L.equal opened (x ∷ []) y (a.open_is y (sym (ap (λ m. m.phase) q.1) ∙ h)));
-    entered = λ y h. either (at y) (λ q. ap (λ m. has_begun m.phase) q.1) (λ q. ap (λ m. has_begun m.phase) q.1 ∙ either (was y h) (a.entered y) (λ e. absurd (not_both (E.same y x) (subst (λ z. E.same z x ≡ true) (sym e) (L.own x)) q.0)));
+    entered = λ y h. either (at y) (λ q. ap (λ m. was_entered m.phase) q.1) (λ q. ap (λ m. was_entered m.phase) q.1 ∙ either (was y h) (a.entered y) (λ e. absurd (not_both (E.same y x) (subst (λ z. E.same z x ≡ true) (sym e) (L.own x)) q.0)));
     unstamped = λ y h. put_stamped w x n y ∙ a.unstamped y (still y h);
     new = λ y h. dones w x n refl refl refl y ∙ a.new y (still y h);
     free = λ y h. all_waits w x n refl refl refl y ∙ a.free y (still y h);
@@ -109,7 +109,7 @@ module _ {N V W : Type 0} (E : Evaluation N V W) (L : IsLawful E) where
       was : (y : N) → In E (opened ++ x ∷ []) y → In E opened y ⊎ (y ≡ x)
       was y h = either (lists.in_split E.same L.own L.equal opened (x ∷ []) y h) inl (λ q. either (lists.in_cons E.same L.own L.equal x [] y q) inr (λ z. cc))
 
-      still : (y : N) → phase E (E.put w x n) y ≡ NotBegun → phase E w y ≡ NotBegun
+      still : (y : N) → phase E (E.put w x n) y ≡ NotEntered → phase E w y ≡ NotEntered
       still y h = either (at y) (λ q. let e = sym (ap (λ m. m.phase) q.1) ∙ h in cc) (λ q. sym (ap (λ m. m.phase) q.1) ∙ h)
 
       async : (y : N) → phase E (E.put w x n) y ≡ EvaluatingAsync → phase E w y ≡ EvaluatingAsync
@@ -125,7 +125,7 @@ module _ {N V W : Type 0} (E : Evaluation N V W) (L : IsLawful E) where
   close_one : (w : W) (bs ys : List N) (x y : N) → Amid E w (bs ++ y ∷ ys) → Amid E (E.put w y (record (E.node w y) { phase = closed_phase E (is_stamped E w y); cycle_root = Some x })) (bs ++ ys)
   close_one w bs ys x y a = record {
     open_is = λ z h. either (at z) (λ q. absurd (no_evaluating (is_stamped E w y) (sym (ap (λ m. m.phase) q.1) ∙ h))) (λ q. less z q.0 (a.open_is z (sym (ap (λ m. m.phase) q.1) ∙ h)));
-    entered = λ z h. either (at z) (λ q. ap (λ m. has_begun m.phase) q.1 ∙ begins (is_stamped E w y)) (λ q. ap (λ m. has_begun m.phase) q.1 ∙ a.entered z (more z h));
+    entered = λ z h. either (at z) (λ q. ap (λ m. was_entered m.phase) q.1 ∙ begins (is_stamped E w y)) (λ q. ap (λ m. was_entered m.phase) q.1 ∙ a.entered z (more z h));
     unstamped = λ z h. put_stamped w y n z ∙ a.unstamped z (still z h);
     new = λ z h. dones w y n refl refl refl z ∙ a.new z (still z h);
     free = λ z h. all_waits w y n refl refl refl z ∙ a.free z (still z h);
@@ -148,11 +148,11 @@ module _ {N V W : Type 0} (E : Evaluation N V W) (L : IsLawful E) where
       no_evaluating true h = cc
       no_evaluating false h = cc
 
-      not_new : (b : Bool) → closed_phase E b ≡ NotBegun → ⊥
+      not_new : (b : Bool) → closed_phase E b ≡ NotEntered → ⊥
       not_new true h = cc
       not_new false h = cc
 
-      begins : (b : Bool) → has_begun (closed_phase E b) ≡ true
+      begins : (b : Bool) → was_entered (closed_phase E b) ≡ true
       begins true = refl
       begins false = refl
 
@@ -170,7 +170,7 @@ module _ {N V W : Type 0} (E : Evaluation N V W) (L : IsLawful E) where
       here : In E (bs ++ y ∷ ys) y
       here = lists.in_right E.same L.own L.equal bs (y ∷ ys) y (lists.in_first E.same L.own L.equal y ys)
 
-      still : (z : N) → phase E (E.put w y n) z ≡ NotBegun → phase E w z ≡ NotBegun
+      still : (z : N) → phase E (E.put w y n) z ≡ NotEntered → phase E w z ≡ NotEntered
       still z h = either (at z) (λ q. absurd (not_new (is_stamped E w y) (sym (ap (λ m. m.phase) q.1) ∙ h))) (λ q. sym (ap (λ m. m.phase) q.1) ∙ h)
 
       mine : E.begun (E.put w y n) y ≡ false → is_stamped E w y ≡ true → HasOpenWait E (E.put w y n) y
@@ -183,52 +183,52 @@ module _ {N V W : Type 0} (E : Evaluation N V W) (L : IsLawful E) where
   close_all bs x [] w a = a
   close_all bs x (y ∷ ys) w a = close_all bs x ys (E.put w y (record (E.node w y) { phase = closed_phase E (is_stamped E w y); cycle_root = Some x })) (close_one w bs ys x y a)
 
-  close_begun : (x : N) (ys : List N) (w : W) (z : N) → has_begun (phase E w z) ≡ true → has_begun (phase E (close E w x ys) z) ≡ true
-  close_begun x [] w z h = h
-  close_begun x (y ∷ ys) w z h = close_begun x ys (E.put w y n) z (either (put_at w y n z) (λ q. ap (λ m. has_begun m.phase) q.1 ∙ begins (is_stamped E w y)) (λ q. ap (λ m. has_begun m.phase) q.1 ∙ h))
+  close_entered : (x : N) (ys : List N) (w : W) (z : N) → was_entered (phase E w z) ≡ true → was_entered (phase E (close E w x ys) z) ≡ true
+  close_entered x [] w z h = h
+  close_entered x (y ∷ ys) w z h = close_entered x ys (E.put w y n) z (either (put_at w y n z) (λ q. ap (λ m. was_entered m.phase) q.1 ∙ begins (is_stamped E w y)) (λ q. ap (λ m. was_entered m.phase) q.1 ∙ h))
     where
       n : Node N V
       n = record (E.node w y) { phase = closed_phase E (is_stamped E w y); cycle_root = Some x }
 
-      begins : (b : Bool) → has_begun (closed_phase E b) ≡ true
+      begins : (b : Bool) → was_entered (closed_phase E b) ≡ true
       begins true = refl
       begins false = refl
 
-  close_back : (x : N) (ys : List N) (w : W) (z : N) → ((y : N) → In E ys y → has_begun (phase E w y) ≡ true) → has_begun (phase E w z) ≡ false → has_begun (phase E (close E w x ys) z) ≡ false
+  close_back : (x : N) (ys : List N) (w : W) (z : N) → ((y : N) → In E ys y → was_entered (phase E w y) ≡ true) → was_entered (phase E w z) ≡ false → was_entered (phase E (close E w x ys) z) ≡ false
   close_back x [] w z i h = h
   close_back x (y ∷ ys) w z i h = close_back x ys (E.put w y n) z (λ u k. begun u (i u (lists.in_later E.same L.own L.equal y ys u k)))
-      (either (put_at w y n z) (λ q. absurd (not_both (has_begun (phase E w z)) (i z (subst (λ u. In E (y ∷ ys) u) (sym q.0) (lists.in_first E.same L.own L.equal y ys))) h)) (λ q. ap (λ m. has_begun m.phase) q.1 ∙ h))
+      (either (put_at w y n z) (λ q. absurd (not_both (was_entered (phase E w z)) (i z (subst (λ u. In E (y ∷ ys) u) (sym q.0) (lists.in_first E.same L.own L.equal y ys))) h)) (λ q. ap (λ m. was_entered m.phase) q.1 ∙ h))
     where
       n : Node N V
       n = record (E.node w y) { phase = closed_phase E (is_stamped E w y); cycle_root = Some x }
 
-      begins : (b : Bool) → has_begun (closed_phase E b) ≡ true
+      begins : (b : Bool) → was_entered (closed_phase E b) ≡ true
       begins true = refl
       begins false = refl
 
-      begun : (u : N) → has_begun (phase E w u) ≡ true → has_begun (phase E (E.put w y n) u) ≡ true
-      begun u k = either (put_at w y n u) (λ q. ap (λ m. has_begun m.phase) q.1 ∙ begins (is_stamped E w y)) (λ q. ap (λ m. has_begun m.phase) q.1 ∙ k)
+      begun : (u : N) → was_entered (phase E w u) ≡ true → was_entered (phase E (E.put w y n) u) ≡ true
+      begun u k = either (put_at w y n u) (λ q. ap (λ m. was_entered m.phase) q.1 ∙ begins (is_stamped E w y)) (λ q. ap (λ m. was_entered m.phase) q.1 ∙ k)
 
   pub amid_close : (w : W) (opened : List N) (x : N) → Amid E w opened → Amid E (close E w x (opened_from E.same opened x)) (opened_before E.same opened x)
   amid_close w opened x a = subst (λ o. Amid E (close E w x (opened_from E.same opened x)) o) (append-nil (opened_before E.same opened x))
       (close_all (opened_before E.same opened x) x (opened_from E.same opened x) w (subst (λ o. Amid E w o) (sym (lists.split_is E.same L.own L.equal opened x)) a))
 
   -- what has begun, and no other module, still has
-  pub close_known : (w : W) (opened : List N) (x : N) → Amid E w opened → (z : N) → has_begun (phase E (close E w x (opened_from E.same opened x)) z) ≡ has_begun (phase E w z)
-  close_known w opened x a z = by (cases (has_begun (phase E w z)))
+  pub close_known : (w : W) (opened : List N) (x : N) → Amid E w opened → (z : N) → was_entered (phase E (close E w x (opened_from E.same opened x)) z) ≡ was_entered (phase E w z)
+  close_known w opened x a z = by (cases (was_entered (phase E w z)))
     where
-      inside : (y : N) → In E (opened_from E.same opened x) y → has_begun (phase E w y) ≡ true
+      inside : (y : N) → In E (opened_from E.same opened x) y → was_entered (phase E w y) ≡ true
       inside y h = a.entered y (subst (λ o. In E o y) (lists.split_is E.same L.own L.equal opened x) (lists.in_right E.same L.own L.equal (opened_before E.same opened x) (opened_from E.same opened x) y h))
 
-      by : (has_begun (phase E w z) ≡ true) ⊎ (has_begun (phase E w z) ≡ false) → has_begun (phase E (close E w x (opened_from E.same opened x)) z) ≡ has_begun (phase E w z)
-      by (inl h) = close_begun x (opened_from E.same opened x) w z h ∙ sym h
+      by : (was_entered (phase E w z) ≡ true) ⊎ (was_entered (phase E w z) ≡ false) → was_entered (phase E (close E w x (opened_from E.same opened x)) z) ≡ was_entered (phase E w z)
+      by (inl h) = close_entered x (opened_from E.same opened x) w z h ∙ sym h
       by (inr h) = close_back x (opened_from E.same opened x) w z inside h ∙ sym h
 
   -- one module of the stack gets the error
   fail_one : (w : W) (ys : List N) (v : V) (y : N) → Amid E w (y ∷ ys) → Amid E (E.put w y (record (E.node w y) { phase = Evaluated; error = Some v })) ys
   fail_one w ys v y a = record {
     open_is = λ z h. either (at z) (λ q. let e = sym (ap (λ m. m.phase) q.1) ∙ h in cc) (λ q. less z q.0 (a.open_is z (sym (ap (λ m. m.phase) q.1) ∙ h)));
-    entered = λ z h. either (at z) (λ q. ap (λ m. has_begun m.phase) q.1) (λ q. ap (λ m. has_begun m.phase) q.1 ∙ a.entered z (more z h));
+    entered = λ z h. either (at z) (λ q. ap (λ m. was_entered m.phase) q.1) (λ q. ap (λ m. was_entered m.phase) q.1 ∙ a.entered z (more z h));
     unstamped = λ z h. put_stamped w y n z ∙ a.unstamped z (still z h);
     new = λ z h. dones w y n refl refl refl z ∙ a.new z (still z h);
     free = λ z h. all_waits w y n refl refl refl z ∙ a.free z (still z h);
@@ -253,7 +253,7 @@ module _ {N V W : Type 0} (E : Evaluation N V W) (L : IsLawful E) where
       less : (z : N) → E.same z y ≡ false → In E (y ∷ ys) z → In E ys z
       less z o h = either (lists.in_cons E.same L.own L.equal y ys z h) (λ e. absurd (not_both (E.same z y) (subst (λ u. E.same u y ≡ true) (sym e) (L.own y)) o)) (λ k. k)
 
-      still : (z : N) → phase E (E.put w y n) z ≡ NotBegun → phase E w z ≡ NotBegun
+      still : (z : N) → phase E (E.put w y n) z ≡ NotEntered → phase E w z ≡ NotEntered
       still z h = either (at z) (λ q. let e = sym (ap (λ m. m.phase) q.1) ∙ h in cc) (λ q. sym (ap (λ m. m.phase) q.1) ∙ h)
 
       error_at : (r : N) → (E.node (E.put w y n) r).error ≡ None → (E.node w r).error ≡ None
@@ -267,13 +267,13 @@ module _ {N V W : Type 0} (E : Evaluation N V W) (L : IsLawful E) where
   amid_fail (y ∷ ys) w v a = amid_fail ys (E.put w y (record (E.node w y) { phase = Evaluated; error = Some v })) v (fail_one w ys v y a)
 
   -- x waits for y, which isn't done
-  pub amid_wait : (w : W) (opened : List N) (x y : N) → has_begun (phase E w x) ≡ true → is_done E w y ≡ false → Amid E w opened → Amid E (put_waiter E (put_wait E w x y) x y) opened
+  pub amid_wait : (w : W) (opened : List N) (x y : N) → was_entered (phase E w x) ≡ true → is_done E w y ≡ false → Amid E w opened → Amid E (put_waiter E (put_wait E w x y) x y) opened
   amid_wait w opened x y b nd a = record {
     open_is = λ z h. a.open_is z (sym (phases z) ∙ h);
-    entered = λ z h. ap has_begun (phases z) ∙ a.entered z h;
+    entered = λ z h. ap was_entered (phases z) ∙ a.entered z h;
     unstamped = λ z h. stamped z ∙ a.unstamped z (sym (phases z) ∙ h);
     new = λ z h. dones_is z ∙ a.new z (sym (phases z) ∙ h);
-    free = λ z h. either (at z) (λ q. absurd (not_both (has_begun (phase E w x)) b (ap (λ u. has_begun (phase E w u)) (sym q.0) ∙ ap has_begun (sym (phases z) ∙ h)))) (λ q. q ∙ a.free z (sym (phases z) ∙ h));
+    free = λ z h. either (at z) (λ q. absurd (not_both (was_entered (phase E w x)) b (ap (λ u. was_entered (phase E w u)) (sym q.0) ∙ ap was_entered (sym (phases z) ∙ h)))) (λ q. q ∙ a.free z (sym (phases z) ∙ h));
     undone = λ z h. dones_is z ∙ a.undone z (sym (phases z) ∙ h);
     shut = λ z u h k. dones_is u ∙ either (back z u k) (a.shut z u h) (λ q. subst (λ t. is_done E w t ≡ false) (sym q.1) nd);
     moves = λ z h k. moves z (a.moves z h (sym (stamped z) ∙ k));
@@ -338,8 +338,8 @@ module _ {N V W : Type 0} (E : Evaluation N V W) (L : IsLawful E) where
       open_wait_on : (z : N) → HasOpenWait E w z → HasOpenWait E v z
       open_wait_on z h = (h.0, forth z h.0 h.1, dones_is h.0 ∙ h.2)
 
-  pub wait_known : (w : W) (x y : N) (z : N) → has_begun (phase E (put_waiter E (put_wait E w x y) x y) z) ≡ has_begun (phase E w z)
-  wait_known w x y z = ap has_begun (same_field (λ m. m.phase) (put_wait E w x y) y (record (E.node (put_wait E w x y) y) { waiters = waiters E (put_wait E w x y) y ++ x ∷ [] }) refl z
+  pub wait_known : (w : W) (x y : N) (z : N) → was_entered (phase E (put_waiter E (put_wait E w x y) x y) z) ≡ was_entered (phase E w z)
+  wait_known w x y z = ap was_entered (same_field (λ m. m.phase) (put_wait E w x y) y (record (E.node (put_wait E w x y) y) { waiters = waiters E (put_wait E w x y) y ++ x ∷ [] }) refl z
       ∙ same_field (λ m. m.phase) w x (record (E.node w x) { waits = waits E w x ++ y ∷ [] }) refl z)
 
   -- what a request makes wait for isn't done
@@ -349,9 +349,9 @@ module _ {N V W : Type 0} (E : Evaluation N V W) (L : IsLawful E) where
       by : (p : Phase) → phase E w t ≡ p → (b c d : Bool) → is_done E w (root_of E w t) ≡ d → wait_by E t (root_of E w t) p b c d ≡ Some y → is_done E w y ≡ false
       by Evaluating e true c d f h = subst (λ z. is_done E w z ≡ false) (some_is h) (a.undone t e)
       by Evaluating e false c d f h = cc
-      by NotBegun e b true false f h = subst (λ z. is_done E w z ≡ false) (some_is h) f
-      by NotBegun e b true true f h = cc
-      by NotBegun e b false d f h = cc
+      by NotEntered e b true false f h = subst (λ z. is_done E w z ≡ false) (some_is h) f
+      by NotEntered e b true true f h = cc
+      by NotEntered e b false d f h = cc
       by EvaluatingAsync e b true false f h = subst (λ z. is_done E w z ≡ false) (some_is h) f
       by EvaluatingAsync e b true true f h = cc
       by EvaluatingAsync e b false d f h = cc
@@ -359,9 +359,9 @@ module _ {N V W : Type 0} (E : Evaluation N V W) (L : IsLawful E) where
       by Evaluated e b true true f h = cc
       by Evaluated e b false d f h = cc
 
-  pub amid_pass : (w : W) (opened : List N) (x t : N) → has_begun (phase E w x) ≡ true → Amid E w opened → Amid E (add_wait E w x (wait_on E w t)) opened × ((z : N) → has_begun (phase E (add_wait E w x (wait_on E w t)) z) ≡ has_begun (phase E w z))
+  pub amid_pass : (w : W) (opened : List N) (x t : N) → was_entered (phase E w x) ≡ true → Amid E w opened → Amid E (add_wait E w x (wait_on E w t)) opened × ((z : N) → was_entered (phase E (add_wait E w x (wait_on E w t)) z) ≡ was_entered (phase E w z))
   amid_pass w opened x t b a = by (wait_on E w t) refl
     where
-      by : (o : Option N) → wait_on E w t ≡ o → Amid E (add_wait E w x o) opened × ((z : N) → has_begun (phase E (add_wait E w x o) z) ≡ has_begun (phase E w z))
+      by : (o : Option N) → wait_on E w t ≡ o → Amid E (add_wait E w x o) opened × ((z : N) → was_entered (phase E (add_wait E w x o) z) ≡ was_entered (phase E w z))
       by None e = (a, λ z. refl)
       by (Some y) e = (amid_wait w opened x y b (wait_undone w opened t y a e) a, wait_known w x y)

@@ -1,12 +1,13 @@
 -- The world of the examples meets the conditions of the laws.
 use Rattle.std.proofs.Common.{◌≡◌, Bool, true, List, [], ◌∷◌, refl, subst, sym, inl, inr}
-use Rattle.std.specs.Prelude.{◌⊎◌, if◌then◌else◌, Result}
+use Rattle.std.specs.Prelude.{◌⊎◌, if◌then◌else◌, Result, Ok}
 use Rattle.std.specs.List.{list_any}
 use Rattle.esm_realm.proofs.Lists.{either, in_first, in_left, in_right, in_split, in_cons}
+use Rattle.esm_values.specs.Ran.{Ran}
 use Rattle.esm_eval.specs.Nodes.{Node, Call, Start, Run, Answer, module_of}
 use Rattle.esm_eval.specs.Evaluation.{IsLawful, IsSteady, IsSteadyCall}
 use Rattle.esm_eval.specs.Begins.{BeginsOne}
-use Rattle.esm_eval.specs.SmallWorld.{Name, A, B, C, D, same_name, Nodes, node_at, with_node, Small, small, Writes, with_line}
+use Rattle.esm_eval.specs.SmallWorld.{Name, A, B, C, D, same_name, Nodes, node_at, with_node, Small, small, Body, Runs, Fails, Halts, StartIs, RunIs, Writes, with_line}
 use Rattle.esm_eval.specs.Examples.{SmallWorldsAreLawful}
 
 own : (x : Name) → same_name x x ≡ true
@@ -65,34 +66,68 @@ module _ (targets : Name → List Name) (awaits : Name → Bool) where
   }
 
   line_is_steady : (w : Small) (m : Name) → IsSteadyCall (small targets awaits) w m (with_line w m)
-  line_is_steady w m = record {
-    nodes = λ x. refl;
-    stamps = refl;
-    starts = in_right same_name own equal w.log (m ∷ []) m (in_first same_name own equal m []);
-    begun = λ x h. in_left same_name own equal w.log (m ∷ []) x h;
-    awaits = λ x h. refl;
-  }
+  line_is_steady w m = record { nodes = λ x. refl; stamps = refl; begun = λ x h. in_left same_name own equal w.log (m ∷ []) x h; awaits = λ x h. refl }
 
-  small_is_steady : (throws : Name → Bool) → IsSteady (small targets awaits) (Writes throws)
-  small_is_steady throws = record { call = steady }
+  same_is_steady : (w : Small) (m : Name) → IsSteadyCall (small targets awaits) w m w
+  same_is_steady w m = record { nodes = λ x. refl; stamps = refl; begun = λ x h. h; awaits = λ x h. refl }
+
+  start_steady : (b : Body) (w v : Small) (m : Name) (r : Result (Unit {0}) (Unit {0})) → StartIs b w m r v → IsSteadyCall (small targets awaits) w m v
+  start_steady Runs w v m r h = subst (λ v. IsSteadyCall (small targets awaits) w m v) (sym h.1) (line_is_steady w m)
+  start_steady Fails w v m r h = subst (λ v. IsSteadyCall (small targets awaits) w m v) (sym h.1) (line_is_steady w m)
+  start_steady Halts w v m r h = subst (λ v. IsSteadyCall (small targets awaits) w m v) (sym h.1) (same_is_steady w m)
+
+  run_steady : (b : Body) (w v : Small) (m : Name) (r : Result (Ran Name) (Unit {0})) → RunIs b w m r v → IsSteadyCall (small targets awaits) w m v
+  run_steady Runs w v m r h = subst (λ v. IsSteadyCall (small targets awaits) w m v) (sym h.1) (line_is_steady w m)
+  run_steady Fails w v m r h = subst (λ v. IsSteadyCall (small targets awaits) w m v) (sym h.1) (line_is_steady w m)
+  run_steady Halts w v m r h = subst (λ v. IsSteadyCall (small targets awaits) w m v) (sym h.1) (same_is_steady w m)
+
+  line_starts : (w : Small) (m : Name) → list_any (same_name m) (with_line w m).log ≡ true
+  line_starts w m = in_right same_name own equal w.log (m ∷ []) m (in_first same_name own equal m [])
+
+  start_starts : (b : Body) (w v : Small) (m : Name) (r : Unit {0}) → StartIs b w m (Ok r) v → list_any (same_name m) v.log ≡ true
+  start_starts Runs w v m r h = subst (λ u. list_any (same_name m) u.log ≡ true) (sym h.1) (line_starts w m)
+  start_starts Fails w v m r h = subst (λ u. list_any (same_name m) u.log ≡ true) (sym h.1) (line_starts w m)
+  start_starts Halts w v m r h = let k = h.0 in cc
+
+  run_starts : (b : Body) (w v : Small) (m : Name) (r : Ran Name) → RunIs b w m (Ok r) v → list_any (same_name m) v.log ≡ true
+  run_starts Runs w v m r h = subst (λ u. list_any (same_name m) u.log ≡ true) (sym h.1) (line_starts w m)
+  run_starts Fails w v m r h = subst (λ u. list_any (same_name m) u.log ≡ true) (sym h.1) (line_starts w m)
+  run_starts Halts w v m r h = let k = h.0 in cc
+
+  small_is_steady : (bodies : Name → Body) → IsSteady (small targets awaits) (Writes bodies)
+  small_is_steady bodies = record { call = steady; starts = starts }
     where
-      steady : (w v : Small) (c : Call Name) (r : Result (Answer Name c) (Unit {0})) → Writes throws w c r v → IsSteadyCall (small targets awaits) w (module_of c) v
-      steady w v (Start m end) r h = subst (λ v. IsSteadyCall (small targets awaits) w m v) (sym h.1) (line_is_steady w m)
-      steady w v (Run m) r h = subst (λ v. IsSteadyCall (small targets awaits) w m v) (sym h.1) (line_is_steady w m)
+      steady : (w v : Small) (c : Call Name) (r : Result (Answer Name c) (Unit {0})) → Writes bodies w c r v → IsSteadyCall (small targets awaits) w (module_of c) v
+      steady w v (Start m end) r h = start_steady (bodies m) w v m r h
+      steady w v (Run m) r h = run_steady (bodies m) w v m r h
+
+      starts : (w v : Small) (c : Call Name) (r : Answer Name c) → Writes bodies w c (Ok r) v → list_any (same_name (module_of c)) v.log ≡ true
+      starts w v (Start m end) r h = start_starts (bodies m) w v m r h
+      starts w v (Run m) r h = run_starts (bodies m) w v m r h
 
   line_begins : (w : Small) (m x : Name) → list_any (same_name x) (with_line w m).log ≡ true → (list_any (same_name x) w.log ≡ true) ⊎ (x ≡ m)
   line_begins w m x h = either (in_split same_name own equal w.log (m ∷ []) x h) inl (λ k. either (in_cons same_name own equal m [] x k) inr (λ z. cc))
 
-  small_begins : (throws : Name → Bool) → BeginsOne (small targets awaits) (Writes throws)
-  small_begins throws = record { call = begins }
+  start_begins : (b : Body) (w v : Small) (m : Name) (r : Result (Unit {0}) (Unit {0})) → StartIs b w m r v → (x : Name) → list_any (same_name x) v.log ≡ true → (list_any (same_name x) w.log ≡ true) ⊎ (x ≡ m)
+  start_begins Runs w v m r h x k = line_begins w m x (subst (λ u. list_any (same_name x) u.log ≡ true) h.1 k)
+  start_begins Fails w v m r h x k = line_begins w m x (subst (λ u. list_any (same_name x) u.log ≡ true) h.1 k)
+  start_begins Halts w v m r h x k = inl (subst (λ u. list_any (same_name x) u.log ≡ true) h.1 k)
+
+  run_begins : (b : Body) (w v : Small) (m : Name) (r : Result (Ran Name) (Unit {0})) → RunIs b w m r v → (x : Name) → list_any (same_name x) v.log ≡ true → (list_any (same_name x) w.log ≡ true) ⊎ (x ≡ m)
+  run_begins Runs w v m r h x k = line_begins w m x (subst (λ u. list_any (same_name x) u.log ≡ true) h.1 k)
+  run_begins Fails w v m r h x k = line_begins w m x (subst (λ u. list_any (same_name x) u.log ≡ true) h.1 k)
+  run_begins Halts w v m r h x k = inl (subst (λ u. list_any (same_name x) u.log ≡ true) h.1 k)
+
+  small_begins : (bodies : Name → Body) → BeginsOne (small targets awaits) (Writes bodies)
+  small_begins bodies = record { call = begins }
     where
-      begins : (w v : Small) (c : Call Name) (r : Result (Answer Name c) (Unit {0})) → Writes throws w c r v → (x : Name) → list_any (same_name x) v.log ≡ true → (list_any (same_name x) w.log ≡ true) ⊎ (x ≡ module_of c)
-      begins w v (Start m end) r h x k = line_begins w m x (subst (λ u. list_any (same_name x) u.log ≡ true) h.1 k)
-      begins w v (Run m) r h x k = line_begins w m x (subst (λ u. list_any (same_name x) u.log ≡ true) h.1 k)
+      begins : (w v : Small) (c : Call Name) (r : Result (Answer Name c) (Unit {0})) → Writes bodies w c r v → (x : Name) → list_any (same_name x) v.log ≡ true → (list_any (same_name x) w.log ≡ true) ⊎ (x ≡ module_of c)
+      begins w v (Start m end) r h = start_begins (bodies m) w v m r h
+      begins w v (Run m) r h = run_begins (bodies m) w v m r h
 
 pub small_worlds_are_lawful : SmallWorldsAreLawful
 small_worlds_are_lawful = record {
   lawful = small_is_lawful;
-  steady = λ targets awaits throws. small_is_steady targets awaits throws;
-  begins = λ targets awaits throws. small_begins targets awaits throws;
+  steady = λ targets awaits bodies. small_is_steady targets awaits bodies;
+  begins = λ targets awaits bodies. small_begins targets awaits bodies;
 }

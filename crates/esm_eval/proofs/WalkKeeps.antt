@@ -6,19 +6,19 @@ use Rattle.esm_realm.specs.Walk.{Mark, is_in}
 use Rattle.esm_realm.specs.Components.{opened_from}
 use Rattle.esm_realm.proofs.Urls.{cases, not_both}
 use Rattle.esm_realm.proofs.Lists.{in_first}
-use Rattle.esm_eval.specs.Nodes.{Phase, NotBegun, Evaluating, EvaluatingAsync, Evaluated, has_begun, Node, Acts}
+use Rattle.esm_eval.specs.Nodes.{Phase, NotEntered, Evaluating, EvaluatingAsync, Evaluated, was_entered, Node, Acts}
 use Rattle.esm_eval.specs.Evaluation.{Evaluation, IsLawful, IsSteady, IsSteadyCall, IsAlike, phase, waits, add_wait, wait_on}
 use Rattle.esm_eval.specs.Evaluate.{End, Ends, Throws, Stops, StartsBody, RunsBody, Leaves, Marks, Walks, EvaluatesRoot, Evaluates, enter, close, keep, fulfill_by}
 use Rattle.esm_eval.specs.Evaluate.Marks.{done, enters, passes, pass_throws, stays, component, leave_throws, leave_stops}
 use Rattle.esm_eval.specs.Waiting.{IsBetweenCalls}
 use Rattle.esm_eval.proofs.Fits.{Fits, walk_fits}
-use Rattle.esm_eval.proofs.Amid.{Amid, IsLike, HasGrown, of_between, to_between, like_nodes, like_on, grown_on, grown_alike, amid_like, amid_stamp, not_begun}
+use Rattle.esm_eval.proofs.Amid.{Amid, IsLike, HasGrown, of_between, to_between, like_nodes, like_on, grown_on, grown_alike, amid_like, amid_stamp, not_entered}
 use Rattle.esm_eval.proofs.Puts.{put_at, put_like, put_grown, amid_enter, amid_close, close_known, amid_fail, amid_pass}
 
 module _ {N V W S : Type 0} (E : Evaluation N V W) (acts : Acts N V W S) (L : IsLawful E) (steady : IsSteady E acts) where
   -- a list of the modules whose evaluation has begun
   abbrev pub Known : W → List N → Type 0
-  Known w seen = (y : N) → is_in E.same seen y ≡ has_begun (phase E w y)
+  Known w seen = (y : N) → is_in E.same seen y ≡ was_entered (phase E w y)
 
   like_call : (w v : W) (m : N) → IsSteadyCall E w m v → IsLike E w v
   like_call w v m s = like_nodes E w v s.nodes
@@ -29,33 +29,33 @@ module _ {N V W S : Type 0} (E : Evaluation N V W) (acts : Acts N V W S) (L : Is
   -- a step that leaves what is amid, and which modules have begun
   pub record Step (w v : W) (opened : List N) : Type 0 where
     pub amid : Amid E v opened
-    pub known : (y : N) → has_begun (phase E v y) ≡ has_begun (phase E w y)
+    pub known : (y : N) → was_entered (phase E v y) ≡ was_entered (phase E w y)
 
   run_step : (w v : W) (m : N) (opened : List N) → IsSteadyCall E w m v → Amid E w opened → Step w v opened
-  run_step w v m opened s a = record { amid = amid_like E w v opened (like_call w v m s) (grown_call w v m s) a; known = λ y. ap (λ n. has_begun n.phase) (s.nodes y) }
+  run_step w v m opened s a = record { amid = amid_like E w v opened (like_call w v m s) (grown_call w v m s) a; known = λ y. ap (λ n. was_entered n.phase) (s.nodes y) }
 
-  stamp_step : (w : W) (x y : N) (ys : List N) (opened : List N) → waits E w x ≡ y ∷ ys → has_begun (phase E w x) ≡ true → Amid E w opened → Step w (E.add_stamp w x) opened
+  stamp_step : (w : W) (x y : N) (ys : List N) (opened : List N) → waits E w x ≡ y ∷ ys → was_entered (phase E w x) ≡ true → Amid E w opened → Step w (E.add_stamp w x) opened
   stamp_step w x y ys opened e b a =
       let s = L.add_stamp w x in
       record {
         amid = amid_stamp E w (E.add_stamp w x) opened x L (like_nodes E w (E.add_stamp w x) s.nodes) s.stamps (λ z h. s.begun z ∙ h) b
             (inr (y, subst (λ zs. is_in E.same zs y ≡ true) (sym (ap (λ n. n.waits) (s.nodes x) ∙ e)) (in_first E.same L.own L.equal y ys))) a;
-        known = λ z. ap (λ n. has_begun n.phase) (s.nodes z);
+        known = λ z. ap (λ n. was_entered n.phase) (s.nodes z);
       }
 
-  start_step : (w v : W) (x : N) (opened : List N) → IsSteadyCall E (E.make_body_promise (E.add_stamp w x) x) x v → has_begun (phase E w x) ≡ true → Amid E w opened → Step w v opened
-  start_step w v x opened c b a =
+  start_step : (w v : W) (x : N) (opened : List N) → IsSteadyCall E (E.make_body_promise (E.add_stamp w x) x) x v → E.begun v x ≡ true → was_entered (phase E w x) ≡ true → Amid E w opened → Step w v opened
+  start_step w v x opened c begins b a =
       let s = L.add_stamp w x in
       let p = L.make_body_promise (E.add_stamp w x) x in
       let nodes : (z : N) → E.node v z ≡ E.node w z = λ z. c.nodes z ∙ p.nodes z ∙ s.nodes z in
       record {
-        amid = amid_stamp E w v opened x L (like_nodes E w v nodes) (c.stamps ∙ p.stamps ∙ s.stamps) (λ z h. c.begun z (p.begun z ∙ s.begun z ∙ h)) b (inl c.starts) a;
-        known = λ z. ap (λ n. has_begun n.phase) (nodes z);
+        amid = amid_stamp E w v opened x L (like_nodes E w v nodes) (c.stamps ∙ p.stamps ∙ s.stamps) (λ z h. c.begun z (p.begun z ∙ s.begun z ∙ h)) b (inl begins) a;
+        known = λ z. ap (λ n. was_entered n.phase) (nodes z);
       }
 
-  pub leave_step : {w : W} {x : N} {mid : W} (opened : List N) → Leaves E acts w x Ends mid → has_begun (phase E w x) ≡ true → Amid E w opened → Step w mid opened
+  pub leave_step : {w : W} {x : N} {mid : W} (opened : List N) → Leaves E acts w x Ends mid → was_entered (phase E w x) ≡ true → Amid E w opened → Step w mid opened
   leave_step {w} {x} {mid} opened (Leaves.runs n o (RunsBody.ends p)) b a = run_step w mid x opened (steady.call _ _ _ _ p) a
-  leave_step {w} {x} {mid} opened (Leaves.starts n o (StartsBody.starts p)) b a = start_step w mid x opened (steady.call _ _ _ _ p) b a
+  leave_step {w} {x} {mid} opened (Leaves.starts n o (StartsBody.starts p)) b a = start_step w mid x opened (steady.call _ _ _ _ p) (steady.starts _ _ _ _ p) b a
   leave_step {w} {x} opened (Leaves.waiting {y = y} {ys = ys} n) b a = stamp_step w x y ys opened n b a
 
   pub throw_step : {w : W} {x : N} {v : V} {mid : W} (opened : List N) → Leaves E acts w x (Throws v) mid → Amid E w opened → Amid E mid opened
@@ -73,26 +73,26 @@ module _ {N V W S : Type 0} (E : Evaluation N V W) (acts : Acts N V W S) (L : Is
   pub known_enter : (w : W) (seen : List N) (x : N) → Known w seen → Known (enter E w x) (x ∷ seen)
   known_enter w seen x k y = by (cases (E.same y x)) (put_at E L w x (record (E.node w x) { phase = Evaluating }) y)
     where
-      by : (E.same y x ≡ true) ⊎ (E.same y x ≡ false) → ((y ≡ x) × (E.node (enter E w x) y ≡ record (E.node w x) { phase = Evaluating })) ⊎ ((E.same y x ≡ false) × (E.node (enter E w x) y ≡ E.node w y)) → (E.same y x || is_in E.same seen y) ≡ has_begun (phase E (enter E w x) y)
-      by (inl h) (inl q) = ap (λ b. b || is_in E.same seen y) h ∙ sym (ap (λ n. has_begun n.phase) q.1)
+      by : (E.same y x ≡ true) ⊎ (E.same y x ≡ false) → ((y ≡ x) × (E.node (enter E w x) y ≡ record (E.node w x) { phase = Evaluating })) ⊎ ((E.same y x ≡ false) × (E.node (enter E w x) y ≡ E.node w y)) → (E.same y x || is_in E.same seen y) ≡ was_entered (phase E (enter E w x) y)
+      by (inl h) (inl q) = ap (λ b. b || is_in E.same seen y) h ∙ sym (ap (λ n. was_entered n.phase) q.1)
       by (inl h) (inr q) = absurd (not_both (E.same y x) h q.0)
       by (inr h) (inl q) = absurd (not_both (E.same y x) (subst (λ z. E.same z x ≡ true) (sym q.0) (L.own x)) h)
-      by (inr h) (inr q) = ap (λ b. b || is_in E.same seen y) h ∙ k y ∙ sym (ap (λ n. has_begun n.phase) q.1)
+      by (inr h) (inr q) = ap (λ b. b || is_in E.same seen y) h ∙ k y ∙ sym (ap (λ n. was_entered n.phase) q.1)
 
-  pub known_step : (w v : W) (seen : List N) → ((y : N) → has_begun (phase E v y) ≡ has_begun (phase E w y)) → Known w seen → Known v seen
+  pub known_step : (w v : W) (seen : List N) → ((y : N) → was_entered (phase E v y) ≡ was_entered (phase E w y)) → Known w seen → Known v seen
   known_step w v seen e k y = k y ∙ sym (e y)
 
   module _ (to : N → List N) where
     abbrev pub Fit : List N → List (Mark N) → Type 0
     Fit = Fits E.same L.own L.equal to
 
-    pub has : (w : W) (seen : List N) (x : N) → Known w seen → is_in E.same seen x ≡ true → has_begun (phase E w x) ≡ true
+    pub has : (w : W) (seen : List N) (x : N) → Known w seen → is_in E.same seen x ≡ true → was_entered (phase E w x) ≡ true
     has w seen x k h = sym (k x) ∙ h
 
     pub marks_keep : {w : W} {opened : List N} {ms : List (Mark N)} {end : End V S} {after : W} (seen : List N) → Marks E acts to w opened ms end after → Fit seen ms → Known w seen → Amid E w opened → Kept end after
     marks_keep seen done f k a = a
     marks_keep {w} {opened} seen (enters {x = x} p) f k a =
-        marks_keep (x ∷ seen) p f.1 (known_enter w seen x k) (amid_enter E L w opened x (not_begun (phase E w x) (sym (k x) ∙ f.0)) a)
+        marks_keep (x ∷ seen) p f.1 (known_enter w seen x k) (amid_enter E L w opened x (not_entered (phase E w x) (sym (k x) ∙ f.0)) a)
     marks_keep {w} {opened} seen (passes {x = x} {t = t} s n p) f k a =
         let q = amid_pass E L w opened x t (has w seen x k f.0) a in
         marks_keep seen p f.1 (known_step w (add_wait E w x (wait_on E w t)) seen q.1 k) q.0
@@ -126,10 +126,10 @@ module _ {N V W S : Type 0} (E : Evaluation N V W) (acts : Acts N V W S) (L : Is
   walks_keep : {w : W} {m : N} {end : End V S} {after : W} → Walks E acts w m (keep E w m) end after → Amid E w [] → Kept end after
   walks_keep {w} {m} p a = marks_keep (E.targets w) p.closed p.leads
       (subst (λ ms. Fit (E.targets w) p.closed ms) (append-nil p.marks) (walk_fits E.same L.own L.equal (E.targets w) p.walk.1))
-      (λ y. p.closed_is y ∙ sym (ap has_begun ((keep_like w m).phases y))) (keep_keeps w m a)
+      (λ y. p.closed_is y ∙ sym (ap was_entered ((keep_like w m).phases y))) (keep_keeps w m a)
 
   fulfill_keeps : (w : W) (p : ℕ) (h : Phase) → Amid E w [] → Amid E (fulfill_by E w p h) []
-  fulfill_keeps w p NotBegun a = a
+  fulfill_keeps w p NotEntered a = a
   fulfill_keeps w p Evaluating a = a
   fulfill_keeps w p EvaluatingAsync a = a
   fulfill_keeps w p Evaluated a = alike_keeps w (E.fulfill w p) (L.fulfill w p) a

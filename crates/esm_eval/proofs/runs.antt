@@ -3,3 +3,7 @@ pub mod Cycle
 pub mod Thrown
 pub mod Shared
 pub mod Meeting
+pub mod Fallen
+pub mod Ready
+pub mod Held
+pub mod Stopped

@@ -1,14 +1,14 @@
 -- No body begins twice.
 use Rattle.std.specs.Prelude.{◌≡◌, ◌⊎◌, Bool, true, false, List, [], ◌∷◌, Result}
 use Rattle.esm_realm.specs.Walk.{is_in}
-use Rattle.esm_eval.specs.Nodes.{NotBegun, Call, Answer, Acts, module_of}
+use Rattle.esm_eval.specs.Nodes.{NotEntered, Call, Answer, Acts, module_of}
 use Rattle.esm_eval.specs.Evaluation.{Evaluation, phase}
 use Rattle.esm_eval.specs.Waiting.{IsBetweenCalls}
 
--- no module stands twice
-abbrev pub AreDistinct : {N : Type 0} → (N → N → Bool) → List N → Type 0
-AreDistinct same [] = Unit {0}
-AreDistinct same (x ∷ xs) = (is_in same xs x ≡ false) × AreDistinct same xs
+-- each of these modules stands once
+abbrev pub EachOnce : {N : Type 0} → (N → N → Bool) → List N → Type 0
+EachOnce same [] = Unit {0}
+EachOnce same (x ∷ xs) = (is_in same xs x ≡ false) × EachOnce same xs
 
 module _ {N V W S : Type 0} (E : Evaluation N V W) (acts : Acts N V W S) where
   -- a call for a body that hasn't begun
@@ -20,8 +20,8 @@ module _ {N V W S : Type 0} (E : Evaluation N V W) (acts : Acts N V W S) where
     pub call : (w v : W) (c : Call N) (r : Result (Answer V c) S) → acts w c r v
         → (x : N) → E.begun v x ≡ true → (E.begun w x ≡ true) ⊎ (x ≡ module_of c)
 
--- between two calls a body that has begun is of a module whose evaluation has begun, and no module has two orders
-pub record IsUnbegun {N V W : Type 0} (E : Evaluation N V W) (w : W) : Type 0 where
+-- between two calls a body that has begun is of a module that an evaluation has entered, and no module has two orders
+pub record HaveBegunOnce {N V W : Type 0} (E : Evaluation N V W) (w : W) : Type 0 where
   pub between : IsBetweenCalls E w
-  pub unbegun : (x : N) → phase E w x ≡ NotBegun → E.begun w x ≡ false
-  pub distinct : AreDistinct E.same (E.stamps w)
+  pub unbegun : (x : N) → phase E w x ≡ NotEntered → E.begun w x ≡ false
+  pub distinct : EachOnce E.same (E.stamps w)

@@ -1,13 +1,13 @@
 -- Evaluating a module and all that it reaches. ECMA-262, Evaluate and InnerModuleEvaluation, mark by mark of the walk.
--- A call for a body is one step of `acts`. A stop S, as a limit, ends everything at once.
+-- A call for a body is one step of `acts`. A stop has a reason S, as a limit.
 use Rattle.std.specs.Prelude.{◌≡◌, ℕ, Bool, true, false, List, [], ◌∷◌, ◌++◌, slice_get, Some, None, Result, Ok, Err}
 use Rattle.esm_realm.specs.Walk.{Mark, Enter, Pass, Leave, is_in, IsWalkOf}
 use Rattle.esm_realm.specs.Components.{closes, opened_before, opened_from}
 use Rattle.esm_values.specs.Ran.Ran.{Normal, Thrown}
-use Rattle.esm_eval.specs.Nodes.{Phase, Evaluating, EvaluatingAsync, Evaluated, has_begun, Start, Run, Acts}
+use Rattle.esm_eval.specs.Nodes.{Phase, Evaluating, EvaluatingAsync, Evaluated, was_entered, Start, Run, Acts}
 use Rattle.esm_eval.specs.Evaluation.{Evaluation, phase, waits, is_stamped, root_of, error_of, wait_on, add_wait}
 
--- how a part of an evaluation ends
+-- ECMA-262, Completion Records: a part of an evaluation ends normally or throws. own: or a call for a body stops everything
 pub data End (V S : Type 0) : Type 0 where
   Ends : End V S
   Throws : (v : V) → End V S
@@ -81,16 +81,16 @@ module _ {N V W S : Type 0} (E : Evaluation N V W) (acts : Acts N V W S) where
         → Leaves w x Ends mid → closes E.same to opened x ≡ true
         → Marks to (close E mid x (opened_from E.same opened x)) (opened_before E.same opened x) ms end after
         → Marks to w opened (Leave x ∷ ms) end after
-    -- own: the component of x, if x is its root, hasn't closed
+    -- the body throws before the component of x closes, also where x is its root
     leave_throws : {w mid : W} {x : N} {opened : List N} {ms : List (Mark N)} (v : V)
         → Leaves w x (Throws v) mid → Marks to w opened (Leave x ∷ ms) (Throws v) (fail E mid v opened)
     leave_stops : {w mid : W} {x : N} {opened : List N} {ms : List (Mark N)} (why : S)
         → Leaves w x (Stops why) mid → Marks to w opened (Leave x ∷ ms) (Stops why) mid
 
-  -- the walk from m over the modules whose evaluation hasn't begun in w, and what its marks come to from `start` on
+  -- the walk from m over the modules that no evaluation has entered in w, and what its marks come to from `start` on
   pub record Walks (w : W) (m : N) (start : W) (end : End V S) (after : W) : Type 0 where
     pub closed : List N
-    pub closed_is : (x : N) → is_in E.same closed x ≡ has_begun (phase E w x)
+    pub closed_is : (x : N) → is_in E.same closed x ≡ was_entered (phase E w x)
     pub marks : List (Mark N)
     pub walk : IsWalkOf E.same (E.targets w) closed m marks
     pub leads : Marks (E.targets w) start [] marks end after

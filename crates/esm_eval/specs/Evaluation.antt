@@ -1,8 +1,8 @@
 -- What evaluation reads and writes of a world W: any kind of record that has these parts.
-use Rattle.std.specs.Prelude.{◌≡◌, ℕ, Bool, true, false, List, [], ◌∷◌, ◌++◌, if◌then◌else◌, Option, Some, None, Result}
+use Rattle.std.specs.Prelude.{◌≡◌, ℕ, Bool, true, false, List, [], ◌∷◌, ◌++◌, if◌then◌else◌, Option, Some, None, Result, Ok}
 use Rattle.std.specs.Option.{unwrap_or, option_or}
 use Rattle.esm_realm.specs.Walk.{is_in}
-use Rattle.esm_eval.specs.Nodes.{Phase, Evaluating, has_begun, Node, Call, Answer, Acts, module_of}
+use Rattle.esm_eval.specs.Nodes.{Phase, Evaluating, was_entered, Node, Call, Answer, Acts, module_of}
 
 pub record Evaluation (N V W : Type 0) : Type 0 where
   -- two names are the same
@@ -116,15 +116,16 @@ module _ {N V W : Type 0} (E : Evaluation N V W) where
   pub record IsSteadyCall (w : W) (m : N) (v : W) : Type 0 where
     pub nodes : (x : N) → E.node v x ≡ E.node w x
     pub stamps : E.stamps v ≡ E.stamps w
-    pub starts : E.begun v m ≡ true
     pub begun : (x : N) → E.begun w x ≡ true → E.begun v x ≡ true
-    pub awaits : (x : N) → has_begun (phase w x) ≡ true → E.awaits v x ≡ E.awaits w x
+    pub awaits : (x : N) → was_entered (phase w x) ≡ true → E.awaits v x ≡ E.awaits w x
 
   module _ {S : Type 0} (acts : Acts N V W S) where
     -- a call for a body has one outcome
     pub record HasOneOutcome : Type 0 where
       pub one : {w x y : W} {c : Call N} {r s : Result (Answer V c) S} → acts w c r x → acts w c s y → (s ≡ r) × (y ≡ x)
 
-    -- a call for a body begins it, and writes nothing that evaluation writes. It may load modules, whose evaluation hasn't begun
+    -- a call for a body that isn't stopped begins it. No call writes what evaluation writes; it may load modules, which no evaluation
+    -- has entered
     pub record IsSteady : Type 0 where
       pub call : (w v : W) (c : Call N) (r : Result (Answer V c) S) → acts w c r v → IsSteadyCall w (module_of c) v
+      pub starts : (w v : W) (c : Call N) (r : Answer V c) → acts w c (Ok r) v → E.begun v (module_of c) ≡ true

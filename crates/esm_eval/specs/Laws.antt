@@ -5,7 +5,7 @@ use Rattle.esm_eval.specs.Evaluation.{Evaluation, IsLawful, IsSteady, HasOneOutc
 use Rattle.esm_eval.specs.Evaluate.{Evaluates}
 use Rattle.esm_eval.specs.BodyEnd.{Rejects, Fulfills}
 use Rattle.esm_eval.specs.Waiting.{IsBetweenCalls, IsOpening}
-use Rattle.esm_eval.specs.Begins.{First, BeginsOne, IsUnbegun}
+use Rattle.esm_eval.specs.Begins.{First, BeginsOne, HaveBegunOnce}
 
 module _ {N V W S : Type 0} (E : Evaluation N V W) (acts : Acts N V W S) where
   -- where each call for a body has one outcome, an evaluation has one, and so has what follows the end of a body
@@ -31,14 +31,15 @@ module _ {N V W S : Type 0} (E : Evaluation N V W) (acts : Acts N V W S) where
 
   -- each call for a body that an evaluation makes, or that follows the end of a body, is of one that hasn't begun
   pub record MakesFirstCalls : Type 0 where
-    pub opening : (w : W) → IsOpening E w → ((x : N) → E.begun w x ≡ false) → IsUnbegun E w
-    pub evaluates : (w after : W) (m : N) (a : Result ℕ S) → IsUnbegun E w → Evaluates E acts w m a after
+    pub opening : (w : W) → IsOpening E w → ((x : N) → E.begun w x ≡ false) → HaveBegunOnce E w
+    pub evaluates : (w after : W) (m : N) (a : Result ℕ S) → HaveBegunOnce E w → Evaluates E acts w m a after
         → Evaluates E (First E acts) w m a after
-    pub fulfills : (w after : W) (m : N) (a : Result (Unit {0}) S) → IsUnbegun E w → Fulfills E acts w m a after
+    pub fulfills : (w after : W) (m : N) (a : Result (Unit {0}) S) → HaveBegunOnce E w → Fulfills E acts w m a after
         → Fulfills E (First E acts) w m a after
-    pub keeps_evaluates : (w after : W) (m : N) (p : ℕ) → IsUnbegun E w → Evaluates E acts w m (Ok p) after → IsUnbegun E after
-    pub keeps_fulfills : (w after : W) (m : N) → IsUnbegun E w → Fulfills E acts w m (Ok tt) after → IsUnbegun E after
-    pub keeps_rejects : (w after : W) (m : N) (v : V) → IsUnbegun E w → Rejects E w m v after → IsUnbegun E after
+    pub keeps_evaluates : (w after : W) (m : N) (p : ℕ) → HaveBegunOnce E w → Evaluates E acts w m (Ok p) after
+        → HaveBegunOnce E after
+    pub keeps_fulfills : (w after : W) (m : N) → HaveBegunOnce E w → Fulfills E acts w m (Ok tt) after → HaveBegunOnce E after
+    pub keeps_rejects : (w after : W) (m : N) (v : V) → HaveBegunOnce E w → Rejects E w m v after → HaveBegunOnce E after
 
   abbrev pub BeginsOnce : Type 0
   BeginsOnce = IsLawful E → IsSteady E acts → BeginsOne E acts → MakesFirstCalls

@@ -2,10 +2,10 @@
 use Rattle.std.specs.Prelude.{ℕ, Bool, true, false, List, [], Option, None, Result}
 use Rattle.esm_values.specs.Ran.{Ran}
 
--- how far the evaluation of a module has come. The standard's seven values of [[Status]] are read off thus: where evaluation hasn't
--- begun it is new, unlinked, linking or linked, as loading and linking say; evaluating, evaluating-async and evaluated are the rest
+-- how far the evaluation of a module has come. The standard's seven values of [[Status]] are read off thus: a module that no evaluation
+-- has entered is new, unlinked, linking or linked, as loading and linking say; evaluating, evaluating-async and evaluated are the rest
 pub data Phase : Type 0 where
-  NotBegun : Phase
+  NotEntered : Phase
   Evaluating : Phase
   EvaluatingAsync : Phase
   Evaluated : Phase
@@ -30,7 +30,7 @@ pub record Node (N V : Type 0) : Type 0 where
 -- a module of which evaluation has written nothing
 abbrev pub untouched : {N V : Type 0} → Node N V
 untouched = record {
-  phase = NotBegun;
+  phase = NotEntered;
   error = None;
   cycle_root = None;
   promise = None;
@@ -39,9 +39,9 @@ untouched = record {
   waiters = [];
 }
 
-abbrev pub has_begun : Phase → Bool
-has_begun NotBegun = false
-has_begun _ = true
+abbrev pub was_entered : Phase → Bool
+was_entered NotEntered = false
+was_entered _ = true
 
 -- the calls for a body: one that awaits is started, with the id of the promise that its end settles; any other runs to its end
 pub data Call (N : Type 0) : Type 0 where

@@ -1,5 +1,5 @@
--- A world of four modules, for worked examples: a body that begins writes its module's name, and does nothing else.
-use Rattle.std.specs.Prelude.{◌≡◌, Bool, true, false, List, [], ◌∷◌, ◌++◌, length, slice_set, Ok}
+-- A world of four modules, for worked examples: a body that begins writes its module's name.
+use Rattle.std.specs.Prelude.{◌≡◌, ℕ, Bool, true, false, List, [], ◌∷◌, ◌++◌, length, slice_set, ◌||◌, if◌then◌else◌, Result, Ok, Err}
 use Rattle.std.specs.List.{list_any}
 use Rattle.esm_values.specs.Ran.Ran.{Normal, Thrown}
 use Rattle.esm_values.specs.Ran.{Ran}
@@ -48,11 +48,19 @@ pub record Small : Type 0 where
   pub stamps : List Name
   -- in order of their ids
   pub promises : List Promise
+  -- the ids of those that were settled, in that order
+  pub settled : List ℕ
   -- the modules whose bodies began, in that order
   pub log : List Name
 
 abbrev pub opening : Small
-opening = record { nodes = record { a = untouched; b = untouched; c = untouched; d = untouched }; stamps = []; promises = []; log = [] }
+opening = record {
+  nodes = record { a = untouched; b = untouched; c = untouched; d = untouched };
+  stamps = [];
+  promises = [];
+  settled = [];
+  log = [];
+}
 
 abbrev pub with_promise : Small → Small
 with_promise w = record w { promises = w.promises ++ Pending ∷ [] }
@@ -74,21 +82,48 @@ small targets awaits = record {
   next_promise = λ w. length w.promises;
   make_promise = with_promise;
   make_body_promise = λ w m. with_promise w;
-  fulfill = λ w p. record w { promises = slice_set w.promises p Fulfilled };
-  reject = λ w p v. record w { promises = slice_set w.promises p (Rejected v) };
+  fulfill = λ w p. record w { promises = slice_set w.promises p Fulfilled; settled = w.settled ++ p ∷ [] };
+  reject = λ w p v. record w { promises = slice_set w.promises p (Rejected v); settled = w.settled ++ p ∷ [] };
 }
 
-abbrev pub ran_by : Bool → Name → Ran Name
-ran_by true m = Thrown m
-ran_by false m = Normal
+-- what a call for a body comes to
+pub data Body : Type 0 where
+  -- the body runs to its end, or to its first await
+  Runs : Body
+  -- it throws its module's name
+  Fails : Body
+  -- a limit stops the call before the body has begun
+  Halts : Body
 
--- what the calls for bodies do, where these modules' bodies throw, each its module's name
-abbrev pub Writes : (Name → Bool) → Acts Name Name Small (Unit {0})
-Writes throws w (Start m end) r after = (r ≡ Ok tt) × (after ≡ with_line w m)
-Writes throws w (Run m) r after = (r ≡ Ok (ran_by (throws m) m)) × (after ≡ with_line w m)
+abbrev pub StartIs : Body → Small → Name → Result (Unit {0}) (Unit {0}) → Small → Type 0
+StartIs Runs w m r after = (r ≡ Ok tt) × (after ≡ with_line w m)
+StartIs Fails w m r after = (r ≡ Ok tt) × (after ≡ with_line w m)
+StartIs Halts w m r after = (r ≡ Err tt) × (after ≡ w)
+
+abbrev pub RunIs : Body → Small → Name → Result (Ran Name) (Unit {0}) → Small → Type 0
+RunIs Runs w m r after = (r ≡ Ok Normal) × (after ≡ with_line w m)
+RunIs Fails w m r after = (r ≡ Ok (Thrown m)) × (after ≡ with_line w m)
+RunIs Halts w m r after = (r ≡ Err tt) × (after ≡ w)
+
+-- the calls for bodies, where the bodies of the modules are these
+abbrev pub Writes : (Name → Body) → Acts Name Name Small (Unit {0})
+Writes bodies w (Start m end) r after = StartIs (bodies m) w m r after
+Writes bodies w (Run m) r after = RunIs (bodies m) w m r after
+
+abbrev pub all_run : Name → Body
+all_run m = Runs
+
+abbrev pub fails : Name → Name → Body
+fails x m = if same_name x m then Fails else Runs
+
+abbrev pub halts : Name → Name → Body
+halts x m = if same_name x m then Halts else Runs
 
 abbrev pub none : Name → Bool
 none m = false
 
 abbrev pub only : Name → Name → Bool
 only x m = same_name x m
+
+abbrev pub both : Name → Name → Name → Bool
+both x y m = same_name x m || same_name y m
