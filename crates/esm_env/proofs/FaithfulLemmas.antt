@@ -45,16 +45,16 @@ module _ (g : Modules ℕ) (e : Scopes) (faithful : IsFaithful g e) where
   target_right (Some (targets.Cell m x)) h = ap read_cell (own_right m.0 h.0 x h.1)
   target_right (Some (targets.Whole m)) h = rw h.1 (ap (λ v. reading.Value v) (faithful m.0 h.0 h.1).namespace)
 
-  reads_by : (m : ℕ) (s : ModuleScope) (x : List ℕ) → scope_in e m ≡ Some s → (c : Option (Cell Worth)) → c ≡ cell_at g (cells_of e) m x → IsReadingOf g (cells_of e) m x (read_or c (read_import e (import_in s.imports.items x)))
-  reads_by m s x h (Some c) k = own c (sym k)
-  reads_by m s x h None k =
+  reads_by : (m : ℕ) (s : ModuleScope) (x : List ℕ) → scope_in e m ≡ Some s → IsReached e (import_in s.imports.items x) → (c : Option (Cell Worth)) → c ≡ cell_at g (cells_of e) m x → IsReadingOf g (cells_of e) m x (read_or c (read_import e (import_in s.imports.items x)))
+  reads_by m s x h reached (Some c) k = own c (sym k)
+  reads_by m s x h reached None k =
       let at = faithful m s h in
-      rw (target_right (import_in s.imports.items x) (at.reached x)) (bound (sym k) (at.bound x))
+      rw (target_right (import_in s.imports.items x) reached) (bound (sym k) (at.bound x))
 
-  pub reads : (m : ℕ) (s : ModuleScope) (x : List ℕ) → scope_in e m ≡ Some s → IsReadingOf g (cells_of e) m x (read_in e m x)
-  reads m s x h =
+  pub reads : (m : ℕ) (s : ModuleScope) (x : List ℕ) → scope_in e m ≡ Some s → IsReached e (import_of (scope_in e m) x) → IsReadingOf g (cells_of e) m x (read_in e m x)
+  reads m s x h reached =
       let P : Option ModuleScope → Type 0 = λ o. IsReadingOf g (cells_of e) m x (read_or (own_cell e m x) (read_import e (import_of o x))) in
-      subst P (sym h) (reads_by m s x h (own_cell e m x) (own_right m s x h))
+      subst P (sym h) (reads_by m s x h (subst (λ o. IsReached e (import_of o x)) h reached) (own_cell e m x) (own_right m s x h))
 
 pub reads_right : ReadsRight
-reads_right g e m s x f h = reads g e f m s x h
+reads_right g e m s x f h reached = reads g e f m s x h reached

@@ -32,20 +32,19 @@ target_in None = None
 target_in (Some (targets.Cell m x)) = Some (names.CellOf m.0 x)
 target_in (Some (targets.Whole m)) = Some (names.WholeOf m.0)
 
--- what an import is bound to has a scope
+-- what an import is bound to has a scope. A module whose linking was refused may have one in which this isn't so
 abbrev pub IsReached : Scopes → Option Target → Type 0
 IsReached e None = Unit {0}
 IsReached e (Some (targets.Cell m x)) = (s : ModuleScope) × (scope_in e m.0 ≡ Some s)
 IsReached e (Some (targets.Whole m)) = (s : ModuleScope) × (scope_in e m.0 ≡ Some s)
 
-pub record IsFaithfulAt (g : Modules ℕ) (e : Scopes) (m : ℕ) (s : ModuleScope) : Type 0 where
+pub record IsFaithfulAt (g : Modules ℕ) (m : ℕ) (s : ModuleScope) : Type 0 where
   pub slots : (x : List ℕ) → SlotFits m (slot_in s.slots.items x) (initial (g.tree m) x)
   pub bound : (x : List ℕ) → Binds g m x (target_in (import_in s.imports.items x))
-  pub reached : (x : List ℕ) → IsReached e (import_in s.imports.items x)
   pub namespace : value_of s.namespace ≡ Namespace m
 
 abbrev pub IsFaithful : Modules ℕ → Scopes → Type 0
-IsFaithful g e = (m : ℕ) (s : ModuleScope) → scope_in e m ≡ Some s → IsFaithfulAt g e m s
+IsFaithful g e = (m : ℕ) (s : ModuleScope) → scope_in e m ≡ Some s → IsFaithfulAt g m s
 
 abbrev pub told : Wrote → Cells ℕ → Writing ℕ
 told wrote.Done cells = writing.Done cells

@@ -10,9 +10,9 @@ use Rattle.esm_env.specs.Cells.{Reading as reading}
 use Rattle.esm_env.specs.Bindings.{Target, Binds}
 use Rattle.esm_env.specs.Reading.{IsReadingOf, IsMemberOf}
 use Rattle.esm_env.specs.Slots.{slot_in}
-use Rattle.esm_env.specs.Scopes.{Scopes, scope_in, cells_of, read_in}
+use Rattle.esm_env.specs.Scopes.{Scopes, scope_in, import_of, cells_of, read_in}
 use Rattle.esm_env.specs.Makes.{slots_for}
-use Rattle.esm_env.specs.Faithful.{IsFaithful, SlotFits}
+use Rattle.esm_env.specs.Faithful.{IsFaithful, IsReached, SlotFits}
 use Rattle.esm_env.specs.declared.scope.ModuleScope.{ModuleScope}
 
 -- an import is bound to one thing at most, and a name, and a member of a namespace, reads as one thing
@@ -24,10 +24,11 @@ pub record ReadsOne : Type 0 where
   pub one_member : (g : Modules ℕ) (cells : Cells ℕ) (m : ℕ) (x : List ℕ) (one other : Reading (Value ℕ))
       → IsMemberOf g cells m x one → IsMemberOf g cells m x other → one ≡ other
 
--- what the code reads is what the name reads as
+-- what the code reads is what the name reads as, where an import of this name is bound to what has a scope
 abbrev pub ReadsRight : Type 0
 ReadsRight = (g : Modules ℕ) (e : Scopes) (m : ℕ) (s : ModuleScope) (x : List ℕ)
-    → IsFaithful g e → scope_in e m ≡ Some s → IsReadingOf g (cells_of e) m x (read_in e m x)
+    → IsFaithful g e → scope_in e m ≡ Some s → IsReached e (import_of (scope_in e m) x)
+    → IsReadingOf g (cells_of e) m x (read_in e m x)
 
 -- a scope that was made from the tree fits it
 abbrev pub MadeFits : Type 0

@@ -1,9 +1,9 @@
 -- What is settled stays settled as it is, and each job is that of a settled promise.
-use Rattle.std.proofs.Common.{◌≡◌, ℕ, zero, suc, true, List, [], ◌∷◌, ◌++◌, map, refl, ap, Option, Some, None, slice_get, slice_set}
+use Rattle.std.proofs.Common.{◌≡◌, ℕ, zero, suc, true, List, [], ◌∷◌, ◌++◌, map, refl, ap, subst, Option, Some, None, slice_get, slice_set}
 use Rattle.std.specs.Prelude.{is_some}
 use Rattle.esm_values.specs.Value.{Value}
 use Rattle.esm_promise.specs.Reactions.{Reaction}
-use Rattle.esm_promise.specs.Promises.{Promise, Pending, Done, Job, job, Settled, Fulfilled, make, register, register_by, settle, settled, settled_by, triggered, is_pending, is_pending_by}
+use Rattle.esm_promise.specs.Promises.{Promise, Pending, Done, Job, job, Settled, Fulfilled, Promises, make, make_fulfilled, first_job, register, register_by, settle, settled, settled_by, triggered, is_pending, is_pending_by}
 use Rattle.esm_promise.specs.Laws.{Numbered, AreSettled, StaysSettled, SettlesOnce, JobsAreOfSettled}
 
 abbrev Row : Type 0
@@ -83,12 +83,24 @@ triggers ps p h None = tt
 triggers ps p h (Some (Pending rs)) = all_of ps p h rs
 triggers ps p h (Some (Done how)) = tt
 
+-- the job that is taken, and those that are left
+taken_by : (ps left : Numbered) (j : Job (Reaction ℕ)) (jobs : List (Job (Reaction ℕ))) → first_job jobs ps ≡ Some (j, left) → AreSettled ps jobs → (is_some (settled left j.promise) ≡ true) × AreSettled left left.jobs
+taken_by ps left j [] e h = cc
+taken_by ps left j (next ∷ jobs) e h =
+    let now : Numbered = record ps { jobs = jobs } in
+    let one : (next, now) ≡ (j, left) = cc in
+    let both : (is_some (settled now next.promise) ≡ true) × AreSettled now jobs = (h.0, stay ps now (λ p how k. k) jobs h.1) in
+    subst (λ (t : Job (Reaction ℕ) × Numbered). (is_some (settled t.1 t.0.promise) ≡ true) × AreSettled t.1 t.1.jobs) one both
+
 pub jobs_are_of_settled : JobsAreOfSettled
 jobs_are_of_settled = record {
+  none = tt;
   made = λ ps rs h. stay ps (make ps rs) (settles_once.made ps rs) ps.jobs h;
   registered = λ ps p r h. jobs_registered ps p r (slice_get ps.all p) refl (registered ps p r) h;
   settles = λ ps p how k h.
       let now = settle ps p how in
       more now ps.jobs (triggered p (slice_get ps.all p)) (stay ps now (settles ps p how k) ps.jobs h)
       (triggers now p (ap is_some (set_there ps.all p how k)) (slice_get ps.all p));
+  made_fulfilled = λ ps v h. stay ps (make_fulfilled ps v) (settles_once.made_fulfilled ps v) ps.jobs h;
+  taken = λ ps left j e h. taken_by ps left j ps.jobs e h;
 }

@@ -34,7 +34,7 @@ module _ {R V : Type 0} where
   abbrev pub next_promise : Promises R V → ℕ
   next_promise ps = length ps.all
 
-  -- ECMA-262, NewPromiseCapability: a pending promise, with these reactions
+  -- ECMA-262, NewPromiseCapability: a pending promise. own: with reactions that it has from the beginning
   abbrev pub make : Promises R V → List R → Promises R V
   make ps reactions = record ps { all = ps.all ++ Pending reactions ∷ [] }
 
@@ -61,9 +61,14 @@ module _ {R V : Type 0} where
   abbrev pub register : Promises R V → ℕ → R → Promises R V
   register ps p r = register_by (slice_get ps.all p) ps p r
 
-  -- the promises once these jobs are left
-  abbrev pub with_jobs : Promises R V → List (Job R) → Promises R V
-  with_jobs ps jobs = record ps { jobs = jobs }
+  abbrev pub first_job : List (Job R) → Promises R V → Option (Job R × Promises R V)
+  first_job [] ps = None
+  first_job (next ∷ jobs) ps = Some (next, record ps { jobs = jobs })
+
+  -- the job that runs next, and what is left. ECMA-262, Jobs and Host Operations to Enqueue Jobs: in the order in which they
+  -- were added
+  abbrev pub next_job : Promises R V → Option (Job R × Promises R V)
+  next_job ps = first_job ps.jobs ps
 
 abbrev pub settled_by : {R V : Type 0} → Option (Promise R V) → Option (Settled V)
 settled_by None = None
