@@ -1,3 +1,4 @@
+pub mod Exports
 pub mod Fetches
 pub mod Inner
 pub mod Pages

@@ -1,5 +1,7 @@
 //! What a linter or a bundler wants to know: which binding a name denotes, over modules that it holds itself.
-ghost use Rattle.std.specs.Prelude.{◌≡◌, ◌<◌, IfOk, IfSome, IsSome, length};
+ghost use Rattle.std.specs.Prelude.{◌≡◌, ◌<◌, IfErr, IfOk, IfSome, IsSome, length};
+ghost use Rattle.esm_ast.specs.Script.{IsScriptOf};
+ghost use Rattle.esm_examples.specs.Exports.{IsUnusable};
 ghost use Rattle.esm_resolve.specs.Graph.{AreAllSound};
 ghost use Rattle.esm_resolve.specs.Resolution.{IsResolutionOf, pair_of};
 
@@ -29,7 +31,10 @@ pub enum Unusable {
 
 impl Module {
     /// The module with these bytes, whose requests, in order of first appearance, lead to these modules.
-    pub fn read(alloc: Global, bytes: Vec<u8>, targets: Vec<u32>) -> Result<Module, End<Unusable>> {
+    pub fn read(alloc: Global, bytes: Vec<u8>, targets: Vec<u32>) -> Result<Module, End<Unusable>>
+        ensures held { IfOk result (λ m. IsScriptOf bytes.items m.script × (m.targets ≡ targets)) }
+        ensures refused { IfErr result (IsUnusable bytes.items targets.items) }
+    {
         match read_script(alloc, bytes) {
             Ok(script) => {
                 if script.entries().requests().len() != targets.len() {
