@@ -5,9 +5,9 @@ use Rattle.std.specs.Option.{unwrap_or}
 use Rattle.esm_realm.specs.Walk.{is_in}
 use Rattle.esm_realm.proofs.Urls.{cases, not_true, not_both}
 use Rattle.esm_realm.proofs.Lists.{either, in_first, in_later, in_cons}
-use Rattle.esm_eval.specs.Nodes.{NotEntered, EvaluatingAsync, Evaluated, was_entered, Node, Acts}
+use Rattle.esm_eval.specs.Nodes.{NotEntered, EvaluatingAsync, Evaluated, was_entered, Node, BodyCalls}
 use Rattle.esm_eval.specs.Evaluation.{Evaluation, IsLawful, IsSteady, IsSteadyCall, IsAlike, phase, waits, waiters, is_done, is_stamped, root_of, fulfill_kept, reject_kept}
-use Rattle.esm_eval.specs.Evaluate.{Ends, Throws, StartsBody, RunsBody}
+use Rattle.esm_eval.specs.Evaluate.{Ends, Throws, ExecutesAsync, Executes}
 use Rattle.esm_eval.specs.BodyEnd.{IsReady, AreOver, ReadyAmong, Rejects, RejectsAll, GoOn, Fulfills, finish, refuse}
 use Rattle.esm_eval.specs.Waiting.{HasOpenWait, IsBetweenCalls}
 use Rattle.esm_eval.proofs.Amid.{In, root_error, in_like, HasGrown}
@@ -253,12 +253,12 @@ module _ {N V W : Type 0} (E : Evaluation N V W) where
           (λ k. inr (either k (λ j. inl (in_later E.same L.own L.equal x xs y j.0, sym (o.later.awaits y (b y j.0)) ∙ j.1)) (λ j. inr (over_from v o.later y j))));
     }
 
-module _ {N V W S : Type 0} (E : Evaluation N V W) (acts : Acts N V W S) (L : IsLawful E) (steady : IsSteady E acts) where
+module _ {N V W S : Type 0} (E : Evaluation N V W) (acts : BodyCalls N V W S) (L : IsLawful E) (steady : IsSteady E acts) where
   later_call : (w v : W) (m : N) → IsSteadyCall E w m v → Later E w v
   later_call w v m s = later_nodes E w v s.nodes (record { stamps = s.stamps; begun = s.begun }) s.awaits
 
-  one_start : (w v : W) (x : N) → StartsBody E acts w x Ends v → One E L w v x
-  one_start w v x (StartsBody.starts p) =
+  one_start : (w v : W) (x : N) → ExecutesAsync E acts w x Ends v → One E L w v x
+  one_start w v x (ExecutesAsync.starts p) =
       let s = steady.call _ _ _ _ p in
       let l = L.make_body_promise w x in
       record {
@@ -267,8 +267,8 @@ module _ {N V W S : Type 0} (E : Evaluation N V W) (acts : Acts N V W S) (L : Is
         dones = λ y h. inl (sym (ap (λ n. n.done) (s.nodes y ∙ l.nodes y)) ∙ h);
       }
 
-  one_run : (w v : W) (x : N) → E.awaits w x ≡ false → RunsBody E acts w x Ends v → One E L w (finish E v x) x
-  one_run w v x o (RunsBody.ends p) =
+  one_run : (w v : W) (x : N) → E.awaits w x ≡ false → Executes E acts w x Ends v → One E L w (finish E v x) x
+  one_run w v x o (Executes.ends p) =
       let s = steady.call _ _ _ _ p in
       let f = finished E L v x in
       record {
@@ -277,8 +277,8 @@ module _ {N V W S : Type 0} (E : Evaluation N V W) (acts : Acts N V W S) (L : Is
         dones = λ y h. either (f.dones y h) (λ d. inl (sym (ap (λ n. n.done) (s.nodes y)) ∙ d)) (λ e. inr (inl (e, subst (λ z. E.awaits w z ≡ false) (sym e) o)));
       }
 
-  one_throw : (w v late : W) (x : N) (u : V) → RunsBody E acts w x (Throws u) v → Rejects E v x u late → One E L w late x
-  one_throw w v late x u (RunsBody.throws _ p) r =
+  one_throw : (w v late : W) (x : N) (u : V) → Executes E acts w x (Throws u) v → Rejects E v x u late → One E L w late x
+  one_throw w v late x u (Executes.throws _ p) r =
       let s = steady.call _ _ _ _ p in
       let q = rejects_go E L r in
       let l = later_call w v x s in

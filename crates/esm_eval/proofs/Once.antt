@@ -7,9 +7,9 @@ use Rattle.esm_realm.specs.Components.{opened_from}
 use Rattle.esm_realm.proofs.Urls.{not_true, not_both}
 use Rattle.esm_realm.proofs.Lists as lists
 use Rattle.esm_realm.proofs.Lists.{either, in_first, in_later, in_cons}
-use Rattle.esm_eval.specs.Nodes.{Phase, NotEntered, Evaluating, EvaluatingAsync, Evaluated, was_entered, Node, Acts}
+use Rattle.esm_eval.specs.Nodes.{Phase, NotEntered, Evaluating, EvaluatingAsync, Evaluated, was_entered, Node, BodyCalls}
 use Rattle.esm_eval.specs.Evaluation.{Evaluation, IsLawful, IsSteady, IsAlike, phase, is_stamped, add_wait, wait_on, put_wait}
-use Rattle.esm_eval.specs.Evaluate.{End, Ends, Throws, Stops, StartsBody, RunsBody, Leaves, Marks, Walks, EvaluatesRoot, Evaluates, enter, close, fail, keep, fulfill_by, closed_phase}
+use Rattle.esm_eval.specs.Evaluate.{End, Ends, Throws, Stops, ExecutesAsync, Executes, Leaves, Marks, Walks, EvaluatesRoot, Evaluates, enter, close, fail, keep, fulfill_by, closed_phase}
 use Rattle.esm_eval.specs.Evaluate.Marks.{done, enters, passes, pass_throws, stays, component, leave_throws, leave_stops}
 use Rattle.esm_eval.specs.Begins.{EachOnce, First, BeginsOne, HaveBegunOnce}
 use Rattle.esm_eval.proofs.Fits.{Fits, walk_fits}
@@ -144,15 +144,15 @@ module _ {N V W : Type 0} (E : Evaluation N V W) (L : IsLawful E) where
       let after : W = close E w x (opened_from E.same opened x) in
       calm_on w after path (quiet_close x (opened_from E.same opened x) w) (back_of w after (close_known E L w opened x a)) c
 
-module _ {N V W S : Type 0} (E : Evaluation N V W) (acts : Acts N V W S) (L : IsLawful E) (steady : IsSteady E acts) (one : BeginsOne E acts) where
-  pub once_run : {w : W} {x : N} {end : End V S} {mid : W} → RunsBody E acts w x end mid → E.begun w x ≡ false → RunsBody E (First E acts) w x end mid
-  once_run (RunsBody.ends p) b = RunsBody.ends (b, p)
-  once_run (RunsBody.throws v p) b = RunsBody.throws v (b, p)
-  once_run (RunsBody.stops why p) b = RunsBody.stops why (b, p)
+module _ {N V W S : Type 0} (E : Evaluation N V W) (acts : BodyCalls N V W S) (L : IsLawful E) (steady : IsSteady E acts) (one : BeginsOne E acts) where
+  pub once_run : {w : W} {x : N} {end : End V S} {mid : W} → Executes E acts w x end mid → E.begun w x ≡ false → Executes E (First E acts) w x end mid
+  once_run (Executes.ends p) b = Executes.ends (b, p)
+  once_run (Executes.throws v p) b = Executes.throws v (b, p)
+  once_run (Executes.stops why p) b = Executes.stops why (b, p)
 
-  pub once_start : {w : W} {x : N} {end : End V S} {mid : W} → StartsBody E acts w x end mid → E.begun w x ≡ false → StartsBody E (First E acts) w x end mid
-  once_start {w} {x} (StartsBody.starts p) b = StartsBody.starts ((L.make_body_promise w x).begun x ∙ b, p)
-  once_start {w} {x} (StartsBody.stops why p) b = StartsBody.stops why ((L.make_body_promise w x).begun x ∙ b, p)
+  pub once_start : {w : W} {x : N} {end : End V S} {mid : W} → ExecutesAsync E acts w x end mid → E.begun w x ≡ false → ExecutesAsync E (First E acts) w x end mid
+  once_start {w} {x} (ExecutesAsync.starts p) b = ExecutesAsync.starts ((L.make_body_promise w x).begun x ∙ b, p)
+  once_start {w} {x} (ExecutesAsync.stops why p) b = ExecutesAsync.stops why ((L.make_body_promise w x).begun x ∙ b, p)
 
   once_leave : {w : W} {x : N} {end : End V S} {mid : W} → Leaves E acts w x end mid → E.begun w x ≡ false → Leaves E (First E acts) w x end mid
   once_leave (Leaves.runs n o r) b = Leaves.runs n o (once_run r b)
@@ -165,10 +165,10 @@ module _ {N V W S : Type 0} (E : Evaluation N V W) (acts : Acts N V W S) (L : Is
     pub stamps : E.stamps v ≡ E.stamps w
     pub begun : (y : N) → E.begun v y ≡ true → (E.begun w y ≡ true) ⊎ (y ≡ x)
 
-  pub run_of : {w : W} {x : N} {end : End V S} {mid : W} → RunsBody E acts w x end mid → CallOf w mid x
-  run_of (RunsBody.ends p) = let s = steady.call _ _ _ _ p in record { nodes = s.nodes; stamps = s.stamps; begun = one.call _ _ _ _ p }
-  run_of (RunsBody.throws v p) = let s = steady.call _ _ _ _ p in record { nodes = s.nodes; stamps = s.stamps; begun = one.call _ _ _ _ p }
-  run_of (RunsBody.stops why p) = let s = steady.call _ _ _ _ p in record { nodes = s.nodes; stamps = s.stamps; begun = one.call _ _ _ _ p }
+  pub run_of : {w : W} {x : N} {end : End V S} {mid : W} → Executes E acts w x end mid → CallOf w mid x
+  run_of (Executes.ends p) = let s = steady.call _ _ _ _ p in record { nodes = s.nodes; stamps = s.stamps; begun = one.call _ _ _ _ p }
+  run_of (Executes.throws v p) = let s = steady.call _ _ _ _ p in record { nodes = s.nodes; stamps = s.stamps; begun = one.call _ _ _ _ p }
+  run_of (Executes.stops why p) = let s = steady.call _ _ _ _ p in record { nodes = s.nodes; stamps = s.stamps; begun = one.call _ _ _ _ p }
 
   behind_promise : (w v : W) (x : N) → CallOf (E.make_body_promise w x) v x → CallOf w v x
   behind_promise w v x c =
@@ -179,9 +179,9 @@ module _ {N V W S : Type 0} (E : Evaluation N V W) (acts : Acts N V W S) (L : Is
         begun = λ y h. either (c.begun y h) (λ k. inl (sym (l.begun y) ∙ k)) inr;
       }
 
-  pub start_of : {w : W} {x : N} {end : End V S} {mid : W} → StartsBody E acts w x end mid → CallOf w mid x
-  start_of {w} {x} {mid = mid} (StartsBody.starts p) = let s = steady.call _ _ _ _ p in behind_promise w mid x (record { nodes = s.nodes; stamps = s.stamps; begun = one.call _ _ _ _ p })
-  start_of {w} {x} {mid = mid} (StartsBody.stops why p) = let s = steady.call _ _ _ _ p in behind_promise w mid x (record { nodes = s.nodes; stamps = s.stamps; begun = one.call _ _ _ _ p })
+  pub start_of : {w : W} {x : N} {end : End V S} {mid : W} → ExecutesAsync E acts w x end mid → CallOf w mid x
+  start_of {w} {x} {mid = mid} (ExecutesAsync.starts p) = let s = steady.call _ _ _ _ p in behind_promise w mid x (record { nodes = s.nodes; stamps = s.stamps; begun = one.call _ _ _ _ p })
+  start_of {w} {x} {mid = mid} (ExecutesAsync.stops why p) = let s = steady.call _ _ _ _ p in behind_promise w mid x (record { nodes = s.nodes; stamps = s.stamps; begun = one.call _ _ _ _ p })
 
   left_stamp : (w : W) (x : N) → is_stamped E w x ≡ false → EachOnce E.same (E.stamps w) → LeftBy E L w (E.add_stamp w x) x
   left_stamp w x u d =

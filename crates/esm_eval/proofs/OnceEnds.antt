@@ -4,7 +4,7 @@ use Rattle.std.specs.Prelude.{◌⊎◌, Result, Ok}
 use Rattle.esm_realm.specs.Walk.{is_in}
 use Rattle.esm_realm.proofs.Urls.{not_true, not_both}
 use Rattle.esm_realm.proofs.Lists.{either, in_first, in_later, in_cons}
-use Rattle.esm_eval.specs.Nodes.{NotEntered, Evaluated, was_entered, Acts}
+use Rattle.esm_eval.specs.Nodes.{NotEntered, Evaluated, was_entered, BodyCalls}
 use Rattle.esm_eval.specs.Evaluation.{Evaluation, IsLawful, IsSteady, phase}
 use Rattle.esm_eval.specs.BodyEnd.{IsReady, ReadyAmong, Rejects, RejectsAll, GoOn, Fulfills, finish, refuse}
 use Rattle.esm_eval.specs.Begins.{EachOnce, First, BeginsOne, HaveBegunOnce}
@@ -69,7 +69,7 @@ module _ {N V W : Type 0} (E : Evaluation N V W) (L : IsLawful E) where
   rest_unbegun w u x xs d b k y h = not_true (E.begun u y) (λ i. either (k.begun y i) (λ j. not_both (E.begun w y) j (b y (in_later E.same L.own L.equal x xs y h)))
       (λ j. either (in_cons E.same L.own L.equal x [] y j) (λ e. not_both (is_in E.same xs x) (subst (λ z. In E xs z) e h) d.0) (λ z. cc)))
 
-module _ {N V W S : Type 0} (E : Evaluation N V W) (acts : Acts N V W S) (L : IsLawful E) (steady : IsSteady E acts) (one : BeginsOne E acts) where
+module _ {N V W S : Type 0} (E : Evaluation N V W) (acts : BodyCalls N V W S) (L : IsLawful E) (steady : IsSteady E acts) (one : BeginsOne E acts) where
   began_call : (w v : W) (x : N) → CallOf E acts L steady one w v x → Began E L w v (x ∷ [])
   began_call w v x c = record { stamps = c.stamps; begun = λ y h. either (c.begun y h) inl (λ e. inr (subst (λ z. In E (x ∷ []) z) (sym e) (in_first E.same L.own L.equal x []))) }
 
@@ -145,7 +145,7 @@ module _ {N V W S : Type 0} (E : Evaluation N V W) (acts : Acts N V W S) (L : Is
   fulfills_keeps_unbegun w after m u (Fulfills.over h) = u
   fulfills_keeps_unbegun w after m u (Fulfills.goes_on {xs = xs} n r p) = went_unbegun w after m xs u (Fulfills.goes_on n r p) r p
 
-module _ {N V W S : Type 0} (E : Evaluation N V W) (acts : Acts N V W S) where
+module _ {N V W S : Type 0} (E : Evaluation N V W) (acts : BodyCalls N V W S) where
   pub begins_once : BeginsOnce E acts
   begins_once L steady one = record {
     opening = λ w o b. record { between = opens E acts w o; unbegun = λ x h. b x; distinct = subst (λ xs. EachOnce E.same xs) (sym o.stamps) tt };

@@ -4,9 +4,9 @@ use Rattle.std.specs.Prelude.{Result, Ok, Err}
 use Rattle.esm_realm.specs.Walk.{Mark}
 use Rattle.esm_realm.specs.Components.{opened_from}
 use Rattle.esm_realm.proofs.OneWalk.{walk_alike}
-use Rattle.esm_eval.specs.Nodes.{Acts}
+use Rattle.esm_eval.specs.Nodes.{BodyCalls}
 use Rattle.esm_eval.specs.Evaluation.{Evaluation, HasOneOutcome, phase, error_of, add_wait, wait_on}
-use Rattle.esm_eval.specs.Evaluate.{End, Throws, Stops, StartsBody, RunsBody, Leaves, Marks, Walks, EvaluatesRoot, Evaluates, close, fail, keep, fulfill_by}
+use Rattle.esm_eval.specs.Evaluate.{End, Throws, Stops, ExecutesAsync, Executes, Leaves, Marks, Walks, EvaluatesRoot, Evaluates, close, fail, keep, fulfill_by}
 use Rattle.esm_eval.specs.Evaluate.Marks.{done, enters, passes, pass_throws, stays, component, leave_throws, leave_stops}
 use Rattle.esm_eval.specs.BodyEnd.{ReadyAmong, Rejects, RejectsAll, GoOn, Fulfills, finish}
 use Rattle.esm_eval.specs.Laws.{OneEvaluation}
@@ -36,23 +36,23 @@ module _ {N V W : Type 0} (E : Evaluation N V W) where
 target_one : {A : Type 0} {o : Option A} {s t : A} → o ≡ Some s → o ≡ Some t → s ≡ t
 target_one p q = cc
 
-module _ {N V W S : Type 0} (E : Evaluation N V W) (acts : Acts N V W S) (h : HasOneOutcome E acts) where
-  starts_one : {w : W} {m : N} {a b : End V S} {x y : W} → StartsBody E acts w m a x → StartsBody E acts w m b y → (b ≡ a) × (y ≡ x)
-  starts_one (StartsBody.starts p) (StartsBody.starts q) = (refl, (h.one p q).1)
-  starts_one (StartsBody.starts p) (StartsBody.stops why q) = let k = h.one p q in absurd cc
-  starts_one (StartsBody.stops why p) (StartsBody.starts q) = let k = h.one p q in absurd cc
-  starts_one (StartsBody.stops why p) (StartsBody.stops why' q) = let k = h.one p q in let e : why' ≡ why = cc in (ap (λ why. Stops why) e, k.1)
+module _ {N V W S : Type 0} (E : Evaluation N V W) (acts : BodyCalls N V W S) (h : HasOneOutcome E acts) where
+  starts_one : {w : W} {m : N} {a b : End V S} {x y : W} → ExecutesAsync E acts w m a x → ExecutesAsync E acts w m b y → (b ≡ a) × (y ≡ x)
+  starts_one (ExecutesAsync.starts p) (ExecutesAsync.starts q) = (refl, (h.one p q).1)
+  starts_one (ExecutesAsync.starts p) (ExecutesAsync.stops why q) = let k = h.one p q in absurd cc
+  starts_one (ExecutesAsync.stops why p) (ExecutesAsync.starts q) = let k = h.one p q in absurd cc
+  starts_one (ExecutesAsync.stops why p) (ExecutesAsync.stops why' q) = let k = h.one p q in let e : why' ≡ why = cc in (ap (λ why. Stops why) e, k.1)
 
-  runs_one : {w : W} {m : N} {a b : End V S} {x y : W} → RunsBody E acts w m a x → RunsBody E acts w m b y → (b ≡ a) × (y ≡ x)
-  runs_one (RunsBody.ends p) (RunsBody.ends q) = (refl, (h.one p q).1)
-  runs_one (RunsBody.ends p) (RunsBody.throws v q) = let k = h.one p q in absurd cc
-  runs_one (RunsBody.ends p) (RunsBody.stops why q) = let k = h.one p q in absurd cc
-  runs_one (RunsBody.throws v p) (RunsBody.ends q) = let k = h.one p q in absurd cc
-  runs_one (RunsBody.throws v p) (RunsBody.throws v' q) = let k = h.one p q in let e : v' ≡ v = cc in (ap (λ v. Throws v) e, k.1)
-  runs_one (RunsBody.throws v p) (RunsBody.stops why q) = let k = h.one p q in absurd cc
-  runs_one (RunsBody.stops why p) (RunsBody.ends q) = let k = h.one p q in absurd cc
-  runs_one (RunsBody.stops why p) (RunsBody.throws v q) = let k = h.one p q in absurd cc
-  runs_one (RunsBody.stops why p) (RunsBody.stops why' q) = let k = h.one p q in let e : why' ≡ why = cc in (ap (λ why. Stops why) e, k.1)
+  runs_one : {w : W} {m : N} {a b : End V S} {x y : W} → Executes E acts w m a x → Executes E acts w m b y → (b ≡ a) × (y ≡ x)
+  runs_one (Executes.ends p) (Executes.ends q) = (refl, (h.one p q).1)
+  runs_one (Executes.ends p) (Executes.throws v q) = let k = h.one p q in absurd cc
+  runs_one (Executes.ends p) (Executes.stops why q) = let k = h.one p q in absurd cc
+  runs_one (Executes.throws v p) (Executes.ends q) = let k = h.one p q in absurd cc
+  runs_one (Executes.throws v p) (Executes.throws v' q) = let k = h.one p q in let e : v' ≡ v = cc in (ap (λ v. Throws v) e, k.1)
+  runs_one (Executes.throws v p) (Executes.stops why q) = let k = h.one p q in absurd cc
+  runs_one (Executes.stops why p) (Executes.ends q) = let k = h.one p q in absurd cc
+  runs_one (Executes.stops why p) (Executes.throws v q) = let k = h.one p q in absurd cc
+  runs_one (Executes.stops why p) (Executes.stops why' q) = let k = h.one p q in let e : why' ≡ why = cc in (ap (λ why. Stops why) e, k.1)
 
   leaves_one : {w : W} {m : N} {a b : End V S} {x y : W} → Leaves E acts w m a x → Leaves E acts w m b y → (b ≡ a) × (y ≡ x)
   leaves_one (Leaves.runs n o p) (Leaves.runs m u q) = runs_one p q
@@ -181,7 +181,7 @@ module _ {N V W S : Type 0} (E : Evaluation N V W) (acts : Acts N V W S) (h : Ha
   fulfills_one (Fulfills.goes_on n r p) (Fulfills.over k) = absurd (n k)
   fulfills_one {w} {m} {b = b} {y = y} (Fulfills.goes_on n r p) (Fulfills.goes_on n' r' q) = takes_one p (subst (λ xs. GoOn E acts (finish E w m) xs b y) (ready_one E r r') q)
 
-module _ {N V W S : Type 0} (E : Evaluation N V W) (acts : Acts N V W S) where
+module _ {N V W S : Type 0} (E : Evaluation N V W) (acts : BodyCalls N V W S) where
   pub one_evaluation : OneEvaluation E acts
   one_evaluation h = record {
     evaluates = λ w m a b x y p q. evaluates_one E acts h w m p q;

@@ -4,7 +4,7 @@ use Rattle.std.specs.Prelude.{◌⊎◌, if◌then◌else◌, Result, Ok}
 use Rattle.std.specs.List.{list_any}
 use Rattle.esm_realm.proofs.Lists.{either, in_first, in_left, in_right, in_split, in_cons}
 use Rattle.esm_values.specs.Ran.{Ran}
-use Rattle.esm_eval.specs.Nodes.{Node, Call, Start, Run, Answer, module_of}
+use Rattle.esm_eval.specs.Nodes.{Node, Call, Start, Run, CallAnswer, module_of}
 use Rattle.esm_eval.specs.Evaluation.{IsLawful, IsSteady, IsSteadyCall}
 use Rattle.esm_eval.specs.Begins.{BeginsOne}
 use Rattle.esm_eval.specs.SmallWorld.{Name, A, B, C, D, same_name, Nodes, node_at, with_node, Small, small, Body, Runs, Fails, Halts, StartIs, RunIs, Writes, with_line}
@@ -97,11 +97,11 @@ module _ (targets : Name → List Name) (awaits : Name → Bool) where
   small_is_steady : (bodies : Name → Body) → IsSteady (small targets awaits) (Writes bodies)
   small_is_steady bodies = record { call = steady; starts = starts }
     where
-      steady : (w v : Small) (c : Call Name) (r : Result (Answer Name c) (Unit {0})) → Writes bodies w c r v → IsSteadyCall (small targets awaits) w (module_of c) v
+      steady : (w v : Small) (c : Call Name) (r : Result (CallAnswer Name c) (Unit {0})) → Writes bodies w c r v → IsSteadyCall (small targets awaits) w (module_of c) v
       steady w v (Start m end) r h = start_steady (bodies m) w v m r h
       steady w v (Run m) r h = run_steady (bodies m) w v m r h
 
-      starts : (w v : Small) (c : Call Name) (r : Answer Name c) → Writes bodies w c (Ok r) v → list_any (same_name (module_of c)) v.log ≡ true
+      starts : (w v : Small) (c : Call Name) (r : CallAnswer Name c) → Writes bodies w c (Ok r) v → list_any (same_name (module_of c)) v.log ≡ true
       starts w v (Start m end) r h = start_starts (bodies m) w v m r h
       starts w v (Run m) r h = run_starts (bodies m) w v m r h
 
@@ -121,7 +121,7 @@ module _ (targets : Name → List Name) (awaits : Name → Bool) where
   small_begins : (bodies : Name → Body) → BeginsOne (small targets awaits) (Writes bodies)
   small_begins bodies = record { call = begins }
     where
-      begins : (w v : Small) (c : Call Name) (r : Result (Answer Name c) (Unit {0})) → Writes bodies w c r v → (x : Name) → list_any (same_name x) v.log ≡ true → (list_any (same_name x) w.log ≡ true) ⊎ (x ≡ module_of c)
+      begins : (w v : Small) (c : Call Name) (r : Result (CallAnswer Name c) (Unit {0})) → Writes bodies w c r v → (x : Name) → list_any (same_name x) v.log ≡ true → (list_any (same_name x) w.log ≡ true) ⊎ (x ≡ module_of c)
       begins w v (Start m end) r h = start_begins (bodies m) w v m r h
       begins w v (Run m) r h = run_begins (bodies m) w v m r h
 

@@ -1,7 +1,7 @@
 -- Between two calls a module that waits has a wait that isn't done.
 use Rattle.std.proofs.Common.{◌≡◌, true, [], ap, sym, ◌∙◌}
 use Rattle.esm_realm.specs.Walk.{is_in}
-use Rattle.esm_eval.specs.Nodes.{Acts}
+use Rattle.esm_eval.specs.Nodes.{BodyCalls}
 use Rattle.esm_eval.specs.Evaluation.{Evaluation}
 use Rattle.esm_eval.specs.Waiting.{IsBetweenCalls, IsOpening}
 use Rattle.esm_eval.specs.Laws.{WaitsStayOpen}
@@ -9,7 +9,7 @@ use Rattle.esm_eval.proofs.Amid.{in_like}
 use Rattle.esm_eval.proofs.WalkKeeps.{evaluates_keep}
 use Rattle.esm_eval.proofs.EndsKeep.{rejects_keep, fulfills_keep}
 
-module _ {N V W S : Type 0} (E : Evaluation N V W) (acts : Acts N V W S) where
+module _ {N V W S : Type 0} (E : Evaluation N V W) (acts : BodyCalls N V W S) where
   pub opens : (w : W) → IsOpening E w → IsBetweenCalls E w
   opens w o = record {
     idle = λ x h. let k = sym (o.phases x) ∙ h in cc;

@@ -6,16 +6,16 @@ use Rattle.esm_realm.specs.Walk.{Mark, is_in}
 use Rattle.esm_realm.specs.Components.{opened_from}
 use Rattle.esm_realm.proofs.Urls.{cases, not_both}
 use Rattle.esm_realm.proofs.Lists.{in_first}
-use Rattle.esm_eval.specs.Nodes.{Phase, NotEntered, Evaluating, EvaluatingAsync, Evaluated, was_entered, Node, Acts}
+use Rattle.esm_eval.specs.Nodes.{Phase, NotEntered, Evaluating, EvaluatingAsync, Evaluated, was_entered, Node, BodyCalls}
 use Rattle.esm_eval.specs.Evaluation.{Evaluation, IsLawful, IsSteady, IsSteadyCall, IsAlike, phase, waits, add_wait, wait_on}
-use Rattle.esm_eval.specs.Evaluate.{End, Ends, Throws, Stops, StartsBody, RunsBody, Leaves, Marks, Walks, EvaluatesRoot, Evaluates, enter, close, keep, fulfill_by}
+use Rattle.esm_eval.specs.Evaluate.{End, Ends, Throws, Stops, ExecutesAsync, Executes, Leaves, Marks, Walks, EvaluatesRoot, Evaluates, enter, close, keep, fulfill_by}
 use Rattle.esm_eval.specs.Evaluate.Marks.{done, enters, passes, pass_throws, stays, component, leave_throws, leave_stops}
 use Rattle.esm_eval.specs.Waiting.{IsBetweenCalls}
 use Rattle.esm_eval.proofs.Fits.{Fits, walk_fits}
 use Rattle.esm_eval.proofs.Amid.{Amid, IsLike, HasGrown, of_between, to_between, like_nodes, like_on, grown_on, grown_alike, amid_like, amid_stamp, not_entered}
 use Rattle.esm_eval.proofs.Puts.{put_at, put_like, put_grown, amid_enter, amid_close, close_known, amid_fail, amid_pass}
 
-module _ {N V W S : Type 0} (E : Evaluation N V W) (acts : Acts N V W S) (L : IsLawful E) (steady : IsSteady E acts) where
+module _ {N V W S : Type 0} (E : Evaluation N V W) (acts : BodyCalls N V W S) (L : IsLawful E) (steady : IsSteady E acts) where
   -- a list of the modules whose evaluation has begun
   abbrev pub Known : W → List N → Type 0
   Known w seen = (y : N) → is_in E.same seen y ≡ was_entered (phase E w y)
@@ -54,15 +54,15 @@ module _ {N V W S : Type 0} (E : Evaluation N V W) (acts : Acts N V W S) (L : Is
       }
 
   pub leave_step : {w : W} {x : N} {mid : W} (opened : List N) → Leaves E acts w x Ends mid → was_entered (phase E w x) ≡ true → Amid E w opened → Step w mid opened
-  leave_step {w} {x} {mid} opened (Leaves.runs n o (RunsBody.ends p)) b a = run_step w mid x opened (steady.call _ _ _ _ p) a
-  leave_step {w} {x} {mid} opened (Leaves.starts n o (StartsBody.starts p)) b a = start_step w mid x opened (steady.call _ _ _ _ p) (steady.starts _ _ _ _ p) b a
+  leave_step {w} {x} {mid} opened (Leaves.runs n o (Executes.ends p)) b a = run_step w mid x opened (steady.call _ _ _ _ p) a
+  leave_step {w} {x} {mid} opened (Leaves.starts n o (ExecutesAsync.starts p)) b a = start_step w mid x opened (steady.call _ _ _ _ p) (steady.starts _ _ _ _ p) b a
   leave_step {w} {x} opened (Leaves.waiting {y = y} {ys = ys} n) b a = stamp_step w x y ys opened n b a
 
   pub throw_step : {w : W} {x : N} {v : V} {mid : W} (opened : List N) → Leaves E acts w x (Throws v) mid → Amid E w opened → Amid E mid opened
-  throw_step {w} {x} {mid = mid} opened (Leaves.runs n o (RunsBody.throws v p)) a = (run_step w mid x opened (steady.call _ _ _ _ p) a).amid
+  throw_step {w} {x} {mid = mid} opened (Leaves.runs n o (Executes.throws v p)) a = (run_step w mid x opened (steady.call _ _ _ _ p) a).amid
   throw_step opened (Leaves.starts n o p) a = no_throw p
     where
-      no_throw : {w : W} {x : N} {v : V} {mid : W} {C : Type 0} → StartsBody E acts w x (Throws v) mid → C
+      no_throw : {w : W} {x : N} {v : V} {mid : W} {C : Type 0} → ExecutesAsync E acts w x (Throws v) mid → C
       no_throw p = elim p [ ]
 
   abbrev Kept : End V S → W → Type 0

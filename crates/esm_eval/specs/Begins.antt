@@ -1,7 +1,7 @@
 -- No body begins twice.
 use Rattle.std.specs.Prelude.{◌≡◌, ◌⊎◌, Bool, true, false, List, [], ◌∷◌, Result}
 use Rattle.esm_realm.specs.Walk.{is_in}
-use Rattle.esm_eval.specs.Nodes.{NotEntered, Call, Answer, Acts, module_of}
+use Rattle.esm_eval.specs.Nodes.{NotEntered, Call, CallAnswer, BodyCalls, module_of}
 use Rattle.esm_eval.specs.Evaluation.{Evaluation, phase}
 use Rattle.esm_eval.specs.Waiting.{IsBetweenCalls}
 
@@ -10,14 +10,14 @@ abbrev pub EachOnce : {N : Type 0} → (N → N → Bool) → List N → Type 0
 EachOnce same [] = Unit {0}
 EachOnce same (x ∷ xs) = (is_in same xs x ≡ false) × EachOnce same xs
 
-module _ {N V W S : Type 0} (E : Evaluation N V W) (acts : Acts N V W S) where
+module _ {N V W S : Type 0} (E : Evaluation N V W) (acts : BodyCalls N V W S) where
   -- a call for a body that hasn't begun
-  abbrev pub First : Acts N V W S
+  abbrev pub First : BodyCalls N V W S
   First w c r v = (E.begun w (module_of c) ≡ false) × acts w c r v
 
   -- a call for a body begins no other
   pub record BeginsOne : Type 0 where
-    pub call : (w v : W) (c : Call N) (r : Result (Answer V c) S) → acts w c r v
+    pub call : (w v : W) (c : Call N) (r : Result (CallAnswer V c) S) → acts w c r v
         → (x : N) → E.begun v x ≡ true → (E.begun w x ≡ true) ⊎ (x ≡ module_of c)
 
 -- between two calls a body that has begun is of a module that an evaluation has entered, and no module has two orders

@@ -1,9 +1,9 @@
 -- What follows the end of a body that awaits.
 -- ECMA-262, AsyncModuleExecutionFulfilled, AsyncModuleExecutionRejected and GatherAvailableAncestors.
 use Rattle.std.specs.Prelude.{◌≡◌, ◌≢◌, true, false, List, [], ◌∷◌, Some, None, Result, Ok, Err}
-use Rattle.esm_eval.specs.Nodes.{EvaluatingAsync, Evaluated, Acts}
+use Rattle.esm_eval.specs.Nodes.{EvaluatingAsync, Evaluated, BodyCalls}
 use Rattle.esm_eval.specs.Evaluation.{Evaluation, phase, waits, waiters, is_done, is_stamped, root_of, fulfill_kept, reject_kept}
-use Rattle.esm_eval.specs.Evaluate.{Ends, Throws, Stops, StartsBody, RunsBody}
+use Rattle.esm_eval.specs.Evaluate.{Ends, Throws, Stops, ExecutesAsync, Executes}
 
 module _ {N V W : Type 0} (E : Evaluation N V W) where
   -- GatherAvailableAncestors, as the least set of modules that can go on: each has an order, its body hasn't begun,
@@ -44,23 +44,23 @@ module _ {N V W : Type 0} (E : Evaluation N V W) where
       next : {w mid after : W} {x : N} {xs : List N} {v : V} → Rejects w x v mid → RejectsAll mid xs v after
           → RejectsAll w (x ∷ xs) v after
 
-module _ {N V W S : Type 0} (E : Evaluation N V W) (acts : Acts N V W S) where
+module _ {N V W S : Type 0} (E : Evaluation N V W) (acts : BodyCalls N V W S) where
   -- the modules that are ready, in turn. One that was rejected meanwhile is skipped, one that awaits is started, any other runs
   pub data GoOn : W → List N → Result (Unit {0}) S → W → Type 0 where
     none : {w : W} → GoOn w [] (Ok tt) w
     skips : {w after : W} {x : N} {xs : List N} {end : Result (Unit {0}) S} → phase E w x ≡ Evaluated → GoOn w xs end after
         → GoOn w (x ∷ xs) end after
     starts : {w mid after : W} {x : N} {xs : List N} {end : Result (Unit {0}) S} → phase E w x ≢ Evaluated → E.awaits w x ≡ true
-        → StartsBody E acts w x Ends mid → GoOn mid xs end after → GoOn w (x ∷ xs) end after
+        → ExecutesAsync E acts w x Ends mid → GoOn mid xs end after → GoOn w (x ∷ xs) end after
     start_stops : {w after : W} {x : N} {xs : List N} (why : S) → phase E w x ≢ Evaluated → E.awaits w x ≡ true
-        → StartsBody E acts w x (Stops why) after → GoOn w (x ∷ xs) (Err why) after
+        → ExecutesAsync E acts w x (Stops why) after → GoOn w (x ∷ xs) (Err why) after
     runs : {w mid after : W} {x : N} {xs : List N} {end : Result (Unit {0}) S} → phase E w x ≢ Evaluated → E.awaits w x ≡ false
-        → RunsBody E acts w x Ends mid → GoOn (finish E mid x) xs end after → GoOn w (x ∷ xs) end after
+        → Executes E acts w x Ends mid → GoOn (finish E mid x) xs end after → GoOn w (x ∷ xs) end after
     throws : {w mid late after : W} {x : N} {xs : List N} {end : Result (Unit {0}) S} (v : V) → phase E w x ≢ Evaluated
-        → E.awaits w x ≡ false → RunsBody E acts w x (Throws v) mid → Rejects E mid x v late → GoOn late xs end after
+        → E.awaits w x ≡ false → Executes E acts w x (Throws v) mid → Rejects E mid x v late → GoOn late xs end after
         → GoOn w (x ∷ xs) end after
     run_stops : {w after : W} {x : N} {xs : List N} (why : S) → phase E w x ≢ Evaluated → E.awaits w x ≡ false
-        → RunsBody E acts w x (Stops why) after → GoOn w (x ∷ xs) (Err why) after
+        → Executes E acts w x (Stops why) after → GoOn w (x ∷ xs) (Err why) after
 
   -- AsyncModuleExecutionFulfilled: the module is done, and those that are ready then go on, in their order of asynchronous evaluation
   pub data Fulfills : W → N → Result (Unit {0}) S → W → Type 0 where

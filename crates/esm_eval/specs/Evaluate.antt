@@ -4,7 +4,7 @@ use Rattle.std.specs.Prelude.{◌≡◌, ℕ, Bool, true, false, List, [], ◌�
 use Rattle.esm_realm.specs.Walk.{Mark, Enter, Pass, Leave, is_in, IsWalkOf}
 use Rattle.esm_realm.specs.Components.{closes, opened_before, opened_from}
 use Rattle.esm_values.specs.Ran.Ran.{Normal, Thrown}
-use Rattle.esm_eval.specs.Nodes.{Phase, Evaluating, EvaluatingAsync, Evaluated, was_entered, Start, Run, Acts}
+use Rattle.esm_eval.specs.Nodes.{Phase, Evaluating, EvaluatingAsync, Evaluated, was_entered, Start, Run, BodyCalls}
 use Rattle.esm_eval.specs.Evaluation.{Evaluation, phase, waits, is_stamped, root_of, error_of, wait_on, add_wait}
 
 -- ECMA-262, Completion Records: a part of an evaluation ends normally or throws. own: or a call for a body stops everything
@@ -41,26 +41,26 @@ module _ {N V W : Type 0} (E : Evaluation N V W) where
   fulfill_by w p Evaluated = E.fulfill w p
   fulfill_by w p _ = w
 
-module _ {N V W S : Type 0} (E : Evaluation N V W) (acts : Acts N V W S) where
+module _ {N V W S : Type 0} (E : Evaluation N V W) (acts : BodyCalls N V W S) where
   -- ExecuteAsyncModule: the promise is made before the body begins
-  pub data StartsBody : W → N → End V S → W → Type 0 where
+  pub data ExecutesAsync : W → N → End V S → W → Type 0 where
     starts : {w after : W} {m : N} → acts (E.make_body_promise w m) (Start m (E.next_promise w)) (Ok tt) after
-        → StartsBody w m Ends after
+        → ExecutesAsync w m Ends after
     stops : {w after : W} {m : N} (why : S) → acts (E.make_body_promise w m) (Start m (E.next_promise w)) (Err why) after
-        → StartsBody w m (Stops why) after
+        → ExecutesAsync w m (Stops why) after
 
   -- ExecuteModule without a capability
-  pub data RunsBody : W → N → End V S → W → Type 0 where
-    ends : {w after : W} {m : N} → acts w (Run m) (Ok Normal) after → RunsBody w m Ends after
-    throws : {w after : W} {m : N} (v : V) → acts w (Run m) (Ok (Thrown v)) after → RunsBody w m (Throws v) after
-    stops : {w after : W} {m : N} (why : S) → acts w (Run m) (Err why) after → RunsBody w m (Stops why) after
+  pub data Executes : W → N → End V S → W → Type 0 where
+    ends : {w after : W} {m : N} → acts w (Run m) (Ok Normal) after → Executes w m Ends after
+    throws : {w after : W} {m : N} (v : V) → acts w (Run m) (Ok (Thrown v)) after → Executes w m (Throws v) after
+    stops : {w after : W} {m : N} (why : S) → acts w (Run m) (Err why) after → Executes w m (Stops why) after
 
   -- where x is left: it gets the next order where it waits or awaits, and its body begins where it waits for nothing
   pub data Leaves : W → N → End V S → W → Type 0 where
     runs : {w after : W} {x : N} {end : End V S} → waits E w x ≡ [] → E.awaits w x ≡ false
-        → RunsBody w x end after → Leaves w x end after
+        → Executes w x end after → Leaves w x end after
     starts : {w after : W} {x : N} {end : End V S} → waits E w x ≡ [] → E.awaits w x ≡ true
-        → StartsBody (E.add_stamp w x) x end after → Leaves w x end after
+        → ExecutesAsync (E.add_stamp w x) x end after → Leaves w x end after
     waiting : {w : W} {x y : N} {ys : List N} → waits E w x ≡ y ∷ ys → Leaves w x Ends (E.add_stamp w x)
 
   -- Marks to w opened marks end after: with these modules on the stack, the marks of the walk end so. A throw or a stop cuts the walk

@@ -2,7 +2,7 @@
 use Rattle.std.specs.Prelude.{◌≡◌, ℕ, Bool, true, false, List, [], ◌∷◌, ◌++◌, if◌then◌else◌, Option, Some, None, Result, Ok}
 use Rattle.std.specs.Option.{unwrap_or, option_or}
 use Rattle.esm_realm.specs.Walk.{is_in}
-use Rattle.esm_eval.specs.Nodes.{Phase, Evaluating, was_entered, Node, Call, Answer, Acts, module_of}
+use Rattle.esm_eval.specs.Nodes.{Phase, Evaluating, was_entered, Node, Call, CallAnswer, BodyCalls, module_of}
 
 pub record Evaluation (N V W : Type 0) : Type 0 where
   -- two names are the same
@@ -119,13 +119,13 @@ module _ {N V W : Type 0} (E : Evaluation N V W) where
     pub begun : (x : N) → E.begun w x ≡ true → E.begun v x ≡ true
     pub awaits : (x : N) → was_entered (phase w x) ≡ true → E.awaits v x ≡ E.awaits w x
 
-  module _ {S : Type 0} (acts : Acts N V W S) where
+  module _ {S : Type 0} (acts : BodyCalls N V W S) where
     -- a call for a body has one outcome
     pub record HasOneOutcome : Type 0 where
-      pub one : {w x y : W} {c : Call N} {r s : Result (Answer V c) S} → acts w c r x → acts w c s y → (s ≡ r) × (y ≡ x)
+      pub one : {w x y : W} {c : Call N} {r s : Result (CallAnswer V c) S} → acts w c r x → acts w c s y → (s ≡ r) × (y ≡ x)
 
     -- a call for a body that isn't stopped begins it. No call writes what evaluation writes; it may load modules, which no evaluation
     -- has entered
     pub record IsSteady : Type 0 where
-      pub call : (w v : W) (c : Call N) (r : Result (Answer V c) S) → acts w c r v → IsSteadyCall w (module_of c) v
-      pub starts : (w v : W) (c : Call N) (r : Answer V c) → acts w c (Ok r) v → E.begun v (module_of c) ≡ true
+      pub call : (w v : W) (c : Call N) (r : Result (CallAnswer V c) S) → acts w c r v → IsSteadyCall w (module_of c) v
+      pub starts : (w v : W) (c : Call N) (r : CallAnswer V c) → acts w c (Ok r) v → E.begun v (module_of c) ≡ true

@@ -1,13 +1,13 @@
 -- The laws of evaluation, over any world and any relation for the calls for bodies.
 use Rattle.std.specs.Prelude.{◌≡◌, ℕ, false, Result, Ok}
-use Rattle.esm_eval.specs.Nodes.{Acts}
+use Rattle.esm_eval.specs.Nodes.{BodyCalls}
 use Rattle.esm_eval.specs.Evaluation.{Evaluation, IsLawful, IsSteady, HasOneOutcome}
 use Rattle.esm_eval.specs.Evaluate.{Evaluates}
 use Rattle.esm_eval.specs.BodyEnd.{Rejects, Fulfills}
 use Rattle.esm_eval.specs.Waiting.{IsBetweenCalls, IsOpening}
 use Rattle.esm_eval.specs.Begins.{First, BeginsOne, HaveBegunOnce}
 
-module _ {N V W S : Type 0} (E : Evaluation N V W) (acts : Acts N V W S) where
+module _ {N V W S : Type 0} (E : Evaluation N V W) (acts : BodyCalls N V W S) where
   -- where each call for a body has one outcome, an evaluation has one, and so has what follows the end of a body
   pub record OneOutcome : Type 0 where
     pub evaluates : (w : W) (m : N) (a b : Result ℕ S) (x y : W) → Evaluates E acts w m a x → Evaluates E acts w m b y

@@ -49,14 +49,14 @@ pub data Call (N : Type 0) : Type 0 where
   Run : (m : N) → Call N
 
 -- what a call answers: a start nothing, since the promise tells the end
-abbrev pub Answer : {N : Type 0} → Type 0 → Call N → Type 0
-Answer V (Start m end) = Unit {0}
-Answer V (Run m) = Ran V
+abbrev pub CallAnswer : {N : Type 0} → Type 0 → Call N → Type 0
+CallAnswer V (Start m end) = Unit {0}
+CallAnswer V (Run m) = Ran V
 
 abbrev pub module_of : {N : Type 0} → Call N → N
 module_of (Start m end) = m
 module_of (Run m) = m
 
 -- what the calls for bodies do, as a relation: a call in a world comes to this answer, or stops for a reason S, and leaves that world
-abbrev pub Acts : Type 0 → Type 0 → Type 0 → Type 0 → Type 1
-Acts N V W S = W → (c : Call N) → Result (Answer V c) S → W → Type 0
+abbrev pub BodyCalls : Type 0 → Type 0 → Type 0 → Type 0 → Type 1
+BodyCalls N V W S = W → (c : Call N) → Result (CallAnswer V c) S → W → Type 0

@@ -3,7 +3,7 @@ use Rattle.std.specs.Prelude.{◌≡◌, ℕ, Bool, true, false, List, [], ◌�
 use Rattle.std.specs.List.{list_any}
 use Rattle.esm_values.specs.Ran.Ran.{Normal, Thrown}
 use Rattle.esm_values.specs.Ran.{Ran}
-use Rattle.esm_eval.specs.Nodes.{Node, untouched, Start, Run, Acts}
+use Rattle.esm_eval.specs.Nodes.{Node, untouched, Start, Run, BodyCalls}
 use Rattle.esm_eval.specs.Evaluation.{Evaluation}
 
 pub data Name : Type 0 where
@@ -106,7 +106,7 @@ RunIs Fails w m r after = (r ≡ Ok (Thrown m)) × (after ≡ with_line w m)
 RunIs Halts w m r after = (r ≡ Err tt) × (after ≡ w)
 
 -- the calls for bodies, where the bodies of the modules are these
-abbrev pub Writes : (Name → Body) → Acts Name Name Small (Unit {0})
+abbrev pub Writes : (Name → Body) → BodyCalls Name Name Small (Unit {0})
 Writes bodies w (Start m end) r after = StartIs (bodies m) w m r after
 Writes bodies w (Run m) r after = RunIs (bodies m) w m r after
 

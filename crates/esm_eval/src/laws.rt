@@ -3,7 +3,7 @@ ghost use Rattle.esm_eval.specs.Laws.{BeginsOnce, OneEvaluation, WaitsStayOpen};
 
 /// A world of any kind, with a relation for what the calls for bodies do in it. The laws range over all of them.
 pub trait AnyWorld {
-    ghost use Rattle.esm_eval.specs.Nodes.{Acts};
+    ghost use Rattle.esm_eval.specs.Nodes.{BodyCalls};
     ghost use Rattle.esm_eval.specs.Evaluation.{Evaluation};
 
     /// What names a module.
@@ -18,7 +18,7 @@ pub trait AnyWorld {
     /// What evaluation reads and writes of the world.
     ghost evaluation: { Evaluation Self.Name Self.Value Self.World };
     /// What a call for a body does.
-    ghost acts: { Acts Self.Name Self.Value Self.World Self.Stop };
+    ghost acts: { BodyCalls Self.Name Self.Value Self.World Self.Stop };
 }
 
 /// Where each call for a body has one outcome, an evaluation has one, and so has what follows the end of a body.

@@ -1,2 +1,3 @@
 pub mod OneLink
 pub mod LinksWhole
+pub mod WorkedLinks

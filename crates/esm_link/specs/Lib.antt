@@ -1,3 +1,4 @@
 pub mod Faults
 pub mod Link
 pub mod Laws
+pub mod Examples

@@ -1,6 +1,7 @@
 //! Linking of modules, as definitions with their laws.
 #![tactic(auto)]
 
+pub mod examples;
 pub mod laws;
 
 /// Why a module can't be linked.

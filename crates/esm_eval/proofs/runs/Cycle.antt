@@ -5,7 +5,7 @@ use Rattle.esm_realm.specs.Walk.Mark.{Enter, Pass, Leave}
 use Rattle.esm_realm.specs.Walk.Visits.{known, fresh}
 use Rattle.esm_realm.specs.Walk.Passes.{all, next}
 use Rattle.esm_eval.specs.Nodes.{NotEntered, Evaluating, EvaluatingAsync, Evaluated, untouched}
-use Rattle.esm_eval.specs.Evaluate.{Ends, Leaves, StartsBody, RunsBody, Marks, EvaluatesRoot}
+use Rattle.esm_eval.specs.Evaluate.{Ends, Leaves, ExecutesAsync, Executes, Marks, EvaluatesRoot}
 use Rattle.esm_eval.specs.Evaluate.Marks.{done, enters, passes, stays, component}
 use Rattle.esm_eval.specs.BodyEnd.{IsReady, AreOver, ReadyAmong, GoOn, Fulfills}
 use Rattle.esm_eval.specs.SmallWorld.{A, B, Small, small, Writes, all_run, only, Pending, Fulfilled}
@@ -40,7 +40,7 @@ one_step4 : Marks (small cycle (only B)) (Writes all_run) cycle one4 (A ∷ B �
 one_step4 = passes refl refl one_step5
 
 one_step3 : Marks (small cycle (only B)) (Writes all_run) cycle one3 (A ∷ B ∷ []) (Leave B ∷ Pass A 0 ∷ Leave A ∷ []) Ends one6
-one_step3 = stays (Leaves.starts refl refl (StartsBody.starts (refl, refl))) refl one_step4
+one_step3 = stays (Leaves.starts refl refl (ExecutesAsync.starts (refl, refl))) refl one_step4
 
 one_step2 : Marks (small cycle (only B)) (Writes all_run) cycle one2 (A ∷ B ∷ []) (Pass B 0 ∷ Leave B ∷ Pass A 0 ∷ Leave A ∷ []) Ends one6
 one_step2 = passes refl refl one_step3
@@ -61,7 +61,7 @@ abbrev one9 : Small
 one9 = at (nd Evaluated None (Some A) (Some 0) true (B ∷ []) []) (nd Evaluated None (Some A) None true [] (A ∷ [])) (untouched) (untouched) (B ∷ A ∷ []) (Fulfilled ∷ Pending ∷ []) (0 ∷ []) (B ∷ A ∷ [])
 
 goes_on : Fulfills (small cycle (only B)) (Writes all_run) one7 B (Ok tt) one9
-goes_on = Fulfills.goes_on async (ReadyAmong.dropped (not_ready refl) (ReadyAmong.kept (IsReady.ready refl refl refl refl (AreOver.done refl AreOver.none)) ReadyAmong.none)) (GoOn.runs async refl (RunsBody.ends (refl, refl)) GoOn.none)
+goes_on = Fulfills.goes_on async (ReadyAmong.dropped (not_ready refl) (ReadyAmong.kept (IsReady.ready refl refl refl refl (AreOver.done refl AreOver.none)) ReadyAmong.none)) (GoOn.runs async refl (Executes.ends (refl, refl)) GoOn.none)
 
 pub cycle_of_which_one_awaits : CycleOfWhichOneAwaits
 cycle_of_which_one_awaits = record {

@@ -6,7 +6,7 @@ use Rattle.esm_realm.specs.Walk.Mark.{Enter, Pass, Leave}
 use Rattle.esm_realm.specs.Walk.Visits.{known, fresh}
 use Rattle.esm_realm.specs.Walk.Passes.{all, next}
 use Rattle.esm_eval.specs.Nodes.{NotEntered, Evaluating, EvaluatingAsync, Evaluated, untouched, was_entered}
-use Rattle.esm_eval.specs.Evaluate.{Ends, Throws, Leaves, StartsBody, RunsBody, Marks, EvaluatesRoot}
+use Rattle.esm_eval.specs.Evaluate.{Ends, Throws, Leaves, ExecutesAsync, Executes, Marks, EvaluatesRoot}
 use Rattle.esm_eval.specs.Evaluate.Marks.{done, enters, passes, stays, component, pass_throws}
 use Rattle.esm_eval.specs.BodyEnd.{IsReady, AreOver, ReadyAmong, GoOn, Fulfills, Rejects, RejectsAll}
 use Rattle.esm_eval.specs.SmallWorld.{Name, A, B, C, D, Small, small, same_name, Writes, fails, only, Pending, Rejected}
@@ -41,7 +41,7 @@ fallen_step4 : Marks (small cycle_beside (only B)) (Writes (fails A)) cycle_besi
 fallen_step4 = passes refl refl fallen_step5
 
 fallen_step3 : Marks (small cycle_beside (only B)) (Writes (fails A)) cycle_beside fallen3 (A ∷ B ∷ []) (Leave B ∷ Pass A 0 ∷ Leave A ∷ []) Ends fallen6
-fallen_step3 = stays (Leaves.starts refl refl (StartsBody.starts (refl, refl))) refl fallen_step4
+fallen_step3 = stays (Leaves.starts refl refl (ExecutesAsync.starts (refl, refl))) refl fallen_step4
 
 fallen_step2 : Marks (small cycle_beside (only B)) (Writes (fails A)) cycle_beside fallen2 (A ∷ B ∷ []) (Pass B 0 ∷ Leave B ∷ Pass A 0 ∷ Leave A ∷ []) Ends fallen6
 fallen_step2 = passes refl refl fallen_step3
@@ -92,7 +92,7 @@ rejects_a : Rejects (small cycle_beside (only B)) fallen9 A A fallen10
 rejects_a = Rejects.rejects async RejectsAll.none
 
 goes_on : Fulfills (small cycle_beside (only B)) (Writes (fails A)) fallen7 B (Ok tt) fallen10
-goes_on = Fulfills.goes_on async (ReadyAmong.dropped (not_ready refl) (ReadyAmong.kept (IsReady.ready refl refl refl refl (AreOver.done refl AreOver.none)) ReadyAmong.none)) (GoOn.throws A async refl (RunsBody.throws A (refl, refl)) rejects_a GoOn.none)
+goes_on = Fulfills.goes_on async (ReadyAmong.dropped (not_ready refl) (ReadyAmong.kept (IsReady.ready refl refl refl refl (AreOver.done refl AreOver.none)) ReadyAmong.none)) (GoOn.throws A async refl (Executes.throws A (refl, refl)) rejects_a GoOn.none)
 
 pub root_fails : RootFails
 root_fails = record {

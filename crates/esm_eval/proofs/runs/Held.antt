@@ -5,7 +5,7 @@ use Rattle.esm_realm.specs.Walk.Mark.{Enter, Pass, Leave}
 use Rattle.esm_realm.specs.Walk.Visits.{fresh}
 use Rattle.esm_realm.specs.Walk.Passes.{all, next}
 use Rattle.esm_eval.specs.Nodes.{NotEntered, Evaluating, EvaluatingAsync, Evaluated, untouched}
-use Rattle.esm_eval.specs.Evaluate.{Ends, Leaves, StartsBody, RunsBody, Marks, EvaluatesRoot}
+use Rattle.esm_eval.specs.Evaluate.{Ends, Leaves, ExecutesAsync, Executes, Marks, EvaluatesRoot}
 use Rattle.esm_eval.specs.Evaluate.Marks.{done, enters, passes, component}
 use Rattle.esm_eval.specs.BodyEnd.{IsReady, AreOver, ReadyAmong, GoOn, Fulfills}
 use Rattle.esm_eval.specs.SmallWorld.{A, B, C, Small, small, Writes, all_run, both, Pending, Fulfilled}
@@ -52,7 +52,7 @@ held_step4 : Marks (small chain (both B C)) (Writes all_run) chain held4 (A ∷ 
 held_step4 = passes refl refl held_step5
 
 held_step3 : Marks (small chain (both B C)) (Writes all_run) chain held3 (A ∷ B ∷ C ∷ []) (Leave C ∷ Pass B 0 ∷ Leave B ∷ Pass A 0 ∷ Leave A ∷ []) Ends held8
-held_step3 = component (Leaves.starts refl refl (StartsBody.starts (refl, refl))) refl held_step4
+held_step3 = component (Leaves.starts refl refl (ExecutesAsync.starts (refl, refl))) refl held_step4
 
 held_step2 : Marks (small chain (both B C)) (Writes all_run) chain held2 (A ∷ B ∷ []) (Enter C ∷ Leave C ∷ Pass B 0 ∷ Leave B ∷ Pass A 0 ∷ Leave A ∷ []) Ends held8
 held_step2 = enters held_step3
@@ -84,11 +84,11 @@ held (IsReady.ready s p b f (AreOver.joins h r o)) = cc
 
 starts_b : Fulfills (small chain (both B C)) (Writes all_run) held9 C (Ok tt) held11
 starts_b = Fulfills.goes_on async (ReadyAmong.dropped (not_ready refl) (ReadyAmong.kept (IsReady.ready refl refl refl refl (AreOver.done refl AreOver.none)) (ReadyAmong.dropped held ReadyAmong.none)))
-    (GoOn.starts async refl (StartsBody.starts (refl, refl)) GoOn.none)
+    (GoOn.starts async refl (ExecutesAsync.starts (refl, refl)) GoOn.none)
 
 runs_a : Fulfills (small chain (both B C)) (Writes all_run) held11 B (Ok tt) held13
 runs_a = Fulfills.goes_on async (ReadyAmong.dropped (not_ready refl) (ReadyAmong.dropped (not_ready refl) (ReadyAmong.kept (IsReady.ready refl refl refl refl (AreOver.done refl AreOver.none)) ReadyAmong.none)))
-    (GoOn.runs async refl (RunsBody.ends (refl, refl)) GoOn.none)
+    (GoOn.runs async refl (Executes.ends (refl, refl)) GoOn.none)
 
 pub ready_holds_back : ReadyHoldsBack
 ready_holds_back = record {

@@ -6,7 +6,7 @@ use Rattle.esm_realm.specs.Walk.Mark.{Enter, Pass, Leave}
 use Rattle.esm_realm.specs.Walk.Visits.{known, fresh}
 use Rattle.esm_realm.specs.Walk.Passes.{all, next}
 use Rattle.esm_eval.specs.Nodes.{NotEntered, Evaluating, EvaluatingAsync, Evaluated, untouched, was_entered}
-use Rattle.esm_eval.specs.Evaluate.{Ends, Leaves, StartsBody, RunsBody, Marks, EvaluatesRoot}
+use Rattle.esm_eval.specs.Evaluate.{Ends, Leaves, ExecutesAsync, Executes, Marks, EvaluatesRoot}
 use Rattle.esm_eval.specs.Evaluate.Marks.{done, enters, passes, stays, component}
 use Rattle.esm_eval.specs.BodyEnd.{IsReady, AreOver, ReadyAmong, GoOn, Fulfills}
 use Rattle.esm_eval.specs.SmallWorld.{Name, A, B, C, D, Small, small, same_name, Writes, all_run, only, Pending, Fulfilled}
@@ -56,7 +56,7 @@ met_step5 : Marks (small meeting (only C)) (Writes all_run) meeting met5 (A ∷ 
 met_step5 = passes refl refl met_step6
 
 met_step4 : Marks (small meeting (only C)) (Writes all_run) meeting met4 (A ∷ B ∷ C ∷ []) (Leave C ∷ Pass B 1 ∷ Leave B ∷ Pass A 0 ∷ Leave A ∷ []) Ends met9
-met_step4 = component (Leaves.starts refl refl (StartsBody.starts (refl, refl))) refl met_step5
+met_step4 = component (Leaves.starts refl refl (ExecutesAsync.starts (refl, refl))) refl met_step5
 
 met_step3 : Marks (small meeting (only C)) (Writes all_run) meeting met3 (A ∷ B ∷ []) (Enter C ∷ Leave C ∷ Pass B 1 ∷ Leave B ∷ Pass A 0 ∷ Leave A ∷ []) Ends met9
 met_step3 = enters met_step4
@@ -125,13 +125,13 @@ ready_d : IsReady (small meeting (only C)) met16 D
 ready_d = IsReady.ready refl refl refl refl (AreOver.joins refl ready_a AreOver.none)
 
 third : GoOn (small meeting (only C)) (Writes all_run) met18 (D ∷ []) (Ok tt) met19
-third = GoOn.runs async refl (RunsBody.ends (refl, refl)) GoOn.none
+third = GoOn.runs async refl (Executes.ends (refl, refl)) GoOn.none
 
 second : GoOn (small meeting (only C)) (Writes all_run) met17 (A ∷ D ∷ []) (Ok tt) met19
-second = GoOn.runs async refl (RunsBody.ends (refl, refl)) third
+second = GoOn.runs async refl (Executes.ends (refl, refl)) third
 
 first : GoOn (small meeting (only C)) (Writes all_run) met16 (B ∷ A ∷ D ∷ []) (Ok tt) met19
-first = GoOn.runs async refl (RunsBody.ends (refl, refl)) second
+first = GoOn.runs async refl (Executes.ends (refl, refl)) second
 
 goes_on : Fulfills (small meeting (only C)) (Writes all_run) met15 C (Ok tt) met19
 goes_on = Fulfills.goes_on async (ReadyAmong.dropped (not_ready refl) (ReadyAmong.kept ready_b (ReadyAmong.kept ready_a (ReadyAmong.kept ready_d ReadyAmong.none)))) first

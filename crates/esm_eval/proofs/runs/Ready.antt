@@ -6,7 +6,7 @@ use Rattle.esm_realm.specs.Walk.Mark.{Enter, Pass, Leave}
 use Rattle.esm_realm.specs.Walk.Visits.{known, fresh}
 use Rattle.esm_realm.specs.Walk.Passes.{all, next}
 use Rattle.esm_eval.specs.Nodes.{NotEntered, Evaluating, EvaluatingAsync, Evaluated, untouched, was_entered}
-use Rattle.esm_eval.specs.Evaluate.{Ends, Leaves, StartsBody, RunsBody, Marks, EvaluatesRoot}
+use Rattle.esm_eval.specs.Evaluate.{Ends, Leaves, ExecutesAsync, Executes, Marks, EvaluatesRoot}
 use Rattle.esm_eval.specs.Evaluate.Marks.{done, enters, passes, component}
 use Rattle.esm_eval.specs.BodyEnd.{IsReady, AreOver, ReadyAmong, GoOn, Fulfills, Rejects, RejectsAll}
 use Rattle.esm_eval.specs.SmallWorld.{Name, A, B, C, D, Small, small, same_name, Writes, fails, only, Pending, Rejected}
@@ -38,7 +38,7 @@ ready_step3 : Marks (small chain (only C)) (Writes (fails B)) chain ready3 (B �
 ready_step3 = passes refl refl ready_step4
 
 ready_step2 : Marks (small chain (only C)) (Writes (fails B)) chain ready2 (B ∷ C ∷ []) (Leave C ∷ Pass B 0 ∷ Leave B ∷ []) Ends ready5
-ready_step2 = component (Leaves.starts refl refl (StartsBody.starts (refl, refl))) refl ready_step3
+ready_step2 = component (Leaves.starts refl refl (ExecutesAsync.starts (refl, refl))) refl ready_step3
 
 ready_step1 : Marks (small chain (only C)) (Writes (fails B)) chain ready1 (B ∷ []) (Enter C ∷ Leave C ∷ Pass B 0 ∷ Leave B ∷ []) Ends ready5
 ready_step1 = enters ready_step2
@@ -105,7 +105,7 @@ rejects_b = Rejects.rejects async (RejectsAll.next rejects_a RejectsAll.none)
 
 goes_on : Fulfills (small chain (only C)) (Writes (fails B)) ready11 C (Ok tt) ready15
 goes_on = Fulfills.goes_on async (ReadyAmong.dropped (not_ready refl) (ReadyAmong.kept ready_b (ReadyAmong.kept ready_a ReadyAmong.none)))
-    (GoOn.throws B async refl (RunsBody.throws B (refl, refl)) rejects_b (GoOn.skips refl GoOn.none))
+    (GoOn.throws B async refl (Executes.throws B (refl, refl)) rejects_b (GoOn.skips refl GoOn.none))
 
 pub ready_throws : ReadyThrows
 ready_throws = record {

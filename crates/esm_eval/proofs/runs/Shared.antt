@@ -4,7 +4,7 @@ use Rattle.esm_realm.specs.Walk.Mark.{Enter, Pass, Leave}
 use Rattle.esm_realm.specs.Walk.Visits.{known, fresh}
 use Rattle.esm_realm.specs.Walk.Passes.{all, next}
 use Rattle.esm_eval.specs.Nodes.{NotEntered, Evaluating, EvaluatingAsync, Evaluated, untouched}
-use Rattle.esm_eval.specs.Evaluate.{Ends, Leaves, StartsBody, Marks, EvaluatesRoot}
+use Rattle.esm_eval.specs.Evaluate.{Ends, Leaves, ExecutesAsync, Marks, EvaluatesRoot}
 use Rattle.esm_eval.specs.Evaluate.Marks.{done, enters, passes, component}
 use Rattle.esm_eval.specs.BodyEnd.{Rejects, RejectsAll}
 use Rattle.esm_eval.specs.SmallWorld.{A, B, C, D, Small, small, Writes, all_run, only, Pending, Rejected}
@@ -75,7 +75,7 @@ shared_step4 : Marks (small diamond (only D)) (Writes all_run) diamond shared4 (
 shared_step4 = passes refl refl shared_step5
 
 shared_step3 : Marks (small diamond (only D)) (Writes all_run) diamond shared3 (A ∷ B ∷ D ∷ []) (Leave D ∷ Pass B 0 ∷ Leave B ∷ Pass A 0 ∷ Enter C ∷ Pass C 0 ∷ Leave C ∷ Pass A 1 ∷ Leave A ∷ []) Ends shared12
-shared_step3 = component (Leaves.starts refl refl (StartsBody.starts (refl, refl))) refl shared_step4
+shared_step3 = component (Leaves.starts refl refl (ExecutesAsync.starts (refl, refl))) refl shared_step4
 
 shared_step2 : Marks (small diamond (only D)) (Writes all_run) diamond shared2 (A ∷ B ∷ []) (Enter D ∷ Leave D ∷ Pass B 0 ∷ Leave B ∷ Pass A 0 ∷ Enter C ∷ Pass C 0 ∷ Leave C ∷ Pass A 1 ∷ Leave A ∷ []) Ends shared12
 shared_step2 = enters shared_step3

@@ -4,7 +4,7 @@ use Rattle.esm_realm.specs.Walk.Mark.{Enter, Pass, Leave}
 use Rattle.esm_realm.specs.Walk.Visits.{fresh}
 use Rattle.esm_realm.specs.Walk.Passes.{all, next}
 use Rattle.esm_eval.specs.Nodes.{NotEntered, Evaluating, untouched}
-use Rattle.esm_eval.specs.Evaluate.{Stops, Leaves, RunsBody, Marks, EvaluatesRoot}
+use Rattle.esm_eval.specs.Evaluate.{Stops, Leaves, Executes, Marks, EvaluatesRoot}
 use Rattle.esm_eval.specs.Evaluate.Marks.{enters, leave_stops}
 use Rattle.esm_eval.specs.SmallWorld.{A, B, C, Small, small, Writes, halts, none, Pending}
 use Rattle.esm_eval.specs.Examples.{chain, StopsAtOnce}
@@ -23,7 +23,7 @@ abbrev stopped3 : Small
 stopped3 = at (nd Evaluating None None (Some 0) false [] []) (nd Evaluating None None None false [] []) (nd Evaluating None None None false [] []) (untouched) [] (Pending ∷ []) [] []
 
 stopped_step3 : Marks (small chain none) (Writes (halts C)) chain stopped3 (A ∷ B ∷ C ∷ []) (Leave C ∷ Pass B 0 ∷ Leave B ∷ Pass A 0 ∷ Leave A ∷ []) (Stops tt) stopped3
-stopped_step3 = leave_stops tt (Leaves.runs refl refl (RunsBody.stops tt (refl, refl)))
+stopped_step3 = leave_stops tt (Leaves.runs refl refl (Executes.stops tt (refl, refl)))
 
 stopped_step2 : Marks (small chain none) (Writes (halts C)) chain stopped2 (A ∷ B ∷ []) (Enter C ∷ Leave C ∷ Pass B 0 ∷ Leave B ∷ Pass A 0 ∷ Leave A ∷ []) (Stops tt) stopped3
 stopped_step2 = enters stopped_step3

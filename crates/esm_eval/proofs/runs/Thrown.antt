@@ -4,7 +4,7 @@ use Rattle.esm_realm.specs.Walk.Mark.{Enter, Pass, Leave}
 use Rattle.esm_realm.specs.Walk.Visits.{known, fresh}
 use Rattle.esm_realm.specs.Walk.Passes.{all, next}
 use Rattle.esm_eval.specs.Nodes.{NotEntered, Evaluating, Evaluated, untouched}
-use Rattle.esm_eval.specs.Evaluate.{Throws, Leaves, RunsBody, Marks, EvaluatesRoot}
+use Rattle.esm_eval.specs.Evaluate.{Throws, Leaves, Executes, Marks, EvaluatesRoot}
 use Rattle.esm_eval.specs.Evaluate.Marks.{enters, passes, component, leave_throws}
 use Rattle.esm_eval.specs.SmallWorld.{A, B, C, Small, small, Writes, fails, none, Pending, Rejected}
 use Rattle.esm_eval.specs.Examples.{cycle_behind, ThrowInCycle}
@@ -35,7 +35,7 @@ abbrev thrown7 : Small
 thrown7 = at (nd Evaluated (Some B) None (Some 0) false [] []) (nd Evaluated (Some B) None None false [] []) (nd Evaluated None (Some C) None false [] []) (untouched) [] (Pending ∷ []) [] (C ∷ B ∷ [])
 
 thrown_step6 : Marks (small cycle_behind none) (Writes (fails B)) cycle_behind thrown6 (A ∷ B ∷ []) (Leave B ∷ Pass A 0 ∷ Leave A ∷ []) (Throws B) thrown7
-thrown_step6 = leave_throws B (Leaves.runs refl refl (RunsBody.throws B (refl, refl)))
+thrown_step6 = leave_throws B (Leaves.runs refl refl (Executes.throws B (refl, refl)))
 
 thrown_step5 : Marks (small cycle_behind none) (Writes (fails B)) cycle_behind thrown5 (A ∷ B ∷ []) (Pass B 1 ∷ Leave B ∷ Pass A 0 ∷ Leave A ∷ []) (Throws B) thrown7
 thrown_step5 = passes refl refl thrown_step6
@@ -44,7 +44,7 @@ thrown_step4 : Marks (small cycle_behind none) (Writes (fails B)) cycle_behind t
 thrown_step4 = passes refl refl thrown_step5
 
 thrown_step3 : Marks (small cycle_behind none) (Writes (fails B)) cycle_behind thrown3 (A ∷ B ∷ C ∷ []) (Leave C ∷ Pass B 0 ∷ Pass B 1 ∷ Leave B ∷ Pass A 0 ∷ Leave A ∷ []) (Throws B) thrown7
-thrown_step3 = component (Leaves.runs refl refl (RunsBody.ends (refl, refl))) refl thrown_step4
+thrown_step3 = component (Leaves.runs refl refl (Executes.ends (refl, refl))) refl thrown_step4
 
 thrown_step2 : Marks (small cycle_behind none) (Writes (fails B)) cycle_behind thrown2 (A ∷ B ∷ []) (Enter C ∷ Leave C ∷ Pass B 0 ∷ Pass B 1 ∷ Leave B ∷ Pass A 0 ∷ Leave A ∷ []) (Throws B) thrown7
 thrown_step2 = enters thrown_step3
