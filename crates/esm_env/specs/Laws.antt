@@ -37,6 +37,6 @@ MadeFits = (m : ModuleId) (items : List Item) (x : List ℕ) → SlotFits m.0 (s
 -- before anything is written, a `const` or `let` of a module is unset, and a function is set
 pub record BeginsUnset : Type 0 where
   pub unset : (g : Modules ℕ) (m : ℕ) (x : List ℕ) (constant : Bool)
-    → initial (g.tree m) x ≡ Some (Unset constant) → IsReadingOf g no_cells m x reading.Unset
+      → initial (g.tree m) x ≡ Some (Unset constant) → IsReadingOf g no_cells m x reading.Unset
   pub function : (g : Modules ℕ) (m : ℕ) (x : List ℕ) (index : ℕ)
-    → initial (g.tree m) x ≡ Some (FunctionAt index) → IsReadingOf g no_cells m x (reading.Value (Func m index))
+      → initial (g.tree m) x ≡ Some (FunctionAt index) → IsReadingOf g no_cells m x (reading.Value (Func m index))

@@ -6,7 +6,7 @@ use Rattle.esm_values.specs.Code.{value_of}
 use Rattle.esm_env.specs.declared.scope.Target.{Target}
 use Rattle.esm_env.specs.declared.scope.ModuleScope.{ModuleScope}
 use Rattle.std.specs.Prelude.{ℕ, ◌+◌, ◌≡◌, false, List, [], ◌∷◌, ◌++◌, map, Option, Some, None}
-use Rattle.esm_tree.specs.Syntax.{Item}
+use Rattle.esm_tree.specs.Syntax.{Item, Parts}
 use Rattle.esm_env.specs.Declarations.{Declaration, FunctionCode, declared_in, body_of, functions_by}
 use Rattle.esm_values.specs.declared.value.Value.TheVariants as v
 use Rattle.esm_base.specs.declared.module_id.ModuleId.{ModuleId}
@@ -22,8 +22,13 @@ unset_slots ds = map unset_slot ds
 
 -- the function with this number
 abbrev pub function_slot : ModuleId → ℕ → List ℕ → Slot
-function_slot m index name = record { name = name; constant = false; function =
-    Some (v.Func (record { «module» = m; index = index })); written = None }
+function_slot m index name = record {
+  name = name;
+  constant = false;
+  function =
+      Some (v.Func (record { «module» = m; index = index }));
+  written = None;
+}
 
 abbrev pub function_slots : ModuleId → ℕ → List (List ℕ) → List Slot
 function_slots m index [] = []
@@ -45,10 +50,10 @@ abbrev pub one_name : Option (Bor (List ℕ)) → List (List ℕ)
 one_name None = []
 one_name (Some r) = r.now ∷ []
 
--- the scope of a module that was made from its tree
-abbrev pub IsMade : ModuleId → List Item → List (List ℕ × Target) → Option ModuleScope → Type 0
-IsMade m items imports None = ⊥
-IsMade m items imports (Some s) = (s.slots.items ≡ slots_for m items) × (s.imports.items ≡ imports) × ((arc_value s.tree).items ≡ items)
+-- the scope of a module that was made from its tree, which it keeps
+abbrev pub IsMade : ModuleId → Parts → List (List ℕ × Target) → Option ModuleScope → Type 0
+IsMade m tree imports None = ⊥
+IsMade m tree imports (Some s) = (s.slots.items ≡ slots_for m tree.items) × (s.imports.items ≡ imports) × (arc_value s.tree ≡ tree)
     × (value_of s.namespace ≡ Namespace m.0)
 
 -- nothing but the scope of the module has changed

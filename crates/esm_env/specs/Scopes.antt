@@ -14,11 +14,11 @@ use Rattle.esm_env.specs.declared.scope.Wrote.{Wrote}
 use Rattle.esm_env.specs.declared.scope.Wrote.TheVariants as wrote
 use Rattle.esm_env.specs.declared.scope.ModuleScope.{ModuleScope}
 
--- the import with a name
 abbrev pub import_by : Bool → Target → Option Target → Option Target
 import_by true t later = Some t
 import_by false t later = later
 
+-- the import with a name
 abbrev pub import_in : List (List ℕ × Target) → List ℕ → Option Target
 import_in [] x = None
 import_in (i ∷ is) x = import_by (bytes_eq i.0 x) i.1 (import_in is x)

@@ -23,7 +23,7 @@ pub struct Envs {
 }
 
 impl Envs {
-    /// Without scopes. It takes no memory.
+    /// Without scopes. It doesn't allocate.
     pub fn new(alloc: Global) -> Envs
         ensures { scopes_of result ≡ [] }
     {
@@ -32,8 +32,8 @@ impl Envs {
         }
     }
 
-    /// Makes the scope of a module from its tree. A scope that was left for the module is replaced. For want of memory
-    /// nothing has changed.
+    /// Makes the scope of a module from its tree. A scope that was left for the module is replaced, and the tree is
+    /// kept. Where memory runs out nothing has changed.
     pub fn make_module(
         &mut self,
         alloc: Global,
@@ -42,7 +42,7 @@ impl Envs {
         imports: Vec<(Text, Target)>,
     ) -> Result<(), Memory>
         requires { length (arc_value tree).items < 2 ^ 31 }
-        ensures made { OnOk result (IsMade m (arc_value tree).items imports.items
+        ensures made { OnOk result (IsMade m (arc_value tree) imports.items
             (scope_in (scopes_of self.new) m.0)) }
         ensures others { OthersStay (scopes_of self.old) m.0 (scopes_of self.new) }
         ensures err { OnErr result ((n : ℕ) → scope_in (scopes_of self.new) n
@@ -97,7 +97,7 @@ impl Envs {
         }
     }
 
-    /// Reads a name: of the module, or of where its import is bound. It takes no memory.
+    /// Reads a name: of the module, or of where its import is bound. It doesn't allocate.
     pub fn read(&self, m: ModuleId, name: &str) -> Read<'_>
         ensures { told_read result ≡ read_in (scopes_of self.now) m.0 name.now }
     {
@@ -125,7 +125,7 @@ impl Envs {
         }
     }
 
-    /// Writes a name. It takes no memory.
+    /// Writes a name. It doesn't allocate.
     pub fn write(&mut self, m: ModuleId, name: &str, value: Value) -> Wrote
         ensures { IsWrittenIn (scopes_of self.old) m.0 name.now value result (scopes_of self.new) }
     {
@@ -140,7 +140,7 @@ impl Envs {
         }
     }
 
-    /// Sets a name that the module itself declares. It takes no memory.
+    /// Sets a name that the module itself declares. It doesn't allocate.
     pub fn initialise(&mut self, m: ModuleId, name: &str, value: Value)
         ensures { IsInitialised (scopes_of self.old) m.0 name.now value (scopes_of self.new) }
     {

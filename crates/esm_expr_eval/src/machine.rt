@@ -1,5 +1,5 @@
 // The evaluation of an expression.
-ghost use Rattle.std.specs.Prelude.{◌≡◌, ◌+◌, ◌<◌, length, IfOk};
+ghost use Rattle.std.specs.Prelude.{◌≡◌, ◌+◌, ◌<◌, length, IfOk, None};
 ghost use Rattle.std.specs.Arc.{arc_value};
 ghost use Rattle.esm_tree.specs.Flat.{part};
 ghost use Rattle.esm_expr_eval.specs.Frames.{around, at_focus, AreFrames, IsFocus, frames_work, focus_work, Tells, Keeps};
@@ -92,11 +92,12 @@ fn run<W: World>(
 }
 
 impl ExprFrame {
-    /// The evaluation of an expression of a tree.
+    /// The evaluation of an expression of a tree. It is ready to advance without a value.
     pub fn new(alloc: Global, tree: Arc<Tree>, at: ExprId) -> Result<ExprFrame, Memory>
         requires { at.0 < length (arc_value tree).exprs }
-        ensures { IfOk result (λ s. IsSound s
+        ensures remains { IfOk result (λ s. IsSound s
             × (rest_of s ≡ term numbered (part (arc_value tree).exprs at))) }
+        ensures ready { IfOk result (λ s. IsGiven None s.focus) }
     {
         Ok(ExprFrame {
             alloc,
