@@ -28,11 +28,15 @@ alone items = record {
 
 -- nothing was written, with this engine and these promises
 abbrev pub here : List Item → Engine ℕ → Promises (Reaction ℕ) (Value ℕ) → Here
-here items engine promises = record { engine = engine; cells = no_cells; outer = record {
-  promises = promises;
-  errors = [];
-  imports = alone items;
-} }
+here items engine promises = record {
+  engine = engine;
+  cells = no_cells;
+  outer = record {
+    promises = promises;
+    errors = [];
+    imports = alone items;
+  };
+}
 
 -- throw "x";
 abbrev pub throwing : List Item
@@ -49,10 +53,12 @@ ThrowLeaves = (f : Importer) → RunsBody nat_eq itself (imports_by f) (here thr
 abbrev pub printing : List ℕ → syntax.Stmt
 printing text = syntax.Expression (syntax.Print (syntax.more (syntax.Text text) syntax.none))
 
+abbrev pub print_item : List ℕ → Item
+print_item text = syntax.Statement (printing text)
+
 -- print("a"); await undefined; print("b");
 abbrev pub awaiting : List Item
-awaiting = syntax.Statement (printing (codes "a")) ∷ syntax.Statement (syntax.Await syntax.Undefined) ∷ syntax.Statement (printing (codes "b"))
-    ∷ []
+awaiting = print_item (codes "a") ∷ syntax.Statement (syntax.Await syntax.Undefined) ∷ print_item (codes "b") ∷ []
 
 -- what remains at its await
 abbrev pub behind_await : Rest (Value ℕ)
