@@ -4,3 +4,4 @@ pub mod OneMove
 pub mod OneSegment
 pub mod OneOutcome
 pub mod Limits
+pub mod Examples

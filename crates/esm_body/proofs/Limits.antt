@@ -1,16 +1,16 @@
 -- Steps are taken, and a limit is no throw.
-use Rattle.std.proofs.Common.{◌≡◌, ℕ, ◌+◌, Bool, true, false, List, refl, ap}
+use Rattle.std.proofs.Common.{◌≡◌, ℕ, ◌+◌, Bool, true, false, refl, ap}
 use Rattle.std.specs.Prelude.{Result, Ok, Err, nat_eq, nat_lt}
 use Rattle.esm_base.specs.declared.limits.Limit.{Limit}
 use Rattle.esm_base.specs.declared.limits.TheConstants.{MAX_STEPS}
 use Rattle.esm_tree.specs.Syntax.{Stmt as Statement}
 use Rattle.esm_values.specs.Value.{Value}
 use Rattle.esm_values.specs.Plans.Comes.{Goes}
-use Rattle.esm_values.specs.Plans.Follows.{ends, asks, stops}
+use Rattle.esm_values.specs.Plans.Follows.{ends, asks}
 use Rattle.esm_env.specs.Modules.{Modules}
 use Rattle.esm_body.specs.Rest.{Rest, more}
 use Rattle.esm_body.specs.Rest.Part.{Whole}
-use Rattle.esm_body.specs.State.{State, steps_by}
+use Rattle.esm_body.specs.State.{steps_by}
 use Rattle.esm_body.specs.Acts.{Inner, over_scopes}
 use Rattle.esm_body.specs.Moves.{On, RewritesBody}
 use Rattle.esm_body.specs.Moves.RewritesBody.{begins_at, tries}

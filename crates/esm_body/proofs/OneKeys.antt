@@ -16,12 +16,8 @@ use Rattle.std.proofs.lemmas.List.Sorted.{sum_by-IsPermutation}
 use Rattle.std.proofs.lemmas.List.Elements.{All-head, All-tail}
 use Rattle.esm_base.specs.CodeUnits.{code_unit_order}
 use Rattle.esm_base.proofs.CodeUnits.{code_unit_order_total, code_unit_order_same}
-use Rattle.esm_resolve.specs.declared.graph.Resolution.{Resolution}
-use Rattle.esm_resolve.specs.declared.graph.Resolution.TheVariants.{Missing, One, Ambiguous}
-use Rattle.esm_resolve.specs.declared.pair.Pair.{Pair}
 use Rattle.esm_resolve.specs.Graph.{Graph}
 use Rattle.esm_env.proofs.OneRead.{resolution_one}
-use Rattle.esm_resolve.specs.Resolution.{IsResolutionOf, End}
 use Rattle.esm_resolve.specs.Names.{StarWalk, StarWalks, first_of_each, names_along}
 use Rattle.esm_resolve.specs.Names.StarWalk.{known, fresh}
 use Rattle.esm_resolve.specs.Names.StarWalks.{all, next}

@@ -1,6 +1,5 @@
 -- A rewriting of a body has one outcome.
-use Rattle.std.proofs.Common.{◌≡◌, ℕ, Bool, List, [], ◌∷◌, refl, ap}
-use Rattle.std.specs.Prelude.{Result}
+use Rattle.std.proofs.Common.{◌≡◌, Bool, List, [], ◌∷◌, refl, ap}
 use Rattle.esm_base.specs.declared.limits.Limit.{Limit}
 use Rattle.esm_values.specs.Value.{Value}
 use Rattle.esm_values.specs.Plans.{inside}

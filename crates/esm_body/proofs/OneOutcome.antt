@@ -2,7 +2,6 @@
 use Rattle.std.proofs.Common.{◌≡◌, ℕ, List, ap, sym, ◌∙◌}
 use Rattle.std.specs.Prelude.{nat_eq, Result}
 use Rattle.esm_base.specs.declared.limits.Limit.{Limit}
-use Rattle.esm_env.specs.Modules.{Modules}
 use Rattle.esm_body.specs.Laws.{Around, Importer, imports_by, itself, HaveOneOutcome}
 use Rattle.esm_body.proofs.OneAct.{BeginsOne}
 use Rattle.esm_body.proofs.OneMove.{moves_one}

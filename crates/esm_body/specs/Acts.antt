@@ -4,7 +4,7 @@ use Rattle.std.specs.Str.{bytes_eq, IsUtf8}
 use Rattle.std.specs.List.{All}
 use Rattle.esm_base.specs.declared.limits.Limit.{Limit}
 use Rattle.esm_resolve.specs.Keys.{AreNamespaceKeysOf}
-use Rattle.esm_values.specs.Value.{Value, Undefined, Truth, Text, Func, Error, Namespace, Promise}
+use Rattle.esm_values.specs.Value.{Value, Undefined, Text, Error, Namespace, Promise}
 use Rattle.esm_values.specs.Errors.{Errors, fault, error_message, error_name}
 use Rattle.esm_values.specs.Display.{simple_text, namespace_text, printed_line}
 use Rattle.esm_values.specs.Operators.{text_of}

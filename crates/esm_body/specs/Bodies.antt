@@ -12,7 +12,7 @@ use Rattle.esm_promise.specs.Promises.Settled.{Fulfilled, Rejected}
 use Rattle.esm_promise.specs.Reactions.{Reaction, Await}
 use Rattle.esm_env.specs.Modules.{Modules}
 use Rattle.esm_body.specs.Rest.{Rest, whole, fill_rest}
-use Rattle.esm_body.specs.State.{Engine, Event, Begins, Ends, Throws, Standing, State, Importing, Told, note, with_promises}
+use Rattle.esm_body.specs.State.{Begins, Ends, Throws, Standing, State, Importing, Told, note, with_promises}
 use Rattle.esm_body.specs.Acts.{modules_of}
 use Rattle.esm_body.specs.Segment.{Ended, Normal, Thrown, Awaiting, Stopped, Segment}
 

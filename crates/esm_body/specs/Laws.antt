@@ -16,7 +16,7 @@ use Rattle.esm_body.specs.Rest.{Rest, more}
 use Rattle.esm_body.specs.Rest.Part.{Whole, Tries}
 use Rattle.esm_body.specs.State.{State, Importing}
 use Rattle.esm_body.specs.Acts.{Inner, read_answer, throws_new, not_initialized}
-use Rattle.esm_body.specs.Moves.{Move, On, RewritesBody, caught}
+use Rattle.esm_body.specs.Moves.{Move, On, RewritesBody}
 use Rattle.esm_body.specs.Segment.{Active, Ended, Segment}
 use Rattle.esm_body.specs.Bodies.{StartsBody, RunsBody, ResumesBody}
 

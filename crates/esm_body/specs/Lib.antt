@@ -6,3 +6,4 @@ pub mod Moves
 pub mod Segment
 pub mod Bodies
 pub mod Laws
+pub mod Examples

@@ -1,6 +1,6 @@
 -- What remains of a body, as syntax in which values replace what was evaluated, and in which what is under way stands as its
 -- remaining part. ECMA-262, Runtime Semantics: Evaluation of statements.
-use Rattle.std.specs.Prelude.{ℕ, Bool, true, false, List, [], ◌∷◌, Option, Some, None}
+use Rattle.std.specs.Prelude.{ℕ, Bool, true, false, List, Option, Some, None}
 use Rattle.esm_tree.specs.Syntax.{Init, absent, plain, awaited, Bindings, no_more, binding, Stmts, nothing, first}
 use Rattle.esm_values.specs.Display.{default_local}
 use Rattle.esm_tree.specs.Syntax.{Stmt as Statement}

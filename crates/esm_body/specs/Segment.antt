@@ -1,9 +1,9 @@
 -- A segment of a body: rewriting until the body ends, a throw leaves it, it stands at an await, or a limit is passed.
 -- A function that was called runs in front of those rests that have no value for their call yet.
-use Rattle.std.specs.Prelude.{◌≡◌, ℕ, nat_lt, Bool, true, false, List, [], ◌∷◌, length, Option, Some, None, Result, codes}
+use Rattle.std.specs.Prelude.{◌≡◌, nat_lt, Bool, true, false, List, [], ◌∷◌, length, Option, Some, None, codes}
 use Rattle.esm_base.specs.declared.limits.Limit.{Limit}
 use Rattle.esm_env.specs.Declarations.{FunctionCode}
-use Rattle.esm_values.specs.Value.{Value, Undefined, Truth, Text, Func, Error, Namespace, Promise}
+use Rattle.esm_values.specs.Value.{Value, Undefined, Func}
 use Rattle.esm_values.specs.Errors.{fault}
 use Rattle.esm_values.specs.Plans.{Comes as comes}
 use Rattle.esm_values.specs.declared.errors.FaultKind.TheVariants as kinds
@@ -15,7 +15,7 @@ use Rattle.esm_body.specs.Rest.{Rest, end, more, whole, fill_rest}
 use Rattle.esm_body.specs.Rest.Part.{In}
 use Rattle.esm_body.specs.State.{State, Importing, new_error, with_error}
 use Rattle.esm_base.specs.declared.limits.TheConstants.{MAX_CALL_DEPTH}
-use Rattle.esm_body.specs.Acts.{Inner, modules_of}
+use Rattle.esm_body.specs.Acts.{modules_of}
 use Rattle.esm_body.specs.Moves.{Move, On, Gives, Waits, RewritesBody}
 
 -- a function or a body under way: the module in which it stands written, and what remains of it
@@ -88,6 +88,7 @@ module _ {N I : Type 0} (same : N → N → Bool) (modules : I → Modules N) (b
   next_by m callers (Gives v) w = return_to (Val v) callers w
   next_by m callers (Waits v s) w = wait_by v s callers w
 
+  -- ECMA-262, EvaluateBody and EvaluateCall, with the running execution contexts as a list.
   -- Segment w m rest callers how after: this rest, written in the module m, runs, and these are its callers, the last of them
   -- the body
   pub data Segment : State N I → N → Rest (Value N) → List (Active N) → Ended N → State N I → Type 0 where

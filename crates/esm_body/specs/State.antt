@@ -7,7 +7,7 @@ use Rattle.esm_base.specs.declared.limits.Limit.TheVariants.{L3, L5}
 use Rattle.esm_base.specs.declared.limits.TheConstants.{MAX_STEPS, MAX_LOG_BYTES}
 use Rattle.esm_values.specs.Value.{Value, Error}
 use Rattle.esm_values.specs.declared.errors.Fault.{Fault}
-use Rattle.esm_values.specs.Errors.{Errors, fault, make_error, next_error}
+use Rattle.esm_values.specs.Errors.{make_error, next_error}
 use Rattle.esm_promise.specs.Promises.{Promises}
 use Rattle.esm_promise.specs.Reactions.{Reaction}
 use Rattle.esm_promise.specs.Outer.{Outer}

@@ -1,5 +1,6 @@
 //! Laws of the definitions, each the contract of a function without effect.
 ghost use Rattle.esm_body.specs.Laws.{HaveOneOutcome, StatementsTakeSteps, StopsAreNotCaught, UnsetThrows};
+ghost use Rattle.esm_body.specs.Examples.{ThrowLeaves, AwaitDivides};
 
 /// A rewriting, a segment of a body, and each call for a body, has one outcome, where `import()` has one.
 pub fn one_outcome()
@@ -19,4 +20,15 @@ pub fn stops_are_not_caught()
 /// An unset name throws a ReferenceError.
 pub fn unset_throws()
     ensures { UnsetThrows }
+{}
+
+/// `throw "x";` takes one step, and leaves by its throw.
+pub fn throw_leaves()
+    ensures { ThrowLeaves }
+{}
+
+/// `print("a"); await undefined; print("b");` prints `a` and stands at its await; the job prints `b`, and the promise of the
+/// body's end is fulfilled.
+pub fn await_divides()
+    ensures { AwaitDivides }
 {}

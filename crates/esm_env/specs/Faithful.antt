@@ -4,16 +4,10 @@ use Rattle.esm_env.specs.Declarations.{Initial, Unset, FunctionAt, initial}
 use Rattle.esm_values.specs.Value.{Func, Namespace}
 use Rattle.esm_values.specs.Code.{value_of}
 use Rattle.esm_env.specs.Modules.{Modules}
-use Rattle.esm_env.specs.Cells.{Cells}
 use Rattle.esm_env.specs.Bindings as names
 use Rattle.esm_env.specs.Bindings.{Binds}
-use Rattle.esm_env.specs.Writing.{Writing}
-use Rattle.esm_env.specs.Writing.{Writing as writing}
 use Rattle.esm_env.specs.Slots.{slot_in, valued_by}
-use Rattle.std.specs.Prelude.{is_some}
-use Rattle.esm_env.specs.declared.scope.Wrote.{Wrote}
-use Rattle.esm_env.specs.declared.scope.Wrote.TheVariants as wrote
-use Rattle.esm_env.specs.Scopes.{Scopes, scope_in, own_cell, import_in, import_of, wrote_by}
+use Rattle.esm_env.specs.Scopes.{Scopes, scope_in, import_in}
 use Rattle.esm_env.specs.declared.slots.Slot.{Slot}
 use Rattle.esm_env.specs.declared.scope.Target.{Target}
 use Rattle.esm_env.specs.declared.scope.Target.TheVariants as targets
@@ -45,13 +39,3 @@ pub record IsFaithfulAt (g : Modules ℕ) (m : ℕ) (s : ModuleScope) : Type 0 w
 
 abbrev pub IsFaithful : Modules ℕ → Scopes → Type 0
 IsFaithful g e = (m : ℕ) (s : ModuleScope) → scope_in e m ≡ Some s → IsFaithfulAt g m s
-
-abbrev pub told : Wrote → Cells ℕ → Writing ℕ
-told wrote.Done cells = writing.Done cells
-told wrote.Constant cells = writing.Constant
-told wrote.Unset cells = writing.Unset
-told wrote.Undeclared cells = writing.Undeclared
-
--- what a write comes to, and what is written then
-abbrev pub outcome : Scopes → ℕ → List ℕ → Wrote
-outcome e m x = wrote_by (own_cell e m x) (is_some (import_of (scope_in e m) x))

@@ -6,6 +6,8 @@ pub mod laws;
 mod makes;
 mod scope;
 mod slots;
+#[cfg(test)]
+mod tests;
 
 pub use envs::Envs;
 pub use scope::{ModuleScope, Read, Target, Wrote};
