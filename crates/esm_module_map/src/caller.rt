@@ -7,6 +7,7 @@ ghost use Rattle.esm_hlock.specs.Views.{HasAllMakers, longer};
 ghost use Rattle.esm_hlock.specs.Words.{knows, IsPassOf};
 ghost use Rattle.esm_base.specs.Urls.{is_usable};
 ghost use Rattle.esm_module_map.specs.Replay.{replay, is_legal, is_order, is_posted, may_be_ahead, maker_of};
+ghost use Rattle.esm_module_map.specs.Leading.{is_led, leads_to};
 ghost use Rattle.esm_module_map.specs.Replies.{AskReply, TakeReply, ShutReply, Called, Found};
 ghost use Rattle.esm_module_map.specs.Histories.{IsPostIn};
 ghost use Rattle.esm_module_map.specs.Counts.{AreTakenOnce};
@@ -36,6 +37,7 @@ pub struct Caller<P: Payload> {
     ghost own: { (view_in pass).number ≡ Some number } by { Prim.hlevel props },
     ghost listed: { 0 < times number (view_in pass).numbers },
     ghost legal: { is_legal P.weight (view_in pass).seen ≡ true },
+    ghost led: { is_led P.leads (view_in pass).seen ≡ true },
     ghost enrolled: { nat_lt number (replay P.weight (view_in pass).seen).callers ≡ true },
 }
 
@@ -102,6 +104,8 @@ impl<P: Payload> ModuleMap<P> {
         requires own { table_of self.now.lock.table.shared.table_id caller.old.pass ≡ self.now.lock.table.shared.table_id }
         requires usable { is_usable url.now ≡ true }
         requires ahead { may_be_ahead (replay P.weight (view_in caller.old.pass).seen) why ≡ true }
+        requires leads { leads_to P.leads (view_in caller.old.pass).seen why url.now ≡ true }
+        ensures led { is_led P.leads (view_in caller.new.pass).seen ≡ true }
         ensures own { table_of self.now.lock.table.shared.table_id caller.new.pass ≡ self.now.lock.table.shared.table_id }
         ensures call { Called P.weight (view_in caller.old.pass).seen (Some caller.old.number) (λ found. AskReply P.weight found caller.old.number url.now why result (view_in caller.new.pass).seen) }
         ensures says { AskSays P.weight caller.old.number (view_in caller.old.pass).seen url.now result (view_in caller.new.pass).seen }
@@ -271,7 +275,9 @@ impl<P: Payload> ModuleMap<P> {
     /// The whole history.
     pub fn close(self, caller: Caller<P>) -> Result<Vec<MapEvent<P>>, Busy>
         requires { table_of self.lock.table.shared.table_id caller.pass ≡ self.lock.table.shared.table_id }
-        ensures { IfOk result (λ v. Found P.weight (view_in caller.pass).seen (Some caller.number) v.items) }
+        ensures found { IfOk result (λ v.
+            Found P.weight (view_in caller.pass).seen (Some caller.number) v.items) }
+        ensures led { IfOk result (λ v. is_led P.leads v.items ≡ true) }
     {
         let ModuleMap { lock } = self;
         let Caller { pass, number: _ } = caller;

@@ -8,6 +8,7 @@ ghost use Rattle.esm_base.specs.Urls.{is_usable};
 ghost use Rattle.esm_base.specs.declared.limits.TheConstants.{MAX_URLS, MAX_DELIVERED_BYTES};
 ghost use Rattle.esm_module_map.specs.Replay.{Replay, replay, is_legal, outs_of, is_order, next_order, has_room, room_by, fresh_number, made_wanted, made_ahead, next_by, is_free, has_place, may_be_ahead, number_for, is_numbered, is_posted};
 ghost use Rattle.esm_module_map.specs.Histories.{Posts, IsPostIn, is_post_of};
+ghost use Rattle.esm_module_map.specs.Leading.{is_led, leads_to};
 ghost use Rattle.esm_module_map.specs.Replies.{AskReply, TakeReply, ShutReply, answer_by};
 
 use crate::event::{MapEvent, Payload, Why};
@@ -36,6 +37,7 @@ pub struct MapState<P: Payload> {
     shut: bool,
     out: usize,
     ghost legal: { is_legal P.weight events.items ≡ true },
+    ghost led: { is_led P.leads events.items ≡ true },
     ghost replayed: { record { events = vec_len events; callers = callers; urls = urls.keys; numbers = numbers.items; posts = posts.items; wanted = wanted; ahead = ahead; weight = weight; shut = shut } ≡ replay P.weight events.items } by { Coded-set (Prim.hlevel codes) (record { events = vec_len events; callers = callers; urls = urls.keys; numbers = numbers.items; posts = posts.items; wanted = wanted; ahead = ahead; weight = weight; shut = shut }) (replay P.weight events.items) },
     ghost begun: { 0 < vec_len events },
     ghost aligned: { vec_len numbers ≡ length urls.keys },
@@ -54,12 +56,13 @@ impl<P: Payload> Story for MapState<P> {
 
     ghost use Rattle.std.specs.Prelude.{◌≡◌, true, vec_len};
     ghost use Rattle.esm_module_map.specs.Replay.{maker_of, replay, is_legal};
+    ghost use Rattle.esm_module_map.specs.Leading.{is_led};
 
     ghost story = { λ s. s.events.items };
 
     ghost maker = { maker_of };
 
-    ghost legal = { λ es. is_legal P.weight es ≡ true };
+    ghost legal = { λ es. (is_legal P.weight es ≡ true) × (is_led P.leads es ≡ true) };
 
     ghost replays = { λ es s. record { events = vec_len s.events; callers = s.callers; urls = s.urls.keys; numbers = s.numbers.items; posts = s.posts.items; wanted = s.wanted; ahead = s.ahead; weight = s.weight; shut = s.shut } ≡ replay P.weight es };
 
@@ -67,7 +70,7 @@ impl<P: Payload> Story for MapState<P> {
         self.events.as_slice()
     }
 
-    ghost lawful = { λ s. s.legal };
+    ghost lawful = { λ s. (s.legal, s.led) };
 
     ghost whole = { λ s. s.replayed };
 }
@@ -137,6 +140,7 @@ impl<P: Payload> MapState<P> {
         requires live { self.old.shut ≡ false }
         requires usable { is_usable url.now ≡ true }
         requires ahead { may_be_ahead (replay P.weight self.old.events.items) why ≡ true }
+        requires leads { leads_to P.leads self.old.events.items why url.now ≡ true }
         requires known { place ≡ position_or_len (bytes_eq url.now) self.old.urls.keys }
         requires within { place < vec_len self.old.numbers }
         ensures reply { AskReply P.weight self.old.events.items caller url.now why result self.new.events.items }
@@ -167,6 +171,7 @@ impl<P: Payload> MapState<P> {
         requires live { self.old.shut ≡ false }
         requires usable { is_usable url.now ≡ true }
         requires ahead { may_be_ahead (replay P.weight self.old.events.items) why ≡ true }
+        requires leads { leads_to P.leads self.old.events.items why url.now ≡ true }
         requires fresh { position_or_len (bytes_eq url.now) self.old.urls.keys ≡ length self.old.urls.keys }
         ensures reply { AskReply P.weight self.old.events.items caller url.now why result self.new.events.items }
         ensures callers { self.new.callers ≡ self.old.callers }
@@ -210,6 +215,7 @@ impl<P: Payload> MapState<P> {
         requires is_in { caller < (replay P.weight self.old.events.items).callers }
         requires usable { is_usable url.now ≡ true }
         requires ahead { may_be_ahead (replay P.weight self.old.events.items) why ≡ true }
+        requires leads { leads_to P.leads self.old.events.items why url.now ≡ true }
         ensures reply { AskReply P.weight self.old.events.items caller url.now why result self.new.events.items }
         ensures callers { self.new.callers ≡ self.old.callers }
     {

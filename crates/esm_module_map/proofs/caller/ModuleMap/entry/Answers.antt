@@ -8,6 +8,7 @@ use Rattle.esm_module_map.proofs.Replays.{lt_true, replay_more}
 use Rattle.esm_module_map.proofs.Calls.{in_found, continues_as, own_after, unnamed, added_one, posted_found, order_found, numbers_kept, listed_self, continues_none}
 use Rattle.esm_module_map.proofs.Says.{same_says}
 use Rattle.esm_module_map.proofs.caller.ModuleMap.entry.Goals as goal
+use Rattle.esm_module_map.specs.Leading.{is_led}
 
 pub invariant_of-caller-clause-own : goal.invariant_of-caller-clause-own
 invariant_of-caller-clause-own g c =
@@ -65,3 +66,6 @@ returns-clause-exact g c =
     let v = ap view_in (sym c.take.ensures.value ∙ c.in-Some.is) in
     let q = continues_as W old.events.items c.in-Some.pass.seat.me.0 (view_in caller.pass) n v caller.listed (subst (λ s. Continues maker_of s.events.items c.in-Some.pass.seat.me.0.seen c.in-Some.pass.seat.me.0.numbers) (sym c.state.ensures.now) c.enter-held.ensures.seen) in
     Rattle.esm_module_map.proofs.Entries.exact_as W old.events.items c.leave.result.seat.me.0.seen c.args.number c.entry-reply.result c.leave.ensures.seen c.entry-reply.ensures.exact
+
+pub invariant_of-caller-clause-led : goal.invariant_of-caller-clause-led
+invariant_of-caller-clause-led g c = subst (λ l. is_led g.P.Payload.leads l ≡ true) (sym c.leave.ensures.seen) c.state.result.now.led

@@ -8,6 +8,8 @@ use Rattle.esm_module_map.proofs.Tally.{taken_once_by}
 use Rattle.esm_hlock.specs.Words.{knows}
 use Rattle.esm_hlock.specs.Makers.{Continues, times}
 use Rattle.esm_module_map.proofs.caller.ModuleMap.meet.Goals as goal
+use Rattle.esm_module_map.specs.Leading.{is_led}
+use Rattle.esm_module_map.proofs.Led.{longer_led}
 
 pub returns-clause-one : goal.returns-clause-one
 returns-clause-one g c = subst (λ w. Continues maker_of c.join.result.seat.me.0.seen w.seen w.numbers) (sym (ap view_in c.in-Some-Some.is-0)) c.join.ensures.one
@@ -39,3 +41,7 @@ returns-clause-says_one g c = listed_says g.P.Payload.weight (view_in c.args.one
 
 pub returns-clause-says_other : goal.returns-clause-says_other
 returns-clause-says_other g c = listed_says g.P.Payload.weight (view_in c.args.other.pass).numbers (view_in c.args.other.pass).seen c.join.result.seat.me.0.seen (subst (λ w. Continues maker_of c.join.result.seat.me.0.seen w.seen w.numbers) (sym (ap view_in c.in-Some-Some.is-1)) c.join.ensures.other)
+
+pub invariant_of-result-clause-led : goal.invariant_of-result-clause-led
+invariant_of-result-clause-led g c = subst (λ l. is_led g.P.Payload.leads l ≡ true) (sym c.join.ensures.seen)
+    (longer_led g.P.Payload.leads (knows c.in-Some-Some.pass).seen (knows c.in-Some-Some.second).seen (subst (λ w. is_led g.P.Payload.leads w.seen ≡ true) (ap view_in c.in-Some-Some.is-0) c.args.one.led) (subst (λ w. is_led g.P.Payload.leads w.seen ≡ true) (ap view_in c.in-Some-Some.is-1) c.args.other.led))

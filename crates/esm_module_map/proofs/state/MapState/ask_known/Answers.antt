@@ -5,6 +5,7 @@ use Rattle.esm_base.specs.declared.limits.TheConstants.{MAX_DELIVERED_BYTES}
 use Rattle.esm_module_map.proofs.Replays.{lt_true, lt_none, length_change, outs_change, outs_append, outs_most, outs_same}
 use Rattle.esm_module_map.proofs.Asks as asks
 use Rattle.esm_module_map.proofs.state.MapState.ask_known.Goals as goal
+use Rattle.esm_module_map.proofs.Led.{led_ask}
 
 pub invariant_of-self-2-clause-legal : goal.invariant_of-self-2-clause-legal
 invariant_of-self-2-clause-legal g c = let it = c.args.self.now in
@@ -18,3 +19,7 @@ invariant_of-self-2-clause-replayed g c = let it = c.args.self.now in
 
 pub invariant_of-self-2-clause-outs : goal.invariant_of-self-2-clause-outs
 invariant_of-self-2-clause-outs g c = let it = c.args.self.now in it.outs ∙ sym (outs_same it.numbers.items c.args.place (asked_again c.args.why) (asks.again_out c.args.why)) ∙ ap outs_of (sym c.ask_again.ensures.items)
+
+pub invariant_of-self-2-clause-led : goal.invariant_of-self-2-clause-led
+invariant_of-self-2-clause-led g c = let it = c.args.self.now in
+    led_ask g.P.Payload.leads it.events.items c.reserve.new.self.items c.push_reserved.new.self.items c.args.caller c.args.place c.in-Ok.copy c.args.url.now c.args.why c.reserve.ensures.items c.push_reserved.ensures.items it.led c.in-Ok.ensures c.requires.leads

@@ -5,6 +5,7 @@ use Rattle.esm_base.specs.declared.limits.TheConstants.{MAX_DELIVERED_BYTES}
 use Rattle.esm_module_map.proofs.Replays.{lt_true, lt_none, length_change, outs_change, outs_append, outs_most, outs_same}
 use Rattle.esm_module_map.proofs.Asks as asks
 use Rattle.esm_module_map.proofs.state.MapState.ask_new.Goals as goal
+use Rattle.esm_module_map.proofs.Led.{led_ask}
 
 pub invariant_of-self-2-clause-legal : goal.invariant_of-self-2-clause-legal
 invariant_of-self-2-clause-legal g c = let it = c.args.self.now in
@@ -19,3 +20,7 @@ invariant_of-self-2-clause-replayed g c = let it = c.args.self.now in
 pub invariant_of-self-2-clause-outs : goal.invariant_of-self-2-clause-outs
 invariant_of-self-2-clause-outs g c = let it = c.args.self.now in let e = ap outs_of (c.push_reserved.ensures.items ∙ ap (λ l. l ++ c.fresh.result ∷ []) c.reserve-2.ensures.items ∙ ap (λ x. it.numbers.items ++ x ∷ []) c.fresh.ensures) in
     let f : cond {A = ℕ} (is_out (fresh_number c.args.why)) 1 0 ≡ 0 = ap (λ b. cond b 1 0) (asks.fresh_out c.args.why) in let o = it.outs in omega (arith, e, f, outs_append it.numbers.items (fresh_number c.args.why ∷ []))
+
+pub invariant_of-self-2-clause-led : goal.invariant_of-self-2-clause-led
+invariant_of-self-2-clause-led g c = let it = c.args.self.now in
+    led_ask g.P.Payload.leads it.events.items c.reserve.new.self.items c.push_reserved-2.new.self.items c.args.caller c.len-number.result c.in-Ok.copy c.args.url.now c.args.why c.reserve.ensures.items c.push_reserved-2.ensures.items it.led c.in-Ok.ensures c.requires.leads

@@ -5,6 +5,8 @@ use Rattle.esm_base.specs.declared.limits.TheConstants.{MAX_DELIVERED_BYTES}
 use Rattle.esm_module_map.proofs.Replays.{lt_true, lt_none, length_change, outs_change, outs_append, outs_most, outs_same}
 use Rattle.esm_module_map.proofs.Asks as asks
 use Rattle.esm_module_map.proofs.state.MapState.give_out.Goals as goal
+use Rattle.esm_module_map.proofs.Led.{led_with}
+use Rattle.esm_module_map.specs.declared.event.MapEvent.TheVariants.{Take}
 
 pub invariant_of-self-2-clause-legal : goal.invariant_of-self-2-clause-legal
 invariant_of-self-2-clause-legal g c = let it = c.args.self.now in
@@ -21,3 +23,6 @@ set_taker-requires g c = let it = c.args.self.now in (asks.taken_outs (record { 
 
 pub invariant_of-self-2-clause-outs : goal.invariant_of-self-2-clause-outs
 invariant_of-self-2-clause-outs g c = let it = c.args.self.now in let t = (asks.taken_outs (record { events = vec_len it.events; callers = it.callers; urls = it.urls.keys; numbers = it.numbers.items; posts = it.posts.items; wanted = it.wanted; ahead = it.ahead; weight = it.weight; shut = it.shut }) c.args.place c.args.caller (ap next_order it.replayed ∙ c.requires.next)).1 in let e = ap outs_of c.set_taker.ensures.items in let o = it.outs in omega (arith, t, e, o)
+
+pub invariant_of-self-2-clause-led : goal.invariant_of-self-2-clause-led
+invariant_of-self-2-clause-led g c = let it = c.args.self.now in led_with g.P.Payload.leads it.events.items c.reserve.new.self.items c.push_reserved.new.self.items (Take c.args.caller c.args.place) c.reserve.ensures.items c.push_reserved.ensures.items it.led refl

@@ -5,6 +5,8 @@ use Rattle.esm_base.specs.declared.limits.TheConstants.{MAX_DELIVERED_BYTES}
 use Rattle.esm_module_map.proofs.Replays.{lt_true, lt_none, length_change, outs_change, outs_append, outs_most, outs_same}
 use Rattle.esm_module_map.proofs.Asks as asks
 use Rattle.esm_module_map.proofs.state.MapState.post.Goals as goal
+use Rattle.esm_module_map.proofs.Led.{led_with}
+use Rattle.esm_module_map.specs.declared.event.MapEvent.TheVariants.{Post}
 
 pub invariant_of-self-clause-legal : goal.invariant_of-self-clause-legal
 invariant_of-self-clause-legal g c = let it = c.args.self.now in
@@ -45,3 +47,6 @@ pub invariant_of-self-clause-room : goal.invariant_of-self-clause-room
 invariant_of-self-clause-room g c =
     let it = c.args.self.now in let o = it.outs in let q = it.posts_room in let r = it.room in
     let p = asks.posted_outs it.numbers.items c.args.number c.args.caller (vec_len it.events) (subst (λ s. is_order s c.args.caller c.args.number ≡ true) (sym it.replayed) c.requires.order) in let one = p.1 in let a = c.push_reserved-2.ensures.len in let b = c.push_reserved-2.ensures.capacity in omega arith
+
+pub invariant_of-self-clause-led : goal.invariant_of-self-clause-led
+invariant_of-self-clause-led g c = let it = c.args.self.now in led_with g.P.Payload.leads it.events.items it.events.items c.push_reserved-2.new.self.items (Post c.args.caller c.args.number c.args.payload) refl c.push_reserved-2.ensures.items it.led refl
