@@ -15,8 +15,8 @@ total f (x ∷ xs) = f x + total f xs
 
 -- what holds of each seat, for this history and these two words
 pub record Fits {E : Type 0} (maker : E → Option ℕ) (history : List E) (ticket serving : ℕ) (v : View E) : Type 0 where
-  -- it has seen a beginning of the history, with all entries of its own number
-  pub begins : Continues maker history v.seen v.number
+  -- it has seen a beginning of the history, with all entries of the numbers in its list
+  pub begins : Continues maker history v.seen v.numbers
   -- its ticket is out
   pub waiting : v.has_ticket ≡ true → (serving ≤ v.ticket) × (v.ticket < ticket)
   -- while it has the state its ticket is served, and it has seen the whole history
@@ -28,7 +28,7 @@ pub record Fits {E : Type 0} (maker : E → Option ℕ) (history : List E) (tick
   -- one with a ticket has a share
   pub live : v.has_ticket ≡ true → 0 < v.shares
   -- what it has seen continues what each of its two parts had seen
-  pub joined : (j : ℕ) (o : Joined E) → get_elem? v.joined j ≡ some o → Continues maker v.seen o.seen o.number
+  pub joined : (j : ℕ) (o : Joined E) → get_elem? v.joined j ≡ some o → Continues maker v.seen o.seen o.numbers
 
 -- the state is in its slot, has this history, and is no seat's
 pub record AtHome {T E : Type 0} (story : T → List E) (homes : List (maybe.Option (Option T)))

@@ -8,9 +8,9 @@ use Rattle.esm_hlock.specs.Makers.{times, names}
 abbrev pub longer : {E : Type 0} → List E → List E → List E
 longer xs ys = cond (nat_lt (length xs) (length ys)) ys xs
 
--- with all shares it lists each maker of an entry that it has seen
+-- with all shares it lists each maker of an entry that it has seen, exactly once
 abbrev pub HasAllMakers : {E : Type 0} → (E → Option ℕ) → View E → Type 0
-HasAllMakers maker v = v.shares ≡ 1024 → (k : ℕ) → names maker k v.seen ≡ 1 → 0 < times k v.numbers
+HasAllMakers maker v = v.shares ≡ 1024 → (k : ℕ) → names maker k v.seen ≡ 1 → times k v.numbers ≡ 1
 
 -- the place of the one slot in hand, and 1 where it isn't one
 abbrev pub hand_of : {A : Type 0} → List (ℕ × A) → ℕ

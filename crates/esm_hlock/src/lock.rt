@@ -66,14 +66,15 @@ impl<T: Story + Drop> Hlock<T> {
     }
 
     /// Waits for its turn, and takes the state out. The state's entries begin with what the pass
-    /// has seen, and none behind that has the pass's number as its maker. It yields for a while and
-    /// then sleeps. Once 2^64 - 1 tickets were drawn it waits for ever. It doesn't allocate.
+    /// has seen, and none behind that has a number in the pass's list as its maker. It yields for a
+    /// while and then sleeps. Once 2^64 - 1 tickets were drawn it waits for ever. It doesn't
+    /// allocate.
     pub fn enter<R: Wait>(&self, rt: &R, pass: Pass<T>) -> Held<T>
         requires { IsPassOf self.now pass }
         ensures own { IsHeldOf self.now result }
         ensures found { (found result).seen ≡ T.story result.state }
         ensures seen { Continues T.maker (T.story result.state) (knows pass).seen
-            (knows pass).number }
+            (knows pass).numbers }
         ensures shares { (found result).shares ≡ (knows pass).shares }
         ensures numbers { ((found result).number ≡ (knows pass).number)
             × ((found result).numbers ≡ (knows pass).numbers) }
@@ -134,15 +135,15 @@ impl<T: Story + Drop> Hlock<T> {
     }
 
     /// One pass of two. It has seen the longer of what they have seen, which both begin, and behind
-    /// the shorter the longer names the shorter one's number nowhere. It has the first one's number,
-    /// and the shares and the numbers of both. It doesn't allocate.
+    /// the shorter the longer names no number in the shorter one's list. It has the first one's
+    /// number, and the shares and the numbers of both. It doesn't allocate.
     pub fn join(&self, one: Pass<T>, other: Pass<T>) -> Pass<T>
         requires own { IsPassOf self.now one × IsPassOf self.now other }
         ensures own { IsPassOf self.now result }
         ensures seen { (knows result).seen ≡ longer (knows one).seen (knows other).seen }
-        ensures one { Continues T.maker (knows result).seen (knows one).seen (knows one).number }
+        ensures one { Continues T.maker (knows result).seen (knows one).seen (knows one).numbers }
         ensures other { Continues T.maker (knows result).seen (knows other).seen
-            (knows other).number }
+            (knows other).numbers }
         ensures shares { (knows result).shares ≡ (knows one).shares + (knows other).shares }
         ensures numbers { ((knows result).number ≡ (knows one).number)
             × ((knows result).numbers ≡ (knows one).numbers ++ (knows other).numbers) }
@@ -165,7 +166,7 @@ impl<T: Story + Drop> Hlock<T> {
     pub fn close(self, pass: Pass<T>) -> Result<T, Busy>
         requires { IsPassOf self pass }
         ensures seen { IfOk result (λ state.
-            Continues T.maker (T.story state) (knows pass).seen (knows pass).number) }
+            Continues T.maker (T.story state) (knows pass).seen (knows pass).numbers) }
         ensures legal { IfOk result (λ state.
             T.legal (T.story state) × T.replays (T.story state) state) }
         ensures exact { MatchResult result

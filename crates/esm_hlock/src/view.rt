@@ -5,8 +5,8 @@ use std::collections::LinkedList;
 pub struct Joined<E> {
     /// The entries that it had seen.
     pub seen: LinkedList<E>,
-    /// The number that its own entries name.
-    pub number: Option<u64>,
+    /// The numbers in its list.
+    pub numbers: LinkedList<u64>,
 }
 
 /// What a pass or a `Held` knows. No value of it is made.

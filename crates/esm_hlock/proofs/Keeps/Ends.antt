@@ -6,7 +6,7 @@ use native.Mathlib.Decide.{ℕ_discrete}
 use lib.ListN.{get_elem?}
 use Rattle.atomic_table.specs.Table.{Final, Seen, opening}
 use Rattle.esm_hlock.specs.declared.view.View.{View}
-use Rattle.esm_hlock.specs.Makers.{Continues}
+use Rattle.esm_hlock.specs.Makers.{Continues, makers_of}
 use Rattle.esm_hlock.specs.Rule.{Fits, AtHome, Away, Kept}
 use Rattle.esm_hlock.specs.Views.{HasAllMakers}
 use Rattle.esm_hlock.specs.Inner.Seats.{newcomer}
@@ -34,16 +34,16 @@ module _ {T E : Type 0} (story : T → List E) (maker : E → Option ℕ) where
 
   -- where the last words are equal, the slot has the state
   closes_at : (words : List ℕ) (slots : List (Option T)) (id : ℕ) (v : View E) → Final (Seen (Kept story maker) id v) words slots → get_or words 0 0 ≡ get_or words 1 0
-      → (state : T) × (get_elem? slots 0 ≡ some (Some state)) × Continues maker (story state) v.seen v.number
+      → (state : T) × (get_elem? slots 0 ≡ some (Some state)) × Continues maker (story state) v.seen v.numbers
   closes_at words slots id v (s, (r, at), same, size, kept) equal =
       let ws : words ≡ r.ticket ∷ r.serving ∷ length r.history ∷ [] = sym same ∙ r.words in
       let e : r.ticket ≡ r.serving = sym (ap (λ l. get_or l 0 0) ws) ∙ (equal ∙ ap (λ l. get_or l 1 0) ws) in
       let h : AtHome story s.homes s.views r.history = ⊎_elim (λ h. h) (λ (a : Away {T = T} s.homes s.views). let f = r.each a.seat a.view a.sits in let b = f.waiting (f.turn a.has_state).0 in absurd (omega (arith, b.0, b.1))) r.place in
-      (h.state, kept 0 (Some h.state) (ap (λ l. get_elem? l 0) h.there), subst (λ l. Continues maker l v.seen v.number) (sym h.is) (r.each id v at).begins)
+      (h.state, kept 0 (Some h.state) (ap (λ l. get_elem? l 0) h.there), subst (λ l. Continues maker l v.seen v.numbers) (sym h.is) (r.each id v at).begins)
 
   -- the same, of what was read
   pub closes : (words : List ℕ) (slots : List (Option T)) (id : ℕ) (v : View E) (slot : Option T) (a b : ℕ) → Final (Seen (Kept story maker) id v) words slots → get_elem? slots 0 ≡ some slot
-      → get_elem? words 0 ≡ some a → get_elem? words 1 ≡ some b → a ≡ b → (state : T) × (slot ≡ Some state) × Continues maker (story state) v.seen v.number
+      → get_elem? words 0 ≡ some a → get_elem? words 1 ≡ some b → a ≡ b → (state : T) × (slot ≡ Some state) × Continues maker (story state) v.seen v.numbers
   closes words slots id v slot a b final there at0 at1 same =
       let c = closes_at words slots id v final (at_get words 0 a 0 at0 ∙ (same ∙ sym (at_get words 1 b 0 at1))) in (c.0, some-injective slot (Some c.0) (sym there ∙ c.1), c.2)
 
@@ -73,13 +73,13 @@ module _ {T E : Type 0} (story : T → List E) (maker : E → Option ℕ) where
     order = omega arith;
     bound = omega arith;
     each = λ j u at. subst (Fits maker (story state) 0 0) (first v j u at) record {
-      begins = continues_self maker (story state) None;
+      begins = continues_self maker (story state) (makers_of maker (story state));
       waiting = λ h. absurd (false-true refl h);
       turn = λ h. absurd (false-true refl h);
       own = λ k e. cc;
       idle = λ z. absurd (omega arith);
       live = λ h. absurd (false-true refl h);
-      joined = λ j o e. none_there (Continues maker (story state) o.seen o.number) j o e;
+      joined = λ j o e. none_there (Continues maker (story state) o.seen o.numbers) j o e;
     };
     apart = λ i j a b ai bj wa wb same. absurd (false-true refl (ap (λ (x : View E). x.has_ticket) (first v i a ai) ∙ wa));
     out = λ k lo hi. absurd (omega arith);

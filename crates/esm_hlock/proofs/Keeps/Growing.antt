@@ -14,11 +14,11 @@ use Rattle.esm_hlock.proofs.Basics.Counts.{times_self, times_other, names_at_mos
 
 module _ {E : Type 0} (maker : E → Option ℕ) where
   -- a history continues itself
-  pub continues_self : (history : List E) (number : Option ℕ) → Continues maker history history number
+  pub continues_self : (history : List E) (number : List ℕ) → Continues maker history history number
   continues_self history number = ([], sym (append-nil history), λ k e. refl)
 
   -- an entry of another maker changes nothing of that
-  pub continues_more : (history now seen : List E) (number : Option ℕ) (e : E) → now ≡ history ++ e ∷ [] → ((k : ℕ) → number ≡ Some k → is_maker k (maker e) ≡ false) → Continues maker history seen number → Continues maker now seen number
+  pub continues_more : (history now seen : List E) (number : List ℕ) (e : E) → now ≡ history ++ e ∷ [] → ((k : ℕ) → 0 < times k number → is_maker k (maker e) ≡ false) → Continues maker history seen number → Continues maker now seen number
   continues_more history now seen number e is other (rest, at, none) = (
     rest ++ e ∷ [],
     is ∙ (ap (λ l. l ++ e ∷ []) at ∙ append_assoc seen rest (e ∷ [])),
@@ -43,14 +43,14 @@ module _ {E : Type 0} (maker : E → Option ℕ) where
 module _ {T E : Type 0} (story : T → List E) (maker : E → Option ℕ) (s : State (Option T) (View E)) (r : Kept story maker s) (id : ℕ) (v : View E) (at : get_elem? s.views id ≡ some v) where
   -- what the rule asks of a longer history, where the seat has this number and these numbers
   pub record Grows (now : List E) (number : Option ℕ) (numbers : List ℕ) : Type 0 where
-    pub others : (j : ℕ) (u : View E) → j ≢ id → get_elem? s.views j ≡ some u → Continues maker now u.seen u.number
+    pub others : (j : ℕ) (u : View E) → j ≢ id → get_elem? s.views j ≡ some u → Continues maker now u.seen u.numbers
     pub own : (k : ℕ) → number ≡ Some k → 0 < times k numbers
     pub makers : (k : ℕ) → total (λ v. times k v.numbers) s.views + times k numbers ≡ names maker k now + times k v.numbers
 
   -- no entry was added
   stays : (now : List E) → now ≡ r.history → Grows now v.number v.numbers
   stays now is = record {
-    others = λ j u ne there. subst (λ l. Continues maker l u.seen u.number) (sym is) (r.each j u there).begins;
+    others = λ j u ne there. subst (λ l. Continues maker l u.seen u.numbers) (sym is) (r.each j u there).begins;
     own = (r.each id v at).own;
     makers = λ k. let m = r.makers k in let n : names maker k now ≡ names maker k r.history = ap (names maker k) is in omega arith;
   }
@@ -58,7 +58,7 @@ module _ {T E : Type 0} (story : T → List E) (maker : E → Option ℕ) (s : S
   -- an entry with no maker
   unmade : (now : List E) (e : E) → now ≡ r.history ++ e ∷ [] → maker e ≡ None → Grows now v.number v.numbers
   unmade now e is no_maker = record {
-    others = λ j u ne there. continues_more maker r.history now u.seen u.number e is (λ k _. ap (is_maker k) no_maker) (r.each j u there).begins;
+    others = λ j u ne there. continues_more maker r.history now u.seen u.numbers e is (λ k _. ap (is_maker k) no_maker) (r.each j u there).begins;
     own = (r.each id v at).own;
     makers = λ k. let m = r.makers k in let n : names maker k now ≡ names maker k r.history = ap (names maker k) is ∙ names_other maker k r.history e (ap (is_maker k) no_maker) in omega arith;
   }
@@ -66,10 +66,10 @@ module _ {T E : Type 0} (story : T → List E) (maker : E → Option ℕ) (s : S
   -- an entry with the seat's own number
   mine : (now : List E) (e : E) (i : ℕ) → now ≡ r.history ++ e ∷ [] → maker e ≡ Some i → v.number ≡ Some i → Grows now v.number v.numbers
   mine now e i is made own = let has = (r.each id v at).own i own in record {
-    others = λ j u ne there. let f = r.each j u there in continues_more maker r.history now u.seen u.number e is
+    others = λ j u ne there. let f = r.each j u there in continues_more maker r.history now u.seen u.numbers e is
         (λ k other. ap (is_maker k) made ∙ ne_eqb i k
         (λ same. let twice = total_two (λ v. times i v.numbers) s.views j id u v ne there at in let m = r.makers i in let b = names_at_most_one maker i r.history in
-        let o : 0 < times i u.numbers = subst (λ (x : ℕ). 0 < times x u.numbers) (sym same) (f.own k other) in omega arith))
+        let o : 0 < times i u.numbers = subst (λ (x : ℕ). 0 < times x u.numbers) (sym same) other in omega arith))
         f.begins;
     own = (r.each id v at).own;
     makers = λ k. let m = r.makers k in dite (ℕ_discrete i k)
@@ -82,10 +82,10 @@ module _ {T E : Type 0} (story : T → List E) (maker : E → Option ℕ) (s : S
   -- an entry with a number that is new
   new_one : (now : List E) (e : E) (i : ℕ) → now ≡ r.history ++ e ∷ [] → maker e ≡ Some i → names maker i r.history ≡ 0 → Grows now (Some i) (i ∷ v.numbers)
   new_one now e i is made new = record {
-    others = λ j u ne there. let f = r.each j u there in continues_more maker r.history now u.seen u.number e is
+    others = λ j u ne there. let f = r.each j u there in continues_more maker r.history now u.seen u.numbers e is
         (λ k other. ap (is_maker k) made ∙ ne_eqb i k
         (λ same. let once = total_at (λ v. times i v.numbers) s.views j u there in let m = r.makers i in
-        let o : 0 < times i u.numbers = subst (λ (x : ℕ). 0 < times x u.numbers) (sym same) (f.own k other) in omega arith))
+        let o : 0 < times i u.numbers = subst (λ (x : ℕ). 0 < times x u.numbers) (sym same) other in omega arith))
         f.begins;
     own = λ k same. let is : i ≡ k = cc in subst (λ (x : ℕ). 0 < times x (i ∷ v.numbers)) is (let t = times_self i v.numbers in omega arith);
     makers = λ k. let m = r.makers k in dite (ℕ_discrete i k)

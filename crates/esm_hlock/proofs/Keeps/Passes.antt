@@ -8,6 +8,8 @@ use Rattle.atomic_table.specs.Table.{step, keeps, Allows, Splits, Joins}
 use Rattle.atomic_table.proofs.Lists.{set_else}
 use Rattle.esm_hlock.specs.declared.view.View.{View}
 use Rattle.esm_hlock.specs.declared.view.Joined.{Joined}
+use mathlib.Core.Logic.{dite}
+use native.Mathlib.Decide.{ℕ_discrete}
 use Rattle.esm_hlock.specs.Makers.{times, names, Continues}
 use Rattle.esm_hlock.specs.Rule.{Fits, Kept}
 use Rattle.esm_hlock.specs.Views.{longer}
@@ -17,6 +19,10 @@ use Rattle.esm_hlock.proofs.Basics.Lists.{false-true, cut, total_set, total_snoc
 use Rattle.esm_hlock.proofs.Basics.Counts.{times-append, names_left, names_right}
 use Rattle.esm_hlock.proofs.Keeps.Growing.{continues_self}
 use Rattle.esm_hlock.proofs.Keeps.Seats.{SeatOf, none_there, each_set, each_snoc, apart_idle, apart_snoc, out_idle, out_snoc, place_set, place_snoc, same_shares, same_makers, has_all_makers}
+
+-- a number in two lists is in one of them
+either : (m n : List ℕ) (k : ℕ) (A : Type 0) → (0 < times k m → A) → (0 < times k n → A) → 0 < times k (m ++ n) → A
+either m n k A f g h = dite (ℕ_discrete (times k m) 0) (λ z. g (let a = times-append k m n in omega arith)) (λ nz. f (omega arith))
 
 module _ {T E : Type 0} (story : T → List E) (maker : E → Option ℕ) where
   -- a seat with two shares or more is cut in two
@@ -30,13 +36,13 @@ module _ {T E : Type 0} (story : T → List E) (maker : E → Option ℕ) where
     bound = r.bound;
     each = each_snoc (Fits maker r.history r.ticket r.serving) vs u'
         (record {
-          begins = (f.begins.0, f.begins.1, λ k e. cc);
+          begins = (f.begins.0, f.begins.1, λ k e. absurd (omega arith));
           waiting = λ h. absurd (false-true refl h);
           turn = λ h. absurd (false-true refl h);
           own = λ k e. cc;
           idle = λ z. refl;
           live = λ h. absurd (false-true refl h);
-          joined = λ j o e. none_there (Continues maker v.seen o.seen o.number) j o e;
+          joined = λ j o e. none_there (Continues maker v.seen o.seen o.numbers) j o e;
         })
         (each_set (Fits maker r.history r.ticket r.serving) s.views id w
         (record {
@@ -46,7 +52,7 @@ module _ {T E : Type 0} (story : T → List E) (maker : E → Option ℕ) where
           own = f.own;
           idle = λ z. absurd (omega arith);
           live = λ h. absurd (false-true refl h);
-          joined = λ j o e. none_there (Continues maker v.seen o.seen o.number) j o e;
+          joined = λ j o e. none_there (Continues maker v.seen o.seen o.numbers) j o e;
         })
         (λ j u ne there. r.each j u there));
     apart = apart_snoc vs u' refl (apart_idle s.views id w refl r.apart);
@@ -57,25 +63,25 @@ module _ {T E : Type 0} (story : T → List E) (maker : E → Option ℕ) where
   }
 
   -- the longer of two beginnings of a history continues both, and the history continues it
-  pub continues_longer : (history a b : List E) (m n : Option ℕ) → Continues maker history a m → Continues maker history b n
-      → Continues maker history (longer a b) m × Continues maker (longer a b) a m × Continues maker (longer a b) b n
+  pub continues_longer : (history a b : List E) (m n : List ℕ) → Continues maker history a m → Continues maker history b n
+      → Continues maker history (longer a b) (m ++ n) × Continues maker (longer a b) a m × Continues maker (longer a b) b n
   continues_longer history a b m n qa qb = go (nat_lt (length a) (length b)) refl
     where
-      go : (t : Bool) → nat_lt (length a) (length b) ≡ t → Continues maker history (cond t b a) m × Continues maker (cond t b a) a m × Continues maker (cond t b a) b n
+      go : (t : Bool) → nat_lt (length a) (length b) ≡ t → Continues maker history (cond t b a) (m ++ n) × Continues maker (cond t b a) a m × Continues maker (cond t b a) b n
       go true e = let d = cut a b qa.0 qb.0 (sym qa.1 ∙ qb.1) (grind (arith, nat_tests)) in (
-        (qb.0, qb.1, λ k h. names_right maker k d.0 qb.0 (subst (λ l. names maker k l ≡ 0) d.2 (qa.2 k h))),
+        (qb.0, qb.1, λ k h. either m n k (names maker k qb.0 ≡ 0) (λ i. names_right maker k d.0 qb.0 (subst (λ l. names maker k l ≡ 0) d.2 (qa.2 k i))) (qb.2 k) h),
         (d.0, d.1, λ k h. names_left maker k d.0 qb.0 (subst (λ l. names maker k l ≡ 0) d.2 (qa.2 k h))),
         continues_self maker b n,
       )
       go false e = let d = cut b a qb.0 qa.0 (sym qb.1 ∙ qa.1) (grind (arith, nat_tests)) in
-          (qa, continues_self maker a m, (d.0, d.1, λ k h. names_left maker k d.0 qa.0 (subst (λ l. names maker k l ≡ 0) d.2 (qb.2 k h))))
+          ((qa.0, qa.1, λ k h. either m n k (names maker k qa.0 ≡ 0) (qa.2 k) (λ i. names_right maker k d.0 qa.0 (subst (λ l. names maker k l ≡ 0) d.2 (qb.2 k i))) h), continues_self maker a m, (d.0, d.1, λ k h. names_left maker k d.0 qa.0 (subst (λ l. names maker k l ≡ 0) d.2 (qb.2 k h))))
 
   -- two seats without tickets are made one
   pub joins_seats : (id : ℕ) (v : View E) (other : ℕ) (u : View E) → v.has_ticket ≡ false → v.has_state ≡ false → u.has_ticket ≡ false → u.has_state ≡ false → Joins (Kept story maker) id v other u (after_join v u) spent
   joins_seats id v other u idle free idle' free' s r at apart there =
       let w : View E = after_join v u in let vs : List (View E) = set s.views id w in let f = r.each id v at in
       let there' : get_elem? s.views other ≡ some u = sym (set_else s.views id other w apart) ∙ there in let g = r.each other u there' in
-      let q = continues_longer r.history v.seen u.seen v.number u.number f.begins g.begins in record {
+      let q = continues_longer r.history v.seen u.seen v.numbers u.numbers f.begins g.begins in record {
         history = r.history;
         ticket = r.ticket;
         serving = r.serving;
@@ -84,13 +90,13 @@ module _ {T E : Type 0} (story : T → List E) (maker : E → Option ℕ) where
         bound = r.bound;
         each = each_set (Fits maker r.history r.ticket r.serving) vs other spent
             (record {
-              begins = (r.history, refl, λ k e. cc);
+              begins = (r.history, refl, λ k e. absurd (omega arith));
               waiting = λ h. absurd (false-true refl h);
               turn = λ h. absurd (false-true refl h);
               own = λ k e. cc;
               idle = λ z. refl;
               live = λ h. absurd (false-true refl h);
-              joined = λ j o e. none_there (Continues maker [] o.seen o.number) j o e;
+              joined = λ j o e. none_there (Continues maker [] o.seen o.numbers) j o e;
             })
             (λ j x _ jx. each_set (Fits maker r.history r.ticket r.serving) s.views id w
             (record {
@@ -111,9 +117,9 @@ module _ {T E : Type 0} (story : T → List E) (maker : E → Option ℕ) where
             omega (arith, times-append k v.numbers u.numbers);
       }
     where
-      joined_both : (seen : List E) (a b : Joined E) → Continues maker seen a.seen a.number → Continues maker seen b.seen b.number → (j : ℕ) (o : Joined E) → get_elem? (a ∷ b ∷ []) j ≡ some o → Continues maker seen o.seen o.number
-      joined_both seen a b qa qb zero o e = subst (λ (o : Joined E). Continues maker seen o.seen o.number) (some-injective a o e) qa
-      joined_both seen a b qa qb (suc zero) o e = subst (λ (o : Joined E). Continues maker seen o.seen o.number) (some-injective b o e) qb
+      joined_both : (seen : List E) (a b : Joined E) → Continues maker seen a.seen a.numbers → Continues maker seen b.seen b.numbers → (j : ℕ) (o : Joined E) → get_elem? (a ∷ b ∷ []) j ≡ some o → Continues maker seen o.seen o.numbers
+      joined_both seen a b qa qb zero o e = subst (λ (o : Joined E). Continues maker seen o.seen o.numbers) (some-injective a o e) qa
+      joined_both seen a b qa qb (suc zero) o e = subst (λ (o : Joined E). Continues maker seen o.seen o.numbers) (some-injective b o e) qb
       joined_both seen a b qa qb (suc (suc j)) o e = absurd (some-ne-none o (sym e))
 
   -- a load that changes nothing tells what the rule says of the seat
@@ -137,7 +143,7 @@ module _ {T E : Type 0} (story : T → List E) (maker : E → Option ℕ) where
             own = f.own;
             idle = f.idle;
             live = λ h. absurd (false-true refl h);
-            joined = λ j o e. none_there (Continues maker v.seen o.seen o.number) j o e;
+            joined = λ j o e. none_there (Continues maker v.seen o.seen o.numbers) j o e;
           })
           (λ j u ne there. r.each j u there);
       apart = apart_idle s.views id w refl r.apart;

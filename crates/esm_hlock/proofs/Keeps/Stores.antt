@@ -30,13 +30,13 @@ module _ {T E : Type 0} (story : T → List E) (maker : E → Option ℕ) where
         bound = r.bound;
         each = each_set (Fits maker now r.ticket r.serving) s.views id w
             (record {
-              begins = continues_self maker now w.number;
+              begins = continues_self maker now w.numbers;
               waiting = λ _. f.waiting mine.0;
               turn = λ _. (refl, mine.1, refl);
               own = g.own;
               idle = λ z. let l = f.live mine.0 in absurd (omega arith);
               live = λ _. f.live mine.0;
-              joined = λ j o e. none_there (Continues maker now o.seen o.number) j o e;
+              joined = λ j o e. none_there (Continues maker now o.seen o.numbers) j o e;
             })
             (λ j u ne there. let q = r.each j u there in record {
               begins = g.others j u ne there;
@@ -80,7 +80,7 @@ module _ {T E : Type 0} (story : T → List E) (maker : E → Option ℕ) where
                 own = f.own;
                 idle = f.idle;
                 live = λ h. absurd (false-true refl h);
-                joined = λ j o e. none_there (Continues maker v.seen o.seen o.number) j o e;
+                joined = λ j o e. none_there (Continues maker v.seen o.seen o.numbers) j o e;
               })
               (λ j u ne there. let g = r.each j u there in record {
                 begins = g.begins;

@@ -43,7 +43,7 @@ module _ {T E : Type 0} (story : T → List E) (maker : E → Option ℕ) where
                 own = f.own;
                 idle = f.idle;
                 live = λ _. live;
-                joined = λ j o e. none_there (Continues maker v.seen o.seen o.number) j o e;
+                joined = λ j o e. none_there (Continues maker v.seen o.seen o.numbers) j o e;
               })
               (λ j u ne there. let f = r.each j u there in record { begins = f.begins; waiting = λ q. let b = f.waiting q in (b.0, omega (arith, b.1)); turn = f.turn; own = f.own; idle = f.idle; live = f.live; joined = f.joined });
           apart = apart_set s.views id w r.apart (λ j u ne there wu ww same. let b = (r.each j u there).waiting wu in absurd (omega (arith, b.1)));
@@ -74,13 +74,13 @@ module _ {T E : Type 0} (story : T → List E) (maker : E → Option ℕ) where
         bound = r.bound;
         each = each_set (Fits maker r.history r.ticket r.serving) s.views id w
             (record {
-              begins = subst (λ l. Continues maker l (story x) v.number) h.is (continues_self maker (story x) v.number);
+              begins = subst (λ l. Continues maker l (story x) v.numbers) h.is (continues_self maker (story x) v.numbers);
               waiting = λ _. f.waiting waits;
               turn = λ _. (refl, is, h.is);
               own = f.own;
               idle = f.idle;
               live = λ _. f.live waits;
-              joined = λ j o e. none_there (Continues maker (story x) o.seen o.number) j o e;
+              joined = λ j o e. none_there (Continues maker (story x) o.seen o.numbers) j o e;
             })
             (λ j u ne there. r.each j u there);
         apart = apart_same s.views id v w at waits refl r.apart;
@@ -93,6 +93,6 @@ module _ {T E : Type 0} (story : T → List E) (maker : E → Option ℕ) where
         takes 0 (Some x),
         ap (λ l. get_elem? l 0) h.there,
         after,
-        ((λ _. (x, refl, subst (λ l. Continues maker l v.seen v.number) (sym h.is) f.begins, has_all_makers story maker (stepped s 1 (get_or s.words 1 0) id me.1 w (takes 0 (Some x))) after id w here)), (λ miss. absurd (miss hit))),
+        ((λ _. (x, refl, subst (λ l. Continues maker l v.seen v.numbers) (sym h.is) f.begins, has_all_makers story maker (stepped s 1 (get_or s.words 1 0) id me.1 w (takes 0 (Some x))) after id w here)), (λ miss. absurd (miss hit))),
       ))
       (λ miss. (v, keeps, tt, stays story maker s r 1 id me.1 v at, ((λ hit. absurd (miss hit)), (λ _. refl))))

@@ -86,7 +86,7 @@ module _ {E : Type 0} where
 
   -- what is remembered of a seat that was joined
   abbrev pub joined_from : View E → Joined E
-  joined_from v = record { seen = v.seen; number = v.number }
+  joined_from v = record { seen = v.seen; numbers = v.numbers }
 
   -- one seat of two, with the first one's number
   abbrev pub after_join : View E → View E → View E

@@ -23,7 +23,7 @@ module _ {E : Type 0} (maker : E → Option ℕ) where
   abbrev pub LookedBack : {S : Type 0} → Step S → Me S (View E) → ℕ → Me S (View E) → Type 0
   LookedBack st m r n =
       (n ≡ (without_ticket m.0, m.1))
-      × ((j : ℕ) (o : Joined E) → get_elem? m.0.joined j ≡ some o → Continues maker m.0.seen o.seen o.number)
+      × ((j : ℕ) (o : Joined E) → get_elem? m.0.joined j ≡ some o → Continues maker m.0.seen o.seen o.numbers)
       × HasAllMakers maker m.0
 
 module _ {T E : Type 0} (story : T → List E) (maker : E → Option ℕ) where
@@ -31,7 +31,7 @@ module _ {T E : Type 0} (story : T → List E) (maker : E → Option ℕ) where
   abbrev pub GotState : Me (Option T) (View E) → Me (Option T) (View E) → Type 0
   GotState m n =
       (state : T) × (n ≡ (with_state m.0 (story state), (0, Some state) ∷ m.1))
-      × Continues maker (story state) m.0.seen m.0.number × HasAllMakers maker n.0
+      × Continues maker (story state) m.0.seen m.0.numbers × HasAllMakers maker n.0
 
   -- the seat has got the state where its ticket is served, and else is as it was
   abbrev pub LoadedServing : Step (Option T) → Me (Option T) (View E) → ℕ → Me (Option T) (View E) → Type 0

@@ -12,7 +12,7 @@ unwrap-requires g c = let h = closes g.T.Story.story g.T.Story.maker _ _ _ _ _ _
 pub returns-clause-seen : goal.returns-clause-seen
 returns-clause-seen g c = let h = closes g.T.Story.story g.T.Story.maker _ _ _ _ _ _ _ c.close_with-closed.ensures.values.2 c.take-slot.ensures.value c.word-ticket.ensures c.word-serving.ensures c.if-ticket-serving.false in
     let same : Some h.0 ≡ Some c.unwrap.result = sym h.1 ∙ c.unwrap.ensures in let is : h.0 ≡ c.unwrap.result = cc in
-    subst (λ x. Continues g.T.Story.maker (g.T.Story.story x) c.args.pass.seat.me.0.seen c.args.pass.seat.me.0.number) is h.2
+    subst (λ x. Continues g.T.Story.maker (g.T.Story.story x) c.args.pass.seat.me.0.seen c.args.pass.seat.me.0.numbers) is h.2
 
 pub returns-clause-legal : goal.returns-clause-legal
 returns-clause-legal g c = (g.met.T.Story.lawful _, g.met.T.Story.whole _)

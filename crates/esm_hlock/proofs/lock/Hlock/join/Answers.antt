@@ -15,8 +15,8 @@ load-requires g c = let m = c.join_seat.ensures.2 in (search rules, search rules
 
 pub returns-clause-one : goal.returns-clause-one
 returns-clause-one g c = let m = c.join_seat.ensures.2 in let l = c.load.ensures.2 in
-    subst (λ x. Continues g.T.Story.maker x c.args.one.seat.me.0.seen c.args.one.seat.me.0.number) (sym (ap (λ m. m.0.seen) l.0)) (l.1 0 (joined_from c.args.one.seat.me.0) (ap (λ m. get_elem? m.0.joined 0) m))
+    subst (λ x. Continues g.T.Story.maker x c.args.one.seat.me.0.seen c.args.one.seat.me.0.numbers) (sym (ap (λ m. m.0.seen) l.0)) (l.1 0 (joined_from c.args.one.seat.me.0) (ap (λ m. get_elem? m.0.joined 0) m))
 
 pub returns-clause-other : goal.returns-clause-other
 returns-clause-other g c = let m = c.join_seat.ensures.2 in let l = c.load.ensures.2 in
-    subst (λ x. Continues g.T.Story.maker x c.args.other.seat.me.0.seen c.args.other.seat.me.0.number) (sym (ap (λ m. m.0.seen) l.0)) (l.1 1 (joined_from c.args.other.seat.me.0) (ap (λ m. get_elem? m.0.joined 1) m))
+    subst (λ x. Continues g.T.Story.maker x c.args.other.seat.me.0.seen c.args.other.seat.me.0.numbers) (sym (ap (λ m. m.0.seen) l.0)) (l.1 1 (joined_from c.args.other.seat.me.0) (ap (λ m. get_elem? m.0.joined 1) m))

@@ -1,0 +1,25 @@
+use Rattle.std.proofs.Common.{arith, ap, ◌∙◌, sym, refl, subst, ◌≡◌, ◌+◌, ◌<◌, ◌++◌, ◌∷◌, [], ℕ, List, vec_len, not, Bool, true, false, length, cond, slice_get, bytes_eq, Some, min}
+use Rattle.esm_module_map.specs.declared.number.Number.{Number}
+use Rattle.esm_module_map.specs.Replay.{Replay, replay, change_at, asked_again, fresh_number, taken_by, posted_at, is_out, outs_of, next_order, may_be_ahead, is_order, number_for, is_numbered}
+use Rattle.esm_base.specs.declared.limits.TheConstants.{MAX_DELIVERED_BYTES}
+use Rattle.esm_module_map.proofs.Replays.{lt_true, lt_none, length_change, outs_change, outs_append, outs_most, outs_same}
+use Rattle.esm_module_map.proofs.Asks as asks
+use Rattle.esm_module_map.proofs.state.MapState.ask_known.Goals as goal
+use Rattle.esm_module_map.proofs.Led.{led_ask}
+
+pub invariant_of-self-2-clause-legal : goal.invariant_of-self-2-clause-legal
+invariant_of-self-2-clause-legal g c = let it = c.args.self.now in
+    (asks.ask_known g.P.Payload.weight _ it.events.items c.reserve.new.self.items c.push_reserved.new.self.items c.args.caller c.args.place (vec_len c.push_reserved.new.self) c.in-Ok.copy c.args.url.now c.args.why c.ask_again.new.numbers.items it.replayed it.legal c.reserve.ensures.items c.push_reserved.ensures.items
+    c.in-Ok.ensures c.requires.is_in c.requires.live c.requires.usable c.requires.known (let w = c.requires.within in let a = it.aligned in omega arith) (subst (λ r. may_be_ahead r c.args.why ≡ true) (sym it.replayed) c.requires.ahead) (c.push_reserved.ensures.len ∙ ap (λ k. k + 1) c.reserve.ensures.len) c.ask_again.ensures.items).0
+
+pub invariant_of-self-2-clause-replayed : goal.invariant_of-self-2-clause-replayed
+invariant_of-self-2-clause-replayed g c = let it = c.args.self.now in
+    (asks.ask_known g.P.Payload.weight _ it.events.items c.reserve.new.self.items c.push_reserved.new.self.items c.args.caller c.args.place (vec_len c.push_reserved.new.self) c.in-Ok.copy c.args.url.now c.args.why c.ask_again.new.numbers.items it.replayed it.legal c.reserve.ensures.items c.push_reserved.ensures.items
+    c.in-Ok.ensures c.requires.is_in c.requires.live c.requires.usable c.requires.known (let w = c.requires.within in let a = it.aligned in omega arith) (subst (λ r. may_be_ahead r c.args.why ≡ true) (sym it.replayed) c.requires.ahead) (c.push_reserved.ensures.len ∙ ap (λ k. k + 1) c.reserve.ensures.len) c.ask_again.ensures.items).1
+
+pub invariant_of-self-2-clause-outs : goal.invariant_of-self-2-clause-outs
+invariant_of-self-2-clause-outs g c = let it = c.args.self.now in it.outs ∙ sym (outs_same it.numbers.items c.args.place (asked_again c.args.why) (asks.again_out c.args.why)) ∙ ap outs_of (sym c.ask_again.ensures.items)
+
+pub invariant_of-self-2-clause-led : goal.invariant_of-self-2-clause-led
+invariant_of-self-2-clause-led g c = let it = c.args.self.now in
+    led_ask g.P.Payload.leads it.events.items c.reserve.new.self.items c.push_reserved.new.self.items c.args.caller c.args.place c.in-Ok.copy c.args.url.now c.args.why c.reserve.ensures.items c.push_reserved.ensures.items it.led c.in-Ok.ensures c.requires.leads

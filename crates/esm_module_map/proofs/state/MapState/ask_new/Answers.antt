@@ -1,0 +1,26 @@
+use Rattle.std.proofs.Common.{arith, ap, ◌∙◌, sym, refl, subst, ◌≡◌, ◌+◌, ◌<◌, ◌++◌, ◌∷◌, [], ℕ, List, vec_len, not, Bool, true, false, length, cond, slice_get, bytes_eq, Some, min}
+use Rattle.esm_module_map.specs.declared.number.Number.{Number}
+use Rattle.esm_module_map.specs.Replay.{Replay, replay, change_at, asked_again, fresh_number, taken_by, posted_at, is_out, outs_of, next_order, may_be_ahead, is_order, number_for, is_numbered}
+use Rattle.esm_base.specs.declared.limits.TheConstants.{MAX_DELIVERED_BYTES}
+use Rattle.esm_module_map.proofs.Replays.{lt_true, lt_none, length_change, outs_change, outs_append, outs_most, outs_same}
+use Rattle.esm_module_map.proofs.Asks as asks
+use Rattle.esm_module_map.proofs.state.MapState.ask_new.Goals as goal
+use Rattle.esm_module_map.proofs.Led.{led_ask}
+
+pub invariant_of-self-2-clause-legal : goal.invariant_of-self-2-clause-legal
+invariant_of-self-2-clause-legal g c = let it = c.args.self.now in
+    (asks.ask_new g.P.Payload.weight _ it.events.items c.reserve.new.self.items c.push_reserved-2.new.self.items c.args.caller c.len-number.result (vec_len c.push_reserved-2.new.self) c.count_number.new.wanted c.count_number.new.ahead c.in-Ok.copy c.args.url.now c.args.why c.push_reserved.new.self.items c.add_key.new.urls.keys it.replayed it.legal c.reserve.ensures.items c.push_reserved-2.ensures.items
+    c.in-Ok.ensures c.requires.is_in c.requires.live c.requires.usable c.requires.fresh (let a = it.aligned in let b = c.reserve-2.ensures.len in let d = c.len-number.ensures in omega arith) (sym c.has_room.ensures ∙ c.if-not-has_room.false) (subst (λ r. may_be_ahead r c.args.why ≡ true) (sym it.replayed) c.requires.ahead) (c.push_reserved-2.ensures.len ∙ ap (λ k. k + 1) c.reserve.ensures.len) (c.in-Ok-add_key.ensures ∙ ap (λ u. it.urls.keys ++ u ∷ []) c.in-Ok-clone.ensures) (c.push_reserved.ensures.items ∙ ap (λ l. l ++ c.fresh.result ∷ []) c.reserve-2.ensures.items ∙ ap (λ x. it.numbers.items ++ x ∷ []) c.fresh.ensures) c.count_number.ensures.wanted c.count_number.ensures.ahead).0
+
+pub invariant_of-self-2-clause-replayed : goal.invariant_of-self-2-clause-replayed
+invariant_of-self-2-clause-replayed g c = let it = c.args.self.now in
+    (asks.ask_new g.P.Payload.weight _ it.events.items c.reserve.new.self.items c.push_reserved-2.new.self.items c.args.caller c.len-number.result (vec_len c.push_reserved-2.new.self) c.count_number.new.wanted c.count_number.new.ahead c.in-Ok.copy c.args.url.now c.args.why c.push_reserved.new.self.items c.add_key.new.urls.keys it.replayed it.legal c.reserve.ensures.items c.push_reserved-2.ensures.items
+    c.in-Ok.ensures c.requires.is_in c.requires.live c.requires.usable c.requires.fresh (let a = it.aligned in let b = c.reserve-2.ensures.len in let d = c.len-number.ensures in omega arith) (sym c.has_room.ensures ∙ c.if-not-has_room.false) (subst (λ r. may_be_ahead r c.args.why ≡ true) (sym it.replayed) c.requires.ahead) (c.push_reserved-2.ensures.len ∙ ap (λ k. k + 1) c.reserve.ensures.len) (c.in-Ok-add_key.ensures ∙ ap (λ u. it.urls.keys ++ u ∷ []) c.in-Ok-clone.ensures) (c.push_reserved.ensures.items ∙ ap (λ l. l ++ c.fresh.result ∷ []) c.reserve-2.ensures.items ∙ ap (λ x. it.numbers.items ++ x ∷ []) c.fresh.ensures) c.count_number.ensures.wanted c.count_number.ensures.ahead).1
+
+pub invariant_of-self-2-clause-outs : goal.invariant_of-self-2-clause-outs
+invariant_of-self-2-clause-outs g c = let it = c.args.self.now in let e = ap outs_of (c.push_reserved.ensures.items ∙ ap (λ l. l ++ c.fresh.result ∷ []) c.reserve-2.ensures.items ∙ ap (λ x. it.numbers.items ++ x ∷ []) c.fresh.ensures) in
+    let f : cond {A = ℕ} (is_out (fresh_number c.args.why)) 1 0 ≡ 0 = ap (λ b. cond b 1 0) (asks.fresh_out c.args.why) in let o = it.outs in omega (arith, e, f, outs_append it.numbers.items (fresh_number c.args.why ∷ []))
+
+pub invariant_of-self-2-clause-led : goal.invariant_of-self-2-clause-led
+invariant_of-self-2-clause-led g c = let it = c.args.self.now in
+    led_ask g.P.Payload.leads it.events.items c.reserve.new.self.items c.push_reserved-2.new.self.items c.args.caller c.len-number.result c.in-Ok.copy c.args.url.now c.args.why c.reserve.ensures.items c.push_reserved-2.ensures.items it.led c.in-Ok.ensures c.requires.leads

@@ -1,0 +1,28 @@
+use Rattle.std.proofs.Common.{arith, ap, ◌∙◌, sym, refl, subst, ◌≡◌, ◌+◌, ◌<◌, ◌++◌, ◌∷◌, [], ℕ, List, vec_len, not, Bool, true, false, length, cond, slice_get, bytes_eq, Some, min}
+use Rattle.esm_module_map.specs.declared.number.Number.{Number}
+use Rattle.esm_module_map.specs.Replay.{Replay, replay, change_at, asked_again, fresh_number, taken_by, posted_at, is_out, outs_of, next_order, may_be_ahead, is_order, number_for, is_numbered}
+use Rattle.esm_base.specs.declared.limits.TheConstants.{MAX_DELIVERED_BYTES}
+use Rattle.esm_module_map.proofs.Replays.{lt_true, lt_none, length_change, outs_change, outs_append, outs_most, outs_same}
+use Rattle.esm_module_map.proofs.Asks as asks
+use Rattle.esm_module_map.proofs.state.MapState.give_out.Goals as goal
+use Rattle.esm_module_map.proofs.Led.{led_with}
+use Rattle.esm_module_map.specs.declared.event.MapEvent.TheVariants.{Take}
+
+pub invariant_of-self-2-clause-legal : goal.invariant_of-self-2-clause-legal
+invariant_of-self-2-clause-legal g c = let it = c.args.self.now in
+    (asks.take_next g.P.Payload.weight _ it.events.items c.reserve.new.self.items c.push_reserved.new.self.items c.args.caller c.args.place (vec_len c.push_reserved.new.self) c.set_taker.new.numbers.items c.reserve-2.new.self.items it.replayed it.legal c.reserve.ensures.items c.push_reserved.ensures.items
+    c.requires.is_in c.requires.live (ap next_order it.replayed ∙ c.requires.next) (c.push_reserved.ensures.len ∙ ap (λ k. k + 1) c.reserve.ensures.len) c.set_taker.ensures.items c.reserve-2.ensures.items).0
+
+pub invariant_of-self-2-clause-replayed : goal.invariant_of-self-2-clause-replayed
+invariant_of-self-2-clause-replayed g c = let it = c.args.self.now in
+    (asks.take_next g.P.Payload.weight _ it.events.items c.reserve.new.self.items c.push_reserved.new.self.items c.args.caller c.args.place (vec_len c.push_reserved.new.self) c.set_taker.new.numbers.items c.reserve-2.new.self.items it.replayed it.legal c.reserve.ensures.items c.push_reserved.ensures.items
+    c.requires.is_in c.requires.live (ap next_order it.replayed ∙ c.requires.next) (c.push_reserved.ensures.len ∙ ap (λ k. k + 1) c.reserve.ensures.len) c.set_taker.ensures.items c.reserve-2.ensures.items).1
+
+pub set_taker-requires : goal.set_taker-requires
+set_taker-requires g c = let it = c.args.self.now in (asks.taken_outs (record { events = vec_len it.events; callers = it.callers; urls = it.urls.keys; numbers = it.numbers.items; posts = it.posts.items; wanted = it.wanted; ahead = it.ahead; weight = it.weight; shut = it.shut }) c.args.place c.args.caller (ap next_order it.replayed ∙ c.requires.next)).0
+
+pub invariant_of-self-2-clause-outs : goal.invariant_of-self-2-clause-outs
+invariant_of-self-2-clause-outs g c = let it = c.args.self.now in let t = (asks.taken_outs (record { events = vec_len it.events; callers = it.callers; urls = it.urls.keys; numbers = it.numbers.items; posts = it.posts.items; wanted = it.wanted; ahead = it.ahead; weight = it.weight; shut = it.shut }) c.args.place c.args.caller (ap next_order it.replayed ∙ c.requires.next)).1 in let e = ap outs_of c.set_taker.ensures.items in let o = it.outs in omega (arith, t, e, o)
+
+pub invariant_of-self-2-clause-led : goal.invariant_of-self-2-clause-led
+invariant_of-self-2-clause-led g c = let it = c.args.self.now in led_with g.P.Payload.leads it.events.items c.reserve.new.self.items c.push_reserved.new.self.items (Take c.args.caller c.args.place) c.reserve.ensures.items c.push_reserved.ensures.items it.led refl

@@ -1,0 +1,52 @@
+use Rattle.std.proofs.Common.{arith, ap, ◌∙◌, sym, refl, subst, ◌≡◌, ◌+◌, ◌<◌, ◌++◌, ◌∷◌, [], ℕ, List, vec_len, not, Bool, true, false, length, cond, slice_get, bytes_eq, Some, min}
+use Rattle.esm_module_map.specs.declared.number.Number.{Number}
+use Rattle.esm_module_map.specs.Replay.{Replay, replay, change_at, asked_again, fresh_number, taken_by, posted_at, is_out, outs_of, next_order, may_be_ahead, is_order, number_for, is_numbered}
+use Rattle.esm_base.specs.declared.limits.TheConstants.{MAX_DELIVERED_BYTES}
+use Rattle.esm_module_map.proofs.Replays.{lt_true, lt_none, length_change, outs_change, outs_append, outs_most, outs_same}
+use Rattle.esm_module_map.proofs.Asks as asks
+use Rattle.esm_module_map.proofs.state.MapState.post.Goals as goal
+use Rattle.esm_module_map.proofs.Led.{led_with}
+use Rattle.esm_module_map.specs.declared.event.MapEvent.TheVariants.{Post}
+
+pub invariant_of-self-clause-legal : goal.invariant_of-self-clause-legal
+invariant_of-self-clause-legal g c = let it = c.args.self.now in
+    (asks.post_order g.P.Payload.weight _ it.events.items c.push_reserved-2.new.self.items c.args.caller c.args.number (vec_len c.push_reserved-2.new.self) c.heavier.result c.args.payload c.set_place.new.numbers.items c.push_reserved.new.self.items it.replayed it.legal c.push_reserved-2.ensures.items
+    (subst (λ r. c.args.caller < r.callers) (sym it.replayed) c.requires.is_in) (subst (λ r. is_order r c.args.caller c.args.number ≡ true) (sym it.replayed) c.requires.order) c.push_reserved-2.ensures.len (c.set_place.ensures.items ∙ ap (λ k. change_at it.numbers.items c.args.number (posted_at k)) c.len.ensures) c.push_reserved.ensures.items (c.heavier.ensures ∙ ap (λ k. min (it.weight + k) MAX_DELIVERED_BYTES) (c.size-size.ensures ∙ ap g.P.Payload.weight c.deref.ensures))).0
+
+pub invariant_of-self-clause-replayed : goal.invariant_of-self-clause-replayed
+invariant_of-self-clause-replayed g c = let it = c.args.self.now in
+    (asks.post_order g.P.Payload.weight _ it.events.items c.push_reserved-2.new.self.items c.args.caller c.args.number (vec_len c.push_reserved-2.new.self) c.heavier.result c.args.payload c.set_place.new.numbers.items c.push_reserved.new.self.items it.replayed it.legal c.push_reserved-2.ensures.items
+    (subst (λ r. c.args.caller < r.callers) (sym it.replayed) c.requires.is_in) (subst (λ r. is_order r c.args.caller c.args.number ≡ true) (sym it.replayed) c.requires.order) c.push_reserved-2.ensures.len (c.set_place.ensures.items ∙ ap (λ k. change_at it.numbers.items c.args.number (posted_at k)) c.len.ensures) c.push_reserved.ensures.items (c.heavier.ensures ∙ ap (λ k. min (it.weight + k) MAX_DELIVERED_BYTES) (c.size-size.ensures ∙ ap g.P.Payload.weight c.deref.ensures))).1
+
+pub set_place-requires : goal.set_place-requires
+set_place-requires g c =
+    let it = c.args.self.now in let o = it.outs in let q = it.posts_room in let r = it.room in
+    let p = asks.posted_outs it.numbers.items c.args.number c.args.caller (vec_len it.events) (subst (λ s. is_order s c.args.caller c.args.number ≡ true) (sym it.replayed) c.requires.order) in let one = p.1 in p.0
+
+pub push_reserved-requires : goal.push_reserved-requires
+push_reserved-requires g c =
+    let it = c.args.self.now in let o = it.outs in let q = it.posts_room in let r = it.room in
+    let p = asks.posted_outs it.numbers.items c.args.number c.args.caller (vec_len it.events) (subst (λ s. is_order s c.args.caller c.args.number ≡ true) (sym it.replayed) c.requires.order) in let one = p.1 in omega arith
+
+pub overflow_sub-out : goal.overflow_sub-out
+overflow_sub-out g c =
+    let it = c.args.self.now in let o = it.outs in let q = it.posts_room in let r = it.room in
+    let p = asks.posted_outs it.numbers.items c.args.number c.args.caller (vec_len it.events) (subst (λ s. is_order s c.args.caller c.args.number ≡ true) (sym it.replayed) c.requires.order) in let one = p.1 in omega arith
+
+pub push_reserved-requires-2 : goal.push_reserved-requires-2
+push_reserved-requires-2 g c =
+    let it = c.args.self.now in let o = it.outs in let q = it.posts_room in let r = it.room in
+    let p = asks.posted_outs it.numbers.items c.args.number c.args.caller (vec_len it.events) (subst (λ s. is_order s c.args.caller c.args.number ≡ true) (sym it.replayed) c.requires.order) in let one = p.1 in omega arith
+
+pub invariant_of-self-clause-outs : goal.invariant_of-self-clause-outs
+invariant_of-self-clause-outs g c =
+    let it = c.args.self.now in let o = it.outs in let q = it.posts_room in let r = it.room in
+    let p = asks.posted_outs it.numbers.items c.args.number c.args.caller (vec_len it.events) (subst (λ s. is_order s c.args.caller c.args.number ≡ true) (sym it.replayed) c.requires.order) in let one = p.1 in let e = ap outs_of (c.set_place.ensures.items ∙ ap (λ k. change_at it.numbers.items c.args.number (posted_at k)) c.len.ensures) in omega (arith, e, one, o)
+
+pub invariant_of-self-clause-room : goal.invariant_of-self-clause-room
+invariant_of-self-clause-room g c =
+    let it = c.args.self.now in let o = it.outs in let q = it.posts_room in let r = it.room in
+    let p = asks.posted_outs it.numbers.items c.args.number c.args.caller (vec_len it.events) (subst (λ s. is_order s c.args.caller c.args.number ≡ true) (sym it.replayed) c.requires.order) in let one = p.1 in let a = c.push_reserved-2.ensures.len in let b = c.push_reserved-2.ensures.capacity in omega arith
+
+pub invariant_of-self-clause-led : goal.invariant_of-self-clause-led
+invariant_of-self-clause-led g c = let it = c.args.self.now in led_with g.P.Payload.leads it.events.items it.events.items c.push_reserved-2.new.self.items (Post c.args.caller c.args.number c.args.payload) refl c.push_reserved-2.ensures.items it.led refl

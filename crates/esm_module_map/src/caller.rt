@@ -1,0 +1,290 @@
+//! The map, and who calls it.
+ghost use Rattle.std.specs.Prelude.{◌≡◌, ◌++◌, ◌∷◌, ◌+◌, ◌<◌, [], ℕ, List, true, false, nat_lt, None, Some, IfOk, IfSome, MatchResult, drop, slice_get, is_some};
+ghost use Rattle.std.proofs.Props.{props};
+ghost use Rattle.std.specs.Arc.{arc_value};
+ghost use Rattle.esm_hlock.specs.Makers.{Continues, makers_of, times};
+ghost use Rattle.esm_hlock.specs.Views.{HasAllMakers, longer};
+ghost use Rattle.esm_hlock.specs.Words.{knows, IsPassOf};
+ghost use Rattle.esm_base.specs.Urls.{is_usable};
+ghost use Rattle.esm_module_map.specs.Replay.{replay, is_legal, is_order, is_posted, may_be_ahead, maker_of};
+ghost use Rattle.esm_module_map.specs.Leading.{is_led, leads_to};
+ghost use Rattle.esm_module_map.specs.Replies.{AskReply, TakeReply, ShutReply, Called, Found};
+ghost use Rattle.esm_module_map.specs.Histories.{IsPostIn};
+ghost use Rattle.esm_module_map.specs.Counts.{AreTakenOnce};
+ghost use Rattle.esm_module_map.specs.Saying.{Stays, IsShut, IsOrderIn, PostedOne, TakeSays, AskSays};
+ghost use Rattle.esm_module_map.specs.Views.{is_there, view_in, table_of, Same};
+
+use crate::event::{MapEvent, Payload, Why};
+use crate::reply::{Asked, MapEnd, Order, Taken};
+use crate::state::MapState;
+use esm_base::{Memory, Text};
+use esm_hlock::{Busy, Hlock, Pass};
+use std::alloc::Global;
+use std::sync::{Arc, Wait};
+
+/// A map that threads share.
+#[derive(Drop)]
+pub struct ModuleMap<P: Payload> {
+    pub(crate) lock: Hlock<MapState<P>>,
+}
+
+/// Who calls the map. It has a number, which its events name, and in proofs it knows what it has seen of the history.
+#[derive(Drop)]
+pub struct Caller<P: Payload> {
+    pub(crate) pass: Option<Pass<MapState<P>>>,
+    number: u64,
+    ghost there: { is_there pass ≡ true },
+    ghost own: { (view_in pass).number ≡ Some number } by { Prim.hlevel props },
+    ghost listed: { 0 < times number (view_in pass).numbers },
+    ghost legal: { is_legal P.weight (view_in pass).seen ≡ true },
+    ghost led: { is_led P.leads (view_in pass).seen ≡ true },
+    ghost enrolled: { nat_lt number (replay P.weight (view_in pass).seen).callers ≡ true },
+}
+
+impl<P: Payload> Caller<P> {
+    ghost use Rattle.std.specs.Prelude.{◌≡◌};
+
+    /// Its number.
+    pub fn number(&self) -> u64
+        ensures { result ≡ self.now.number }
+    {
+        self.number
+    }
+}
+
+impl<P: Payload> ModuleMap<P> {
+    /// A map whose history begins with this guide, and the pass that has all 1,024 shares and has seen just that.
+    pub fn new(
+        alloc: Global,
+        guide: Arc<P::Guide, Global>,
+    ) -> Result<(ModuleMap<P>, Pass<MapState<P>>), Memory>
+        ensures own { IfOk result (λ made. IsPassOf made.0.lock made.1) }
+        ensures seen { IfOk result (λ made. (knows made.1).seen ≡ MapEvent.Begin guide ∷ []) }
+        ensures shares { IfOk result (λ made. (knows made.1).shares ≡ 1024) }
+        ensures numbers { IfOk result (λ made. ((knows made.1).number ≡ None) × ((knows made.1).numbers ≡ [])) }
+    {
+        let state = MapState::new(alloc, guide)?;
+        let Ok((lock, pass)) = Hlock::new(alloc, state) else {
+            return Err(Memory);
+        };
+        Ok((ModuleMap { lock }, pass))
+    }
+
+    /// A caller with the next number. The pass comes back for want of memory alone.
+    pub fn enrol<R: Wait>(
+        &self,
+        rt: &R,
+        pass: Pass<MapState<P>>,
+    ) -> Result<Caller<P>, Pass<MapState<P>>>
+        requires own { IsPassOf self.now.lock pass }
+        requires none { (knows pass).number ≡ None }
+        ensures own { MatchResult result (λ c. table_of self.now.lock.table.shared.table_id c.pass ≡ self.now.lock.table.shared.table_id) (λ p. IsPassOf self.now.lock p) }
+        ensures seen { IfOk result (λ c. Called P.weight (knows pass).seen None (λ found. (c.number ≡ (replay P.weight found).callers) × ((view_in c.pass).seen ≡ found ++ MapEvent.Enrol c.number ∷ []))) }
+        ensures shares { MatchResult result (λ c. (view_in c.pass).shares ≡ (knows pass).shares) (λ p. (knows p).shares ≡ (knows pass).shares) }
+        ensures numbers { MatchResult result (λ c. (view_in c.pass).numbers ≡ c.number ∷ (knows pass).numbers) (λ p. ((knows p).number ≡ None) × ((knows p).numbers ≡ (knows pass).numbers)) }
+    {
+        let mut held = self.lock.enter(rt, pass);
+        match held.state().enrol() {
+            Ok(number) => {
+                let pass = Some(self.lock.leave(held));
+                Ok(Caller { pass, number })
+            }
+            Err(_) => Err(self.lock.leave(held)),
+        }
+    }
+
+    /// Asks for a URL.
+    pub fn ask<R: Wait>(
+        &self,
+        rt: &R,
+        caller: &mut Caller<P>,
+        url: &Text,
+        why: Why,
+    ) -> Result<Asked, MapEnd>
+        requires own { table_of self.now.lock.table.shared.table_id caller.old.pass ≡ self.now.lock.table.shared.table_id }
+        requires usable { is_usable url.now ≡ true }
+        requires ahead { may_be_ahead (replay P.weight (view_in caller.old.pass).seen) why ≡ true }
+        requires leads { leads_to P.leads (view_in caller.old.pass).seen why url.now ≡ true }
+        ensures led { is_led P.leads (view_in caller.new.pass).seen ≡ true }
+        ensures own { table_of self.now.lock.table.shared.table_id caller.new.pass ≡ self.now.lock.table.shared.table_id }
+        ensures call { Called P.weight (view_in caller.old.pass).seen (Some caller.old.number) (λ found. AskReply P.weight found caller.old.number url.now why result (view_in caller.new.pass).seen) }
+        ensures says { AskSays P.weight caller.old.number (view_in caller.old.pass).seen url.now result (view_in caller.new.pass).seen }
+        ensures same { Same (view_in caller.old.pass) (view_in caller.new.pass) × (caller.new.number ≡ caller.old.number) }
+    {
+        let Some(pass) = caller.pass.take() else {
+            unreachable!()
+        };
+        let mut held = self.lock.enter(rt, pass);
+        let reply = held.state().ask(caller.number, url, why);
+        caller.pass = Some(self.lock.leave(held));
+        reply
+    }
+
+    /// Takes the next number, if there is one.
+    pub fn take<R: Wait>(&self, rt: &R, caller: &mut Caller<P>) -> Result<Taken, Memory>
+        requires own { table_of self.now.lock.table.shared.table_id caller.old.pass ≡ self.now.lock.table.shared.table_id }
+        ensures own { table_of self.now.lock.table.shared.table_id caller.new.pass ≡ self.now.lock.table.shared.table_id }
+        ensures call { Called P.weight (view_in caller.old.pass).seen (Some caller.old.number) (λ found. TakeReply P.weight found caller.old.number result (view_in caller.new.pass).seen) }
+        ensures says { TakeSays P.weight caller.old.number (view_in caller.old.pass).seen result (view_in caller.new.pass).seen }
+        ensures same { Same (view_in caller.old.pass) (view_in caller.new.pass) × (caller.new.number ≡ caller.old.number) }
+    {
+        let Some(pass) = caller.pass.take() else {
+            unreachable!()
+        };
+        let mut held = self.lock.enter(rt, pass);
+        let reply = held.state().take(caller.number);
+        caller.pass = Some(self.lock.leave(held));
+        reply
+    }
+
+    /// Posts what came of an order of this caller.
+    pub fn post<R: Wait>(
+        &self,
+        rt: &R,
+        caller: &mut Caller<P>,
+        order: Order,
+        payload: Arc<P, Global>,
+    )
+        requires own { table_of self.now.lock.table.shared.table_id caller.old.pass ≡ self.now.lock.table.shared.table_id }
+        requires order { IsOrderIn P.weight (view_in caller.old.pass).seen caller.old.number order.number order.url }
+        ensures own { table_of self.now.lock.table.shared.table_id caller.new.pass ≡ self.now.lock.table.shared.table_id }
+        ensures call { Called P.weight (view_in caller.old.pass).seen (Some caller.old.number) (λ found. (view_in caller.new.pass).seen ≡ found ++ MapEvent.Post caller.old.number order.number payload ∷ []) }
+        ensures says { PostedOne P.weight caller.old.number order.number order.url (arc_value payload) (view_in caller.old.pass).seen (view_in caller.new.pass).seen }
+        ensures same { Same (view_in caller.old.pass) (view_in caller.new.pass) × (caller.new.number ≡ caller.old.number) }
+    {
+        let Some(pass) = caller.pass.take() else {
+            unreachable!()
+        };
+        let mut held = self.lock.enter(rt, pass);
+        held.state().post(caller.number, order.number, payload);
+        caller.pass = Some(self.lock.leave(held));
+    }
+
+    /// Shuts the map, unless it is shut.
+    pub fn shut<R: Wait>(&self, rt: &R, caller: &mut Caller<P>)
+        requires own { table_of self.now.lock.table.shared.table_id caller.old.pass ≡ self.now.lock.table.shared.table_id }
+        ensures own { table_of self.now.lock.table.shared.table_id caller.new.pass ≡ self.now.lock.table.shared.table_id }
+        ensures makers { HasAllMakers maker_of (view_in caller.new.pass) }
+        ensures call { Called P.weight (view_in caller.old.pass).seen (Some caller.old.number) (λ found. ShutReply P.weight found caller.old.number (view_in caller.new.pass).seen) }
+        ensures says { Stays P.weight caller.old.number (view_in caller.old.pass).seen (view_in caller.new.pass).seen }
+        ensures shut { IsShut P.weight (view_in caller.new.pass).seen }
+        ensures same { Same (view_in caller.old.pass) (view_in caller.new.pass) × (caller.new.number ≡ caller.old.number) }
+    {
+        let Some(pass) = caller.pass.take() else {
+            unreachable!()
+        };
+        let mut held = self.lock.enter(rt, pass);
+        held.state().shut(caller.number);
+        caller.pass = Some(self.lock.leave(held));
+    }
+
+    /// The posted numbers in order of their posts, without the first `from`.
+    pub fn news<R: Wait>(
+        &self,
+        rt: &R,
+        alloc: Global,
+        caller: &mut Caller<P>,
+        from: usize,
+    ) -> Result<Vec<u32>, Memory>
+        requires own { table_of self.now.lock.table.shared.table_id caller.old.pass ≡ self.now.lock.table.shared.table_id }
+        ensures own { table_of self.now.lock.table.shared.table_id caller.new.pass ≡ self.now.lock.table.shared.table_id }
+        ensures call { Called P.weight (view_in caller.old.pass).seen (Some caller.old.number) (λ found. (view_in caller.new.pass).seen ≡ found) }
+        ensures news { IfOk result (λ v. v.items ≡ drop from (replay P.weight (view_in caller.new.pass).seen).posts) }
+        ensures says { Stays P.weight caller.old.number (view_in caller.old.pass).seen (view_in caller.new.pass).seen }
+        ensures same { Same (view_in caller.old.pass) (view_in caller.new.pass) × (caller.new.number ≡ caller.old.number) }
+    {
+        let Some(pass) = caller.pass.take() else {
+            unreachable!()
+        };
+        let mut held = self.lock.enter(rt, pass);
+        let reply = held.state().news(alloc, from);
+        caller.pass = Some(self.lock.leave(held));
+        reply
+    }
+
+    /// What is posted under a number.
+    pub fn entry<R: Wait>(
+        &self,
+        rt: &R,
+        caller: &mut Caller<P>,
+        number: u32,
+    ) -> Result<Option<Arc<P, Global>>, Memory>
+        requires own { table_of self.now.lock.table.shared.table_id caller.old.pass ≡ self.now.lock.table.shared.table_id }
+        ensures own { table_of self.now.lock.table.shared.table_id caller.new.pass ≡ self.now.lock.table.shared.table_id }
+        ensures call { Called P.weight (view_in caller.old.pass).seen (Some caller.old.number) (λ found. (view_in caller.new.pass).seen ≡ found) }
+        ensures posted { IfOk result (λ found. IfSome found (λ p. IsPostIn (view_in caller.new.pass).seen number (arc_value p))) }
+        ensures exact { IfOk result (λ found. is_some found ≡ is_posted (replay P.weight (view_in caller.new.pass).seen) number) }
+        ensures says { Stays P.weight caller.old.number (view_in caller.old.pass).seen (view_in caller.new.pass).seen }
+        ensures same { Same (view_in caller.old.pass) (view_in caller.new.pass) × (caller.new.number ≡ caller.old.number) }
+    {
+        let Some(pass) = caller.pass.take() else {
+            unreachable!()
+        };
+        let mut held = self.lock.enter(rt, pass);
+        let reply = held.state().entry(number);
+        caller.pass = Some(self.lock.leave(held));
+        reply
+    }
+
+    /// A second pass that has seen the same, with one share of the caller's and no number.
+    pub fn split(&self, caller: &mut Caller<P>) -> Pass<MapState<P>>
+        requires own { table_of self.now.lock.table.shared.table_id caller.old.pass ≡ self.now.lock.table.shared.table_id }
+        requires shares { 1 < (view_in caller.old.pass).shares }
+        ensures own { (table_of self.now.lock.table.shared.table_id caller.new.pass ≡ self.now.lock.table.shared.table_id) × IsPassOf self.now.lock result }
+        ensures seen { ((view_in caller.new.pass).seen ≡ (view_in caller.old.pass).seen) × ((knows result).seen ≡ (view_in caller.old.pass).seen) }
+        ensures shares { ((view_in caller.new.pass).shares + 1 ≡ (view_in caller.old.pass).shares) × ((knows result).shares ≡ 1) }
+        ensures kept { (caller.new.number ≡ caller.old.number) × ((view_in caller.new.pass).numbers ≡ (view_in caller.old.pass).numbers) }
+        ensures given { ((knows result).number ≡ None) × ((knows result).numbers ≡ []) }
+    {
+        let Some(pass) = caller.pass.take() else {
+            unreachable!()
+        };
+        let mut pass = pass;
+        let other = self.lock.split(&mut pass);
+        caller.pass = Some(pass);
+        other
+    }
+
+    /// One caller, with the first one's number, that has seen what either saw.
+    pub fn meet(&self, one: Caller<P>, other: Caller<P>) -> Caller<P>
+        requires own { (table_of self.now.lock.table.shared.table_id one.pass ≡ self.now.lock.table.shared.table_id) × (table_of self.now.lock.table.shared.table_id other.pass ≡ self.now.lock.table.shared.table_id) }
+        ensures own { table_of self.now.lock.table.shared.table_id result.pass ≡ self.now.lock.table.shared.table_id }
+        ensures number { result.number ≡ one.number }
+        ensures seen { (view_in result.pass).seen ≡ longer (view_in one.pass).seen (view_in other.pass).seen }
+        ensures one { Continues maker_of (view_in result.pass).seen (view_in one.pass).seen (view_in one.pass).numbers }
+        ensures other { Continues maker_of (view_in result.pass).seen (view_in other.pass).seen (view_in other.pass).numbers }
+        ensures shares { (view_in result.pass).shares ≡ (view_in one.pass).shares + (view_in other.pass).shares }
+        ensures numbers { (view_in result.pass).numbers ≡ (view_in one.pass).numbers ++ (view_in other.pass).numbers }
+        ensures says_one { (c : ℕ) → 0 < times c (view_in one.pass).numbers → Stays P.weight c (view_in one.pass).seen (view_in result.pass).seen }
+        ensures says_other { (c : ℕ) → 0 < times c (view_in other.pass).numbers → Stays P.weight c (view_in other.pass).seen (view_in result.pass).seen }
+        ensures makers { HasAllMakers maker_of (view_in result.pass) }
+        ensures once { (view_in result.pass).shares ≡ 1024 → AreTakenOnce P.weight (view_in result.pass).seen (view_in result.pass).numbers }
+    {
+        let Caller { pass, number } = one;
+        let Caller {
+            pass: second,
+            number: _,
+        } = other;
+        let (Some(pass), Some(second)) = (pass, second) else {
+            unreachable!()
+        };
+        let pass = Some(self.lock.join(pass, second));
+        Caller { pass, number }
+    }
+
+    /// The whole history.
+    pub fn close(self, caller: Caller<P>) -> Result<Vec<MapEvent<P>>, Busy>
+        requires { table_of self.lock.table.shared.table_id caller.pass ≡ self.lock.table.shared.table_id }
+        ensures found { IfOk result (λ v.
+            Found P.weight (view_in caller.pass).seen (Some caller.number) v.items) }
+        ensures led { IfOk result (λ v. is_led P.leads v.items ≡ true) }
+    {
+        let ModuleMap { lock } = self;
+        let Caller { pass, number: _ } = caller;
+        let Some(pass) = pass else { unreachable!() };
+        match lock.close(pass) {
+            Ok(state) => Ok(state.into_events()),
+            Err(busy) => Err(busy),
+        }
+    }
+}

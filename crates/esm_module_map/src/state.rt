@@ -1,0 +1,453 @@
+// The state under the lock.
+ghost use Rattle.std.specs.Prelude.{◌≡◌, ◌≤◌, ◌<◌, ◌+◌, ◌++◌, ◌∷◌, List, ℕ, [], true, false, if◌then◌else◌, length, drop, vec_len, slice_get, nat_lt, min, bytes_eq, position, IfOk, OnErr, IfSome, MatchResult, MatchOption, Some, None, option_map, is_some};
+ghost use Rattle.std.specs.Arc.{arc_value};
+ghost use Rattle.std.specs.Vec.{vec_capacity};
+ghost use Rattle.std.specs.List.{position_or_len};
+ghost use Rattle.std.specs.Coded.{codes, Coded-set};
+ghost use Rattle.esm_base.specs.Urls.{is_usable};
+ghost use Rattle.esm_base.specs.declared.limits.TheConstants.{MAX_URLS, MAX_DELIVERED_BYTES};
+ghost use Rattle.esm_module_map.specs.Replay.{Replay, replay, is_legal, outs_of, is_order, next_order, has_room, room_by, fresh_number, made_wanted, made_ahead, next_by, is_free, has_place, may_be_ahead, number_for, is_numbered, is_posted};
+ghost use Rattle.esm_module_map.specs.Histories.{Posts, IsPostIn, is_post_of};
+ghost use Rattle.esm_module_map.specs.Leading.{is_led, leads_to};
+ghost use Rattle.esm_module_map.specs.Replies.{AskReply, TakeReply, ShutReply, answer_by};
+
+use crate::event::{MapEvent, Payload, Why};
+use crate::number::{Number, ask_again, free, set_place, set_taker, wanted_and_free};
+use crate::reply::{Asked, MapEnd, Order, Taken};
+use esm_base::{MAX_DELIVERED_BYTES, MAX_URLS, Memory, Text};
+use esm_hlock::Story;
+use indexmap::IndexSet;
+use std::alloc::Global;
+use std::sync::Arc;
+
+// From this weight on no number is given out that has only asks ahead.
+const HEAVY: usize = MAX_DELIVERED_BYTES as usize;
+
+/// The events so far, and what they come to.
+#[derive(Drop)]
+pub struct MapState<P: Payload> {
+    events: Vec<MapEvent<P>>,
+    callers: u64,
+    urls: IndexSet<Text>,
+    numbers: Vec<Number>,
+    posts: Vec<u32>,
+    wanted: usize,
+    ahead: usize,
+    weight: usize,
+    shut: bool,
+    out: usize,
+    ghost legal: { is_legal P.weight events.items ≡ true },
+    ghost led: { is_led P.leads events.items ≡ true },
+    ghost replayed: { record { events = vec_len events; callers = callers; urls = urls.keys; numbers = numbers.items; posts = posts.items; wanted = wanted; ahead = ahead; weight = weight; shut = shut } ≡ replay P.weight events.items } by { Coded-set (Prim.hlevel codes) (record { events = vec_len events; callers = callers; urls = urls.keys; numbers = numbers.items; posts = posts.items; wanted = wanted; ahead = ahead; weight = weight; shut = shut }) (replay P.weight events.items) },
+    ghost begun: { 0 < vec_len events },
+    ghost aligned: { vec_len numbers ≡ length urls.keys },
+    ghost made: { vec_len numbers ≡ wanted + ahead },
+    ghost few_wanted: { wanted ≤ MAX_URLS },
+    ghost few_ahead: { ahead ≤ MAX_URLS },
+    ghost few_callers: { callers ≤ vec_len events },
+    ghost outs: { out ≡ outs_of numbers.items },
+    ghost room: { vec_len events + out + (if shut then 0 else 1) ≤ vec_capacity events },
+    ghost light: { weight ≤ MAX_DELIVERED_BYTES },
+    ghost posts_room: { vec_len posts + out ≤ vec_capacity posts },
+}
+
+impl<P: Payload> Story for MapState<P> {
+    type Entry = MapEvent<P>;
+
+    ghost use Rattle.std.specs.Prelude.{◌≡◌, true, vec_len};
+    ghost use Rattle.esm_module_map.specs.Replay.{maker_of, replay, is_legal};
+    ghost use Rattle.esm_module_map.specs.Leading.{is_led};
+
+    ghost story = { λ s. s.events.items };
+
+    ghost maker = { maker_of };
+
+    ghost legal = { λ es. (is_legal P.weight es ≡ true) × (is_led P.leads es ≡ true) };
+
+    ghost replays = { λ es s. record { events = vec_len s.events; callers = s.callers; urls = s.urls.keys; numbers = s.numbers.items; posts = s.posts.items; wanted = s.wanted; ahead = s.ahead; weight = s.weight; shut = s.shut } ≡ replay P.weight es };
+
+    fn entries(&self) -> &[MapEvent<P>] {
+        self.events.as_slice()
+    }
+
+    ghost lawful = { λ s. (s.legal, s.led) };
+
+    ghost whole = { λ s. s.replayed };
+}
+
+impl<P: Payload> MapState<P> {
+    // The state of a history that has just begun.
+    pub(crate) fn new(alloc: Global, guide: Arc<P::Guide, Global>) -> Result<MapState<P>, Memory>
+        ensures { IfOk result (λ s. s.events.items ≡ MapEvent.Begin guide ∷ []) }
+    {
+        let mut events = Vec::with_capacity(alloc, 2)?;
+        events.push_reserved(MapEvent::Begin(guide));
+        Ok(MapState {
+            events,
+            callers: 0,
+            urls: IndexSet::new(alloc),
+            numbers: Vec::new(alloc),
+            posts: Vec::new(alloc),
+            wanted: 0,
+            ahead: 0,
+            weight: 0,
+            shut: false,
+            out: 0,
+        })
+    }
+
+    // One more caller, with the next number.
+    pub(crate) fn enrol(&mut self) -> Result<u64, Memory>
+        ensures { MatchResult result (λ c. (c ≡ (replay P.weight self.old.events.items).callers) × (self.new.events.items ≡ self.old.events.items ++ MapEvent.Enrol c ∷ [])) (λ _. self.new.events.items ≡ self.old.events.items) }
+    {
+        let MapState {
+            events,
+            callers,
+            out,
+            ..
+        } = self;
+        if events.reserve(*out + 2).is_err() {
+            return Err(Memory);
+        }
+        let number = *callers;
+        events.push_reserved(MapEvent::Enrol(number));
+        *callers += 1;
+        Ok(number)
+    }
+
+    // The caller's Shut, where there is none.
+    pub(crate) fn shut(&mut self, caller: u64)
+        requires { caller < (replay P.weight self.old.events.items).callers }
+        ensures reply { ShutReply P.weight self.old.events.items caller self.new.events.items }
+        ensures callers { self.new.callers ≡ self.old.callers }
+    {
+        if !self.shut {
+            let MapState { events, shut, .. } = self;
+            events.push_reserved(MapEvent::Shut(caller));
+            *shut = true;
+        }
+    }
+
+    // An ask for a URL that has the number at this place.
+    fn ask_known(
+        &mut self,
+        caller: u64,
+        place: usize,
+        url: &Text,
+        why: Why,
+    ) -> Result<Asked, MapEnd>
+        requires is_in { caller < self.old.callers }
+        requires live { self.old.shut ≡ false }
+        requires usable { is_usable url.now ≡ true }
+        requires ahead { may_be_ahead (replay P.weight self.old.events.items) why ≡ true }
+        requires leads { leads_to P.leads self.old.events.items why url.now ≡ true }
+        requires known { place ≡ position_or_len (bytes_eq url.now) self.old.urls.keys }
+        requires within { place < vec_len self.old.numbers }
+        ensures reply { AskReply P.weight self.old.events.items caller url.now why result self.new.events.items }
+        ensures callers { self.new.callers ≡ self.old.callers }
+    {
+        let Ok(copy) = url.clone() else {
+            return Err(MapEnd::Memory);
+        };
+        let MapState {
+            events,
+            numbers,
+            out,
+            ..
+        } = self;
+        if events.reserve(*out + 2).is_err() {
+            return Err(MapEnd::Memory);
+        }
+        let number = place as u32;
+        let asked = known_as(numbers, place, number);
+        ask_again(numbers, place, why);
+        events.push_reserved(MapEvent::Ask(caller, number, copy, why));
+        Ok(asked)
+    }
+
+    // An ask for a URL that has no number, and gets the next.
+    fn ask_new(&mut self, caller: u64, url: &Text, why: Why) -> Result<Asked, MapEnd>
+        requires is_in { caller < self.old.callers }
+        requires live { self.old.shut ≡ false }
+        requires usable { is_usable url.now ≡ true }
+        requires ahead { may_be_ahead (replay P.weight self.old.events.items) why ≡ true }
+        requires leads { leads_to P.leads self.old.events.items why url.now ≡ true }
+        requires fresh { position_or_len (bytes_eq url.now) self.old.urls.keys ≡ length self.old.urls.keys }
+        ensures reply { AskReply P.weight self.old.events.items caller url.now why result self.new.events.items }
+        ensures callers { self.new.callers ≡ self.old.callers }
+    {
+        if !has_room(self.wanted, self.ahead, why) {
+            return Err(MapEnd::Full);
+        }
+        let Ok(copy) = url.clone() else {
+            return Err(MapEnd::Memory);
+        };
+        let Ok(key) = url.clone() else {
+            return Err(MapEnd::Memory);
+        };
+        let MapState {
+            events,
+            urls,
+            numbers,
+            wanted,
+            ahead,
+            out,
+            ..
+        } = self;
+        if events.reserve(*out + 2).is_err() {
+            return Err(MapEnd::Memory);
+        }
+        if numbers.reserve(1).is_err() {
+            return Err(MapEnd::Memory);
+        }
+        let Ok(()) = add_key(urls, key) else {
+            return Err(MapEnd::Memory);
+        };
+        let number = numbers.len() as u32;
+        numbers.push_reserved(fresh(why));
+        count_number(wanted, ahead, why);
+        events.push_reserved(MapEvent::Ask(caller, number, copy, why));
+        Ok(Asked::New(number))
+    }
+
+    // The caller asks for a URL.
+    pub(crate) fn ask(&mut self, caller: u64, url: &Text, why: Why) -> Result<Asked, MapEnd>
+        requires is_in { caller < (replay P.weight self.old.events.items).callers }
+        requires usable { is_usable url.now ≡ true }
+        requires ahead { may_be_ahead (replay P.weight self.old.events.items) why ≡ true }
+        requires leads { leads_to P.leads self.old.events.items why url.now ≡ true }
+        ensures reply { AskReply P.weight self.old.events.items caller url.now why result self.new.events.items }
+        ensures callers { self.new.callers ≡ self.old.callers }
+    {
+        if self.shut {
+            return Err(MapEnd::Closed);
+        }
+        match self.urls.get_index_of(url) {
+            Some(place) => self.ask_known(caller, place, url, why),
+            None => self.ask_new(caller, url, why),
+        }
+    }
+
+    // The number that is to be taken next.
+    fn next(&self) -> Option<usize>
+        ensures { result ≡ next_order (replay P.weight self.now.events.items) }
+    {
+        match wanted_and_free(&self.numbers) {
+            Some(place) => Some(place),
+            None => self.next_ahead(),
+        }
+    }
+
+    // The least free number, while the posts are light.
+    fn next_ahead(&self) -> Option<usize>
+        ensures { result ≡ next_by None (nat_lt self.now.weight MAX_DELIVERED_BYTES) (position is_free self.now.numbers.items) }
+    {
+        if self.weight < HEAVY {
+            free(&self.numbers)
+        } else {
+            None
+        }
+    }
+
+    // The caller takes the number at this place.
+    fn give_out(&mut self, caller: u64, place: usize) -> Result<Taken, Memory>
+        requires is_in { caller < self.old.callers }
+        requires live { self.old.shut ≡ false }
+        requires next { next_order (replay P.weight self.old.events.items) ≡ Some place }
+        ensures reply { TakeReply P.weight self.old.events.items caller result self.new.events.items }
+        ensures callers { self.new.callers ≡ self.old.callers }
+    {
+        let Some(url) = self.urls.get_index(place) else {
+            unreachable!()
+        };
+        let Ok(url) = url.clone() else {
+            return Err(Memory);
+        };
+        let MapState {
+            events,
+            numbers,
+            posts,
+            out,
+            ..
+        } = self;
+        if events.reserve(*out + 3).is_err() {
+            return Err(Memory);
+        }
+        if posts.reserve(*out + 1).is_err() {
+            return Err(Memory);
+        }
+        let number = place as u32;
+        set_taker(numbers, place, caller);
+        *out += 1;
+        events.push_reserved(MapEvent::Take(caller, number));
+        Ok(Taken::Order(Order { number, url }))
+    }
+
+    // The caller takes what is to be taken next.
+    pub(crate) fn take(&mut self, caller: u64) -> Result<Taken, Memory>
+        requires { caller < (replay P.weight self.old.events.items).callers }
+        ensures reply { TakeReply P.weight self.old.events.items caller result self.new.events.items }
+        ensures callers { self.new.callers ≡ self.old.callers }
+    {
+        if self.shut {
+            return Ok(Taken::Closed);
+        }
+        match self.next() {
+            Some(place) => self.give_out(caller, place),
+            None => Ok(Taken::NotYet),
+        }
+    }
+
+    // The caller posts what it has taken.
+    pub(crate) fn post(&mut self, caller: u64, number: u32, payload: Arc<P, Global>)
+        requires is_in { caller < (replay P.weight self.old.events.items).callers }
+        requires order { is_order (replay P.weight self.old.events.items) caller number ≡ true }
+        ensures reply { self.new.events.items ≡ self.old.events.items ++ MapEvent.Post caller number payload ∷ [] }
+        ensures callers { self.new.callers ≡ self.old.callers }
+    {
+        let size = payload.size();
+        let MapState {
+            events,
+            numbers,
+            posts,
+            weight,
+            out,
+            ..
+        } = self;
+        set_place(numbers, number as usize, events.len());
+        posts.push_reserved(number);
+        *weight = heavier(*weight, size);
+        *out -= 1;
+        events.push_reserved(MapEvent::Post(caller, number, payload));
+    }
+
+    // The posted numbers, without the first so many.
+    pub(crate) fn news(&self, alloc: Global, from: usize) -> Result<Vec<u32>, Memory>
+        ensures { IfOk result (λ v. v.items ≡ drop from (replay P.weight self.now.events.items).posts) }
+    {
+        if from >= self.posts.len() {
+            return Ok(Vec::new(alloc));
+        }
+        Ok(Vec::from_slice(alloc, &self.posts[from..])?)
+    }
+
+    // What is posted under a number.
+    pub(crate) fn entry(&self, number: u32) -> Result<Option<Arc<P, Global>>, Memory>
+        ensures posted { IfOk result (λ found. IfSome found (λ p. IsPostIn self.now.events.items number (arc_value p))) }
+        ensures exact { IfOk result (λ found. is_some found ≡ is_posted (replay P.weight self.now.events.items) number) }
+    {
+        let Some(standing) = self.numbers.get(number as usize) else {
+            return Ok(None);
+        };
+        let Some(place) = standing.place else {
+            return Ok(None);
+        };
+        match self.events.get(place) {
+            Some(event) => posted_by(event, number),
+            None => Ok(None),
+        }
+    }
+
+    // The history.
+    pub(crate) fn into_events(self) -> Vec<MapEvent<P>>
+        ensures { result.items ≡ self.events.items }
+    {
+        let MapState { events, .. } = self;
+        events
+    }
+}
+
+// What an event posts under a number, if it does.
+fn posted_by<P: Payload>(event: &MapEvent<P>, number: u32) -> Result<Option<Arc<P, Global>>, Memory>
+    ensures posted { IfOk result (λ found. IfSome found (λ p. Posts event.now number (arc_value p))) }
+    ensures exact { IfOk result (λ found. is_some found ≡ is_post_of number event.now) }
+{
+    match event {
+        MapEvent::Post(_, n, payload) => {
+            if *n == number {
+                Ok(Some(Arc::try_clone(payload)?))
+            } else {
+                Ok(None)
+            }
+        }
+        _ => Ok(None),
+    }
+}
+
+// A URL that has no number gets the next.
+fn add_key(urls: &mut IndexSet<Text>, key: Text) -> Result<(), Memory>
+    requires { position_or_len (bytes_eq key) urls.old.keys ≡ length urls.old.keys }
+    ensures { MatchResult result (λ _. urls.new.keys ≡ urls.old.keys ++ key ∷ []) (λ _. urls.new.keys ≡ urls.old.keys) }
+{
+    let Ok(_added) = urls.insert(key) else {
+        return Err(Memory);
+    };
+    Ok(())
+}
+
+// Whether an ask can make one number more.
+fn has_room(wanted: usize, ahead: usize, why: Why) -> bool
+    ensures { result ≡ room_by why wanted ahead }
+{
+    match why {
+        Why::Wanted => wanted < MAX_URLS,
+        Why::Ahead(_) => ahead < MAX_URLS,
+    }
+}
+
+// One number more is made.
+fn count_number(wanted: &mut usize, ahead: &mut usize, why: Why)
+    requires { room_by why wanted.old ahead.old ≡ true }
+    ensures wanted { wanted.new ≡ wanted.old + made_wanted why }
+    ensures ahead { ahead.new ≡ ahead.old + made_ahead why }
+    ensures few { (wanted.old ≤ MAX_URLS → wanted.new ≤ MAX_URLS) × (ahead.old ≤ MAX_URLS → ahead.new ≤ MAX_URLS) }
+    ensures one { wanted.new + ahead.new ≡ wanted.old + ahead.old + 1 }
+{
+    match why {
+        Why::Wanted => *wanted += 1,
+        Why::Ahead(_) => *ahead += 1,
+    }
+}
+
+// A number that was just made.
+fn fresh(why: Why) -> Number
+    ensures { result ≡ fresh_number why }
+{
+    match why {
+        Why::Wanted => Number {
+            wanted: true,
+            taker: None,
+            place: None,
+        },
+        Why::Ahead(_) => Number {
+            wanted: false,
+            taker: None,
+            place: None,
+        },
+    }
+}
+
+// How an ask for a number that was made is answered.
+fn known_as(numbers: &[Number], place: usize, number: u32) -> Asked
+    requires { place < length numbers.now }
+    ensures { result ≡ answer_by true (has_place (slice_get numbers.now place)) number }
+{
+    let standing = numbers[place];
+    if standing.taker.is_some() && standing.place.is_some() {
+        Asked::Here(number)
+    } else {
+        Asked::Waiting(number)
+    }
+}
+
+// The weight with one post more.
+fn heavier(weight: usize, size: usize) -> usize
+    requires { weight ≤ MAX_DELIVERED_BYTES }
+    ensures { result ≡ min (weight + size) MAX_DELIVERED_BYTES }
+{
+    if size >= HEAVY - weight {
+        HEAVY
+    } else {
+        weight + size
+    }
+}
