@@ -1,7 +1,7 @@
 -- What each call does to a replay: the event may come, and the step leads to the new state.
 use Rattle.std.proofs.Common.{◌≡◌, ℕ, zero, suc, ◌+◌, ◌<◌, ◌≤◌, ◌&&◌, ◌||◌, Bool, true, false, cond, nat_lt, min, List, [], ◌∷◌, ◌++◌, length, sym, refl, ap, ◌∙◌, subst, arith, Option, Some, None, is_some, slice_get, slice_index_or, not, bytes_eq, position, ◌⊎◌, inl, inr, if◌then◌else◌, ◌==◌}
 use Rattle.std.proofs.lemmas.Option.{slice_get_within}
-use Rattle.std.specs.List.{position_or_len, list_any, prefix_len}
+use Rattle.std.specs.List.{position_or_len, list_any}
 use Rattle.indexmap.specs.IndexSet.{insert_key}
 use Rattle.std.specs.Arc.{arc_value}
 use Rattle.std.specs.declared.sync.Arc.{Arc}
@@ -10,14 +10,14 @@ use Rattle.esm_base.specs.Urls.{Url, is_usable}
 use Rattle.esm_module_map.specs.declared.event.Why.{Why}
 use Rattle.esm_module_map.specs.declared.event.Why.TheVariants.{Wanted, Ahead}
 use Rattle.esm_module_map.specs.declared.event.MapEvent.{MapEvent}
-use Rattle.esm_module_map.specs.declared.event.MapEvent.TheVariants.{Begin, Enrol, Ask, Take, Post, Shut}
+use Rattle.esm_module_map.specs.declared.event.MapEvent.TheVariants.{Ask, Take, Post}
 use Rattle.esm_module_map.specs.declared.number.Number.{Number}
 use Rattle.esm_module_map.specs.declared.reply.Asked.{Asked}
-use Rattle.esm_module_map.specs.declared.reply.Asked.TheVariants.{New, Waiting, Here}
-use Rattle.esm_module_map.specs.Replay.{Replay, change_at, asked_again, fresh_number, taken_by, posted_at, made_wanted, made_ahead, asked_by, is_numbered, number_for, may_ask, may_be_ahead, has_room, room_by, is_posted, has_place, is_free, is_wanted_and_free, outs_of, is_out, is_out_with, is_the, is_order, next_by, next_order, step, replay, is_legal, may_come, maker_of}
+use Rattle.esm_module_map.specs.Replay.{Replay, change_at, asked_again, fresh_number, taken_by, posted_at, made_wanted, made_ahead, asked_by, is_numbered, number_for, may_ask, may_be_ahead, has_room, is_posted, is_free, is_wanted_and_free, is_out_with, is_the, is_order, next_by, next_order, step, replay, is_legal, may_come}
+use Rattle.esm_module_map.specs.Inner.Outs.{outs_of, is_out}
 use Rattle.esm_base.specs.declared.limits.TheConstants.{MAX_DELIVERED_BYTES}
 use Rattle.esm_module_map.specs.Replies.{answer_by, answer_for}
-use Rattle.esm_module_map.proofs.Replays.{both_true, true_both, lt_true, lt_from, lt_false, lt_none, outs_change, eq_true, eq_from, legal_with, replay_with}
+use Rattle.esm_module_map.proofs.Replays.{both_true, true_both, lt_true, lt_from, lt_false, lt_none, outs_change, eq_true, legal_with, replay_with}
 
 -- ---- places in lists
 

@@ -1,6 +1,5 @@
 -- What a call of a caller leads to, from what the lock tells.
-use Rattle.std.proofs.Common.{◌≡◌, ◌≢◌, ℕ, zero, suc, ◌+◌, ◌<◌, ◌≤◌, ◌&&◌, Bool, true, false, cond, nat_lt, List, [], ◌∷◌, ◌++◌, length, sym, refl, ap, ◌∙◌, subst, arith, Option, Some, None, option_map, is_some, slice_get, not, ◌==◌, ne_eqb, ◌⊎◌, inl, inr}
-use Rattle.std.proofs.lemmas.Option.{slice_get_within}
+use Rattle.std.proofs.Common.{◌≡◌, ◌≢◌, ℕ, zero, suc, ◌+◌, ◌<◌, ◌≤◌, ◌&&◌, Bool, true, false, cond, nat_lt, List, [], ◌∷◌, ◌++◌, length, sym, refl, ap, ◌∙◌, subst, arith, Option, Some, None, is_some, slice_get, not, ◌==◌, ne_eqb, ◌⊎◌, inl, inr}
 use Rattle.esm_hlock.specs.Makers as all
 use Rattle.esm_hlock.specs.Makers.{times, is_maker, names, number_after, numbers_after, added}
 use Rattle.esm_hlock.specs.declared.view.View.{View}
@@ -12,8 +11,8 @@ use Rattle.esm_module_map.specs.declared.event.MapEvent.{MapEvent}
 use Rattle.esm_module_map.specs.declared.event.MapEvent.TheVariants.{Begin, Enrol, Ask, Take, Post, Shut}
 use Rattle.esm_module_map.specs.declared.number.Number.{Number}
 use Rattle.esm_module_map.specs.Replay.{Replay, opening, change_at, asked_again, taken_by, posted_at, asked_by, is_numbered, is_posted, has_place, is_free, is_the, is_out_with, is_order, next_order, may_be_ahead, step, replay, replay_from, is_legal, is_legal_from, may_come, maker_of}
-use Rattle.esm_module_map.specs.Replies.{Found, Called, Continues}
-use Rattle.esm_module_map.proofs.Replays.{both_true, true_both, lt_true, lt_from, eq_true, eq_from}
+use Rattle.esm_module_map.specs.Replies.{ContinuesFor}
+use Rattle.esm_module_map.proofs.Replays.{both_true, true_both, lt_from, eq_true, eq_from}
 use Rattle.esm_module_map.proofs.Asks.{next_free}
 
 asked_callers : (b : Bool) (s : Replay) (n : ℕ) (u : Url) (why : Why) → (asked_by b s n u why).callers ≡ s.callers
@@ -84,16 +83,16 @@ module _ {P G : Type 0} (weight : P → ℕ) where
       ap (λ b. cond b 1 (names maker_of k es)) (other_maker s e k h.0 (let a = callers_grow (step weight s e) es in omega arith)) ∙ unnamed (step weight s e) es k h.1 le
 
   -- who has enrolled stays so
-  pub in_found : (seen found : List (MapEvent P G)) (n : Option ℕ) (k : ℕ) → Continues maker_of found seen n → nat_lt k (replay weight seen).callers ≡ true → k < (replay weight found).callers
+  pub in_found : (seen found : List (MapEvent P G)) (n : Option ℕ) (k : ℕ) → ContinuesFor maker_of found seen n → nat_lt k (replay weight seen).callers ≡ true → k < (replay weight found).callers
   in_found seen found n k q enrolled = let h = lt_from k (replay weight seen).callers enrolled in
       let g = callers_grow (replay weight seen) q.0 in let e : (replay weight found).callers ≡ (replay_from weight (replay weight seen) q.0).callers = ap (λ l. (replay weight l).callers) q.1 ∙ ap (λ (r : Replay). r.callers) (replay_split opening seen q.0) in omega arith
 
   -- what a caller finds, by its own number
-  pub continues_as : (log : List (MapEvent P G)) (v w : View (MapEvent P G)) (n : ℕ) → w ≡ v → 0 < times n w.numbers → all.Continues maker_of log v.seen v.numbers → Continues maker_of log w.seen (Some n)
+  pub continues_as : (log : List (MapEvent P G)) (v w : View (MapEvent P G)) (n : ℕ) → w ≡ v → 0 < times n w.numbers → all.Continues maker_of log v.seen v.numbers → ContinuesFor maker_of log w.seen (Some n)
   continues_as log v w n same listed q = let r = subst (λ (x : View (MapEvent P G)). all.Continues maker_of log x.seen x.numbers) (sym same) q in
       (r.0, r.1, λ k e. let is : n ≡ k = cc in r.2 k (subst (λ (m : ℕ). 0 < times m w.numbers) is listed))
 
-  pub continues_none : (log seen : List (MapEvent P G)) (ns : List ℕ) → all.Continues maker_of log seen ns → Continues maker_of log seen None
+  pub continues_none : (log seen : List (MapEvent P G)) (ns : List ℕ) → all.Continues maker_of log seen ns → ContinuesFor maker_of log seen None
   continues_none log seen ns q = (q.0, q.1, λ k e. cc)
 
   -- what holds of a replay, and is kept by each step of others, holds after their events
@@ -108,7 +107,7 @@ module _ {P G : Type 0} (weight : P → ℕ) where
       others false n e = (refl, e)
 
   pub stays_found : (Q : Replay → Type 0) (k : ℕ) → ((s : Replay) (e : MapEvent P G) → may_come s e ≡ true → is_maker k (maker_of e) ≡ false → Q s → Q (step weight s e))
-      → (seen found : List (MapEvent P G)) → is_legal weight found ≡ true → Continues maker_of found seen (Some k) → Q (replay weight seen) → Q (replay weight found)
+      → (seen found : List (MapEvent P G)) → is_legal weight found ≡ true → ContinuesFor maker_of found seen (Some k) → Q (replay weight seen) → Q (replay weight found)
   stays_found Q k kept seen found ok q holds = let l = legal_split opening seen q.0 (subst (λ h. is_legal weight h ≡ true) q.1 ok) in
       subst Q (sym (ap (replay weight) q.1 ∙ replay_split opening seen q.0)) (stays Q k kept (replay weight seen) q.0 l.1 (q.2 k refl) holds)
 
@@ -144,7 +143,7 @@ same_or n k = by_test (n == k) refl
 abbrev pub At : (Number → Bool) → ℕ → Replay → Type 0
 At test k s = (x : Number) × (slice_get s.numbers k ≡ Some x) × (test x ≡ true)
 
-changed_at : (test : Number → Bool) (k n : ℕ) (xs : List Number) (f : Number → Number) (x : Number) → slice_get xs k ≡ Some x → test x ≡ true → (n ≡ k → test (f x) ≡ true) → (y : Number) × (slice_get (change_at xs n f) k ≡ Some y) × (test y ≡ true)
+pub changed_at : (test : Number → Bool) (k n : ℕ) (xs : List Number) (f : Number → Number) (x : Number) → slice_get xs k ≡ Some x → test x ≡ true → (n ≡ k → test (f x) ≡ true) → (y : Number) × (slice_get (change_at xs n f) k ≡ Some y) × (test y ≡ true)
 changed_at test k n xs f x at ok own = by_place (same_or n k)
   where
     by_place : (n ≡ k) ⊎ (n ≢ k) → (y : Number) × (slice_get (change_at xs n f) k ≡ Some y) × (test y ≡ true)
@@ -157,7 +156,7 @@ is_out_of c x = is_out_with c (Some x)
 abbrev pub is_done : Number → Bool
 is_done x = has_place (Some x)
 
-asked_keeps : (test : Number → Bool) → ((why : Why) (x : Number) → test (asked_again why x) ≡ test x) → (k : ℕ) (b : Bool) (s : Replay) (n : ℕ) (u : Url) (why : Why) → At test k s → At test k (asked_by b s n u why)
+pub asked_keeps : (test : Number → Bool) → ((why : Why) (x : Number) → test (asked_again why x) ≡ test x) → (k : ℕ) (b : Bool) (s : Replay) (n : ℕ) (u : Url) (why : Why) → At test k s → At test k (asked_by b s n u why)
 asked_keeps test same k true s n u why h = changed_at test k n s.numbers (asked_again why) h.0 h.1 h.2 (λ _. same why h.0 ∙ h.2)
 asked_keeps test same k false s n u why h = (h.0, get_append s.numbers _ k h.0 h.1, h.2)
 
@@ -200,11 +199,11 @@ at_order s c k e = by_get (slice_get s.numbers k) refl e
     by_get (Some x) at e = (x, at, e)
 
 -- one thing stands at a place
-one_at : (xs : List Number) (k : ℕ) (x y : Number) → slice_get xs k ≡ Some x → slice_get xs k ≡ Some y → x ≡ y
+pub one_at : (xs : List Number) (k : ℕ) (x y : Number) → slice_get xs k ≡ Some x → slice_get xs k ≡ Some y → x ≡ y
 one_at xs k x y a b = let both : Some x ≡ Some y = sym a ∙ b in cc
 
 module _ {P G : Type 0} (weight : P → ℕ) where
-  posted_step : (k c : ℕ) (s : Replay) (e : MapEvent P G) → may_come s e ≡ true → is_maker c (maker_of e) ≡ false → At is_done k s → At is_done k (step weight s e)
+  pub posted_step : (k c : ℕ) (s : Replay) (e : MapEvent P G) → may_come s e ≡ true → is_maker c (maker_of e) ≡ false → At is_done k s → At is_done k (step weight s e)
   posted_step k c s (Begin g) ok other h = h
   posted_step k c s (Enrol d) ok other h = h
   posted_step k c s (Ask d n u why) ok other h = asked_keeps is_done again_done k (is_numbered s u) s n u why h
@@ -226,12 +225,12 @@ module _ {P G : Type 0} (weight : P → ℕ) where
   order_step k c s (Shut d) ok other h = h
 
   -- what was posted is so later
-  pub posted_found : (why : Why) (c : ℕ) (seen found : List (MapEvent P G)) → is_legal weight found ≡ true → Continues maker_of found seen (Some c) → may_be_ahead (replay weight seen) why ≡ true → may_be_ahead (replay weight found) why ≡ true
+  pub posted_found : (why : Why) (c : ℕ) (seen found : List (MapEvent P G)) → is_legal weight found ≡ true → ContinuesFor maker_of found seen (Some c) → may_be_ahead (replay weight seen) why ≡ true → may_be_ahead (replay weight found) why ≡ true
   posted_found Wanted c seen found ok q e = refl
   posted_found (Ahead k) c seen found ok q e = let h = stays_found weight (At is_done k) c (posted_step k c) seen found ok q (at_posted (replay weight seen) k e) in ap has_place h.1 ∙ h.2
 
   -- an order of a caller stays so, whatever others do
-  pub order_found : (c k : ℕ) (seen found : List (MapEvent P G)) → is_legal weight found ≡ true → Continues maker_of found seen (Some c) → is_order (replay weight seen) c k ≡ true → is_order (replay weight found) c k ≡ true
+  pub order_found : (c k : ℕ) (seen found : List (MapEvent P G)) → is_legal weight found ≡ true → ContinuesFor maker_of found seen (Some c) → is_order (replay weight seen) c k ≡ true → is_order (replay weight found) c k ≡ true
   order_found c k seen found ok q e = let h = stays_found weight (At (is_out_of c) k) c (order_step k c) seen found ok q (at_order (replay weight seen) c k e) in ap (is_out_with c) h.1 ∙ h.2
 
   pub longer_legal : (xs ys : List (MapEvent P G)) → is_legal weight xs ≡ true → is_legal weight ys ≡ true → is_legal weight (longer xs ys) ≡ true

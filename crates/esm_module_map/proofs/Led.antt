@@ -1,5 +1,5 @@
 -- That something leads to each ask ahead, as a history grows.
-use Rattle.std.proofs.Common.{◌≡◌, ℕ, ◌&&◌, ◌==◌, Bool, true, false, cond, nat_lt, List, [], ◌∷◌, ◌++◌, length, sym, refl, ap, ◌∙◌, subst, Option, Some, None, append_assoc, append-nil}
+use Rattle.std.proofs.Common.{◌≡◌, ℕ, ◌==◌, Bool, true, false, cond, nat_lt, List, [], ◌∷◌, ◌++◌, length, sym, refl, ap, ◌∙◌, subst, Option, Some, None, append_assoc, append-nil}
 use Rattle.std.specs.Arc.{arc_value}
 use Rattle.esm_hlock.specs.Views.{longer}
 use Rattle.esm_base.specs.Urls.{Url}
@@ -8,7 +8,7 @@ use Rattle.esm_module_map.specs.declared.event.Why.TheVariants.{Wanted, Ahead}
 use Rattle.esm_module_map.specs.declared.event.MapEvent.{MapEvent}
 use Rattle.esm_module_map.specs.declared.event.MapEvent.TheVariants.{Begin, Enrol, Ask, Take, Post, Shut}
 use Rattle.esm_module_map.specs.Replay.{maker_of}
-use Rattle.esm_module_map.specs.Replies.{Continues}
+use Rattle.esm_module_map.specs.Replies.{ContinuesFor}
 use Rattle.esm_module_map.specs.Leading.{guide_in, url_in, payload_in, leads_by, leads_to, may_lead, is_led_from, is_led}
 use Rattle.esm_module_map.proofs.Replays.{both_true, true_both}
 
@@ -55,13 +55,13 @@ module _ {P G : Type 0} where
             → leads_by leads (guide_in (xs ++ ys)) (payload_in k (xs ++ ys)) (url_in k (xs ++ ys)) u ≡ true
         by_three (Some g) (Some p) (Some from) e f h is =
             ap (λ a. leads_by leads a (payload_in k (xs ++ ys)) (url_in k (xs ++ ys)) u) (guide_stays xs ys g e)
-              ∙ ap (λ b. leads_by leads (Some g) b (url_in k (xs ++ ys)) u) (payload_stays k xs ys p f)
-              ∙ ap (λ d. leads_by leads (Some g) (Some p) d u) (url_stays k xs ys from h) ∙ is
+            ∙ ap (λ b. leads_by leads (Some g) b (url_in k (xs ++ ys)) u) (payload_stays k xs ys p f)
+            ∙ ap (λ d. leads_by leads (Some g) (Some p) d u) (url_stays k xs ys from h) ∙ is
         by_three (Some g) (Some p) None e f h is = cc
         by_three (Some g) None d e f h is = cc
         by_three None b d e f h is = cc
 
-    pub leads_found : (seen found : List (MapEvent P G)) (n : Option ℕ) (why : Why) (u : Url) → Continues maker_of found seen n → leads_to leads seen why u ≡ true → leads_to leads found why u ≡ true
+    pub leads_found : (seen found : List (MapEvent P G)) (n : Option ℕ) (why : Why) (u : Url) → ContinuesFor maker_of found seen n → leads_to leads seen why u ≡ true → leads_to leads found why u ≡ true
     leads_found seen found n why u q is = subst (λ h. leads_to leads h why u ≡ true) (sym q.1) (leads_longer seen q.0 why u is)
 
     led_more : (past es : List (MapEvent P G)) (e : MapEvent P G) → is_led_from leads past es ≡ true → may_lead leads (past ++ es) e ≡ true → is_led_from leads past (es ++ e ∷ []) ≡ true

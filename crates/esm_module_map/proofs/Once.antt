@@ -1,19 +1,13 @@
 -- What callers that differ take, all together, is among all takes.
-use Rattle.std.proofs.Common.{◌≡◌, ◌≢◌, ℕ, zero, suc, ◌+◌, ◌<◌, ◌≤◌, ◌&&◌, Bool, true, false, cond, nat_lt, List, [], ◌∷◌, ◌++◌, length, sym, refl, ap, ◌∙◌, subst, arith, Option, Some, None, is_some, slice_get, slice_index_or, not, ◌==◌, bytes_eq, ne_eqb}
-use Rattle.std.specs.List.{position_or_len}
+use Rattle.std.proofs.Common.{◌≡◌, ℕ, zero, suc, ◌+◌, ◌≤◌, Bool, true, false, cond, List, [], ◌∷◌, ◌++◌, sym, refl, ap, ◌∙◌, arith, ◌==◌, bytes_eq, ne_eqb}
 use Rattle.esm_hlock.specs.Makers.{times, names, is_maker}
 use Rattle.esm_base.specs.Urls.{Url}
-use Rattle.esm_module_map.specs.declared.event.Why.{Why}
-use Rattle.esm_module_map.specs.declared.event.Why.TheVariants.{Wanted, Ahead}
 use Rattle.esm_module_map.specs.declared.event.MapEvent.{MapEvent}
 use Rattle.esm_module_map.specs.declared.event.MapEvent.TheVariants.{Begin, Enrol, Ask, Take, Post, Shut}
-use Rattle.esm_module_map.specs.declared.number.Number.{Number}
-use Rattle.esm_module_map.specs.Replay.{Replay, opening, change_at, asked_again, fresh_number, taken_by, posted_at, asked_by, is_numbered, number_for, is_free, next_order, step, replay, replay_from, is_legal, is_legal_from, may_come, maker_of}
-use Rattle.esm_module_map.specs.Histories.{url_at, takes_in, along, takes_by}
+use Rattle.esm_module_map.specs.Replay.{Replay, step, maker_of}
+use Rattle.esm_module_map.specs.Histories.{url_at, takes_in, along}
 use Rattle.esm_module_map.specs.Counts.{count, total}
-use Rattle.esm_module_map.proofs.Replays.{both_true, true_both, lt_false, eq_true, eq_from, length_change}
-use Rattle.esm_module_map.proofs.Asks.{next_free, or_len_most}
-use Rattle.esm_module_map.proofs.Calls.{the_is}
+use Rattle.esm_module_map.proofs.Replays.{eq_true, eq_from}
 
 pub count_append : (u : Url) (xs ys : List Url) → count u (xs ++ ys) ≡ count u xs + count u ys
 count_append u [] ys = omega arith

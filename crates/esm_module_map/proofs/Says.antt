@@ -1,5 +1,5 @@
 -- What a call changes of what the history has of its caller, from what it found.
-use Rattle.std.proofs.Common.{◌≡◌, ℕ, ◌+◌, ◌<◌, Bool, true, false, cond, List, [], ◌∷◌, ◌++◌, sym, refl, ap, ◌∙◌, subst, append_assoc, append-nil, Option, Some, None, slice_get, Result, Ok, Err}
+use Rattle.std.proofs.Common.{◌≡◌, ℕ, ◌<◌, Bool, true, false, cond, List, [], ◌∷◌, ◌++◌, refl, ap, ◌∙◌, subst, append_assoc, append-nil, Option, Some, Result, Ok, Err}
 use Rattle.std.specs.Arc.{arc_value}
 use Rattle.std.specs.declared.sync.Arc.{Arc}
 use Rattle.std.specs.declared.alloc.Global.{Global}
@@ -15,22 +15,21 @@ use Rattle.esm_module_map.specs.declared.reply.MapEnd.{MapEnd}
 use Rattle.esm_module_map.specs.declared.reply.MapEnd.TheVariants as end
 use Rattle.esm_module_map.specs.declared.reply.Taken.{Taken}
 use Rattle.esm_module_map.specs.declared.reply.Taken.TheVariants as taken
-use Rattle.esm_module_map.specs.declared.reply.Order.{Order}
 use Rattle.esm_module_map.specs.Replay.{Replay, opening, replay, is_legal, maker_of, number_for}
-use Rattle.esm_module_map.specs.Replies.{Continues, Found, Called, AskReply, TakeReply, ShutReply}
-use Rattle.esm_module_map.specs.Histories.{Answer, asks_in, takes_in, answers_in, asks_by, takes_by, answers_by}
-use Rattle.esm_module_map.specs.Saying.{Begins, SaysSame, Stays, IsShut, IsOrderIn, TookOne, PostedOne, AskedOne, TakeSays, AskSays}
+use Rattle.esm_module_map.specs.Replies.{ContinuesFor, Called, AskReply, TakeReply, ShutReply}
+use Rattle.esm_module_map.specs.Histories.{asks_in, takes_in, answers_in, asks_by, takes_by, answers_by}
+use Rattle.esm_module_map.specs.Saying.{Begins, Stays, IsShut, IsOrderIn, PostedOne, AskedOne, TakeSays, AskSays}
 use Rattle.esm_module_map.proofs.Replays.{eq_true, replay_more}
 use Rattle.esm_module_map.proofs.Told.{after_take, after_post, after_nothing, after_shut, order_taken, url_more, along_more, asks_of_one, takes_of_one, answers_of_one}
 
 module _ {P G : Type 0} (weight : P → ℕ) where
-  begins_more : (seen found now more : List (MapEvent P G)) (n : Option ℕ) → Continues maker_of found seen n → now ≡ found ++ more → Begins seen now
+  begins_more : (seen found now more : List (MapEvent P G)) (n : Option ℕ) → ContinuesFor maker_of found seen n → now ≡ found ++ more → Begins seen now
   begins_more seen found now more n q is = (q.0 ++ more, is ∙ ap (λ l. l ++ more) q.1 ∙ append_assoc seen q.0 more)
 
-  begins_same : (seen found now : List (MapEvent P G)) (n : Option ℕ) → Continues maker_of found seen n → now ≡ found → Begins seen now
+  begins_same : (seen found now : List (MapEvent P G)) (n : Option ℕ) → ContinuesFor maker_of found seen n → now ≡ found → Begins seen now
   begins_same seen found now n q is = (q.0, is ∙ q.1)
 
-  stays : (c : ℕ) (seen found now : List (MapEvent P G)) → Continues maker_of found seen (Some c) → now ≡ found → Stays weight c seen now
+  stays : (c : ℕ) (seen found now : List (MapEvent P G)) → ContinuesFor maker_of found seen (Some c) → now ≡ found → Stays weight c seen now
   stays c seen found now q is = (begins_same seen found now (Some c) q is, after_nothing weight c seen found now q is)
 
   pub same_says : (c : ℕ) (seen now : List (MapEvent P G)) → Called weight seen (Some c) (λ found. now ≡ found) → Stays weight c seen now
@@ -70,7 +69,7 @@ module _ {P G : Type 0} (weight : P → ℕ) where
   asks_one : (e : MapEvent P G) (c n : ℕ) (s : Replay) (u : Url) (why : Why) → e ≡ Ask c n u why → asks_in c s e ≡ u ∷ []
   asks_one e c n s u why is = ap (asks_in c s) is ∙ ap (λ t. cond t (u ∷ []) []) (eq_true c c refl)
 
-  asked_one : (c n : ℕ) (url : Url) (why : Why) (seen found now : List (MapEvent P G)) → Continues maker_of found seen (Some c) → now ≡ found ++ Ask c n url why ∷ [] → AskedOne weight c url seen now
+  asked_one : (c n : ℕ) (url : Url) (why : Why) (seen found now : List (MapEvent P G)) → ContinuesFor maker_of found seen (Some c) → now ≡ found ++ Ask c n url why ∷ [] → AskedOne weight c url seen now
   asked_one c n url why seen found now q is = record {
     begins = begins_more seen found now (Ask c n url why ∷ []) (Some c) q is;
     takes = along_more weight c (takes_in c) (takes_of_one weight c) seen found now (Ask c n url why) q is ∙ append-nil (takes_by weight c seen);

@@ -1,5 +1,5 @@
 -- No number is taken twice, and the URLs of numbers differ.
-use Rattle.std.proofs.Common.{◌≡◌, ◌≢◌, ℕ, zero, suc, ◌+◌, ◌<◌, ◌≤◌, ◌&&◌, Bool, true, false, cond, nat_lt, List, [], ◌∷◌, ◌++◌, length, sym, refl, ap, ◌∙◌, subst, arith, Option, Some, None, is_some, slice_get, slice_index_or, not, ◌==◌, bytes_eq}
+use Rattle.std.proofs.Common.{◌≡◌, ℕ, zero, suc, ◌+◌, ◌≤◌, ◌&&◌, Bool, true, false, cond, nat_lt, List, [], ◌∷◌, ◌++◌, length, sym, refl, ap, ◌∙◌, subst, arith, Option, Some, None, is_some, slice_get, slice_index_or, not, bytes_eq}
 use Rattle.std.proofs.lemmas.Slice.Eq.{bytes_eq-Decides}
 use Rattle.std.specs.List.{position_or_len}
 use Rattle.esm_hlock.specs.Makers.{times, names}
@@ -9,11 +9,11 @@ use Rattle.esm_module_map.specs.declared.event.Why.TheVariants.{Wanted, Ahead}
 use Rattle.esm_module_map.specs.declared.event.MapEvent.{MapEvent}
 use Rattle.esm_module_map.specs.declared.event.MapEvent.TheVariants.{Begin, Enrol, Ask, Take, Post, Shut}
 use Rattle.esm_module_map.specs.declared.number.Number.{Number}
-use Rattle.esm_module_map.specs.Replay.{Replay, opening, change_at, asked_again, fresh_number, taken_by, posted_at, asked_by, is_numbered, number_for, is_free, next_order, step, replay, replay_from, is_legal, is_legal_from, may_come, maker_of}
-use Rattle.esm_module_map.specs.Histories.{url_at, takes_in, along, takes_by}
+use Rattle.esm_module_map.specs.Replay.{Replay, opening, change_at, asked_again, fresh_number, taken_by, posted_at, asked_by, is_numbered, number_for, is_free, next_order, step, is_legal, is_legal_from, may_come, maker_of}
+use Rattle.esm_module_map.specs.Histories.{along}
 use Rattle.esm_module_map.specs.Counts.{count, AreTakenOnce}
 use Rattle.esm_module_map.proofs.Replays.{both_true, lt_false, length_change}
-use Rattle.esm_module_map.proofs.Asks.{next_free, or_len_most}
+use Rattle.esm_module_map.proofs.Asks.{next_free}
 use Rattle.esm_module_map.proofs.Calls.{the_is}
 use Rattle.esm_module_map.proofs.Once.{count_append, takes_all, among_all}
 
@@ -115,7 +115,7 @@ tally_asked u true s n v why (once, len) = tally_kept u s.urls s.numbers n (aske
 tally_asked u false s n v why (once, len) = tally_more u s.urls s.numbers v (fresh_number why) len (fresh_taker why)
 
 module _ {P G : Type 0} (weight : P → ℕ) where
-  numbered_step : (s : Replay) (e : MapEvent P G) → IsNumbered s → IsNumbered (step weight s e)
+  pub numbered_step : (s : Replay) (e : MapEvent P G) → IsNumbered s → IsNumbered (step weight s e)
   numbered_step s (Begin g) h = h
   numbered_step s (Enrol d) h = h
   numbered_step s (Ask d n v why) h = numbered_asked (is_numbered s v) s n v why refl h

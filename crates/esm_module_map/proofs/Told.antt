@@ -1,21 +1,19 @@
 -- What a history has of a caller, as it grows.
-use Rattle.std.proofs.Common.{◌≡◌, ◌≢◌, ℕ, zero, suc, ◌+◌, ◌<◌, ◌≤◌, ◌&&◌, Bool, true, false, cond, nat_lt, List, [], ◌∷◌, ◌++◌, length, sym, refl, ap, ◌∙◌, subst, arith, Option, Some, None, is_some, slice_get, slice_index_or, not, ◌==◌, append-nil, append_assoc, ◌⊎◌, inl, inr}
+use Rattle.std.proofs.Common.{◌≡◌, ℕ, zero, suc, Bool, true, false, cond, nat_lt, List, [], ◌∷◌, ◌++◌, sym, refl, ap, ◌∙◌, subst, arith, Some, slice_get, slice_index_or, not, ◌==◌, append-nil, append_assoc}
 use Rattle.std.specs.Arc.{arc_value}
 use Rattle.std.specs.declared.sync.Arc.{Arc}
 use Rattle.std.specs.declared.alloc.Global.{Global}
 use Rattle.esm_hlock.specs.Makers.{is_maker, names}
 use Rattle.esm_base.specs.Urls.{Url}
-use Rattle.esm_module_map.specs.declared.event.Why.{Why}
 use Rattle.esm_module_map.specs.declared.event.MapEvent.{MapEvent}
 use Rattle.esm_module_map.specs.declared.event.MapEvent.TheVariants.{Begin, Enrol, Ask, Take, Post, Shut}
-use Rattle.esm_module_map.specs.declared.number.Number.{Number}
-use Rattle.esm_module_map.specs.Replay.{Replay, opening, change_at, taken_by, is_numbered, number_for, is_order, is_out_with, next_order, step, replay, replay_from, is_legal, is_legal_from, may_come, maker_of, asked_by}
-use Rattle.esm_module_map.specs.Histories.{Answer, url_at, asks_in, takes_in, answers_in, along, asks_by, takes_by, answers_by}
-use Rattle.esm_module_map.specs.Replies.{Found, Called, Continues}
+use Rattle.esm_module_map.specs.Replay.{Replay, opening, taken_by, is_numbered, is_order, is_out_with, next_order, step, replay, replay_from, is_legal, may_come, maker_of, asked_by}
+use Rattle.esm_module_map.specs.Histories.{url_at, asks_in, takes_in, answers_in, along, asks_by, takes_by, answers_by}
+use Rattle.esm_module_map.specs.Replies.{ContinuesFor}
 use Rattle.esm_module_map.specs.Saying.{SaysSame}
 use Rattle.esm_module_map.proofs.Replays.{both_true, true_both, eq_true, replay_more}
 use Rattle.esm_module_map.proofs.Asks.{next_free}
-use Rattle.esm_module_map.proofs.Calls.{replay_split, legal_split, stays_found, get_changed, get_append, the_is}
+use Rattle.esm_module_map.proofs.Calls.{legal_split, stays_found, get_changed, get_append, the_is}
 
 -- the number has the URL
 abbrev pub HasUrl : ℕ → Url → Replay → Type 0
@@ -46,11 +44,11 @@ module _ {P G : Type 0} (weight : P → ℕ) where
       by_test true n h first rest = absurd (omega arith)
       by_test false n h first rest = ap (λ l. l ++ along weight says (step weight s e) es) (first refl) ∙ rest h
 
-  pub along_found : {A : Type 0} (k : ℕ) (says : Replay → MapEvent P G → List A) → IsOf k says → (seen found : List (MapEvent P G)) → Continues maker_of found seen (Some k) → along weight says opening found ≡ along weight says opening seen
+  pub along_found : {A : Type 0} (k : ℕ) (says : Replay → MapEvent P G → List A) → IsOf k says → (seen found : List (MapEvent P G)) → ContinuesFor maker_of found seen (Some k) → along weight says opening found ≡ along weight says opening seen
   along_found k says of seen found q = ap (along weight says opening) q.1 ∙ along_split says opening seen q.0 ∙ ap (λ l. along weight says opening seen ++ l) (along_others k says of (replay weight seen) q.0 (q.2 k refl)) ∙ append-nil (along weight says opening seen)
 
   -- one event more of the caller, behind what it found
-  pub along_more : {A : Type 0} (k : ℕ) (says : Replay → MapEvent P G → List A) → IsOf k says → (seen found now : List (MapEvent P G)) (e : MapEvent P G) → Continues maker_of found seen (Some k) → now ≡ found ++ e ∷ []
+  pub along_more : {A : Type 0} (k : ℕ) (says : Replay → MapEvent P G → List A) → IsOf k says → (seen found now : List (MapEvent P G)) (e : MapEvent P G) → ContinuesFor maker_of found seen (Some k) → now ≡ found ++ e ∷ []
       → along weight says opening now ≡ along weight says opening seen ++ says (replay weight found) e
   along_more k says of seen found now e q more = ap (along weight says opening) more ∙ along_split says opening found (e ∷ []) ∙ ap (λ l. l ++ (says (replay weight found) e ++ [])) (along_found k says of seen found q) ∙ ap (λ l. along weight says opening seen ++ l) (append-nil (says (replay weight found) e))
 
@@ -92,7 +90,7 @@ module _ {P G : Type 0} (weight : P → ℕ) where
   url_step n u k s (Post d m p) ok other h = h
   url_step n u k s (Shut d) ok other h = h
 
-  pub url_found : (n : ℕ) (u : Url) (k : ℕ) (seen found : List (MapEvent P G)) → is_legal weight found ≡ true → Continues maker_of found seen (Some k) → HasUrl n u (replay weight seen) → HasUrl n u (replay weight found)
+  pub url_found : (n : ℕ) (u : Url) (k : ℕ) (seen found : List (MapEvent P G)) → is_legal weight found ≡ true → ContinuesFor maker_of found seen (Some k) → HasUrl n u (replay weight seen) → HasUrl n u (replay weight found)
   url_found n u k seen found ok q h = stays_found weight (HasUrl n u) k (url_step n u k) seen found ok q h
 
   -- one event more
@@ -127,7 +125,7 @@ module _ {P G : Type 0} (weight : P → ℕ) where
   answers_one e c n s u p is h = ap (answers_in c s) is ∙ ap (λ t. cond t (record { number = n; url = url_at s n; payload = arc_value p } ∷ []) []) (eq_true c c refl) ∙ ap (λ (v : Url). record { number = n; url = v; payload = arc_value p } ∷ []) (url_is s n u h)
 
   -- what a Take changes of what the history has of its caller
-  pub after_take : (c n : ℕ) (u : Url) (seen found now : List (MapEvent P G)) → Continues maker_of found seen (Some c) → now ≡ found ++ Take c n ∷ [] → HasUrl n u (replay weight found)
+  pub after_take : (c n : ℕ) (u : Url) (seen found now : List (MapEvent P G)) → ContinuesFor maker_of found seen (Some c) → now ≡ found ++ Take c n ∷ [] → HasUrl n u (replay weight found)
       → (takes_by weight c now ≡ takes_by weight c seen ++ u ∷ []) × (answers_by weight c now ≡ answers_by weight c seen) × (asks_by weight c now ≡ asks_by weight c seen)
   after_take c n u seen found now q more h = (
     along_more c (takes_in c) (takes_of_one c) seen found now (Take c n) q more ∙ ap (λ l. takes_by weight c seen ++ l) (takes_one (Take c n) c n (replay weight found) u refl h),
@@ -135,7 +133,7 @@ module _ {P G : Type 0} (weight : P → ℕ) where
     along_more c (asks_in c) (asks_of_one c) seen found now (Take c n) q more ∙ append-nil (asks_by weight c seen),
   )
 
-  pub after_post : (c n : ℕ) (u : Url) (p : Arc P Global) (seen found now : List (MapEvent P G)) → is_legal weight found ≡ true → Continues maker_of found seen (Some c) → now ≡ found ++ Post c n p ∷ [] → HasUrl n u (replay weight seen)
+  pub after_post : (c n : ℕ) (u : Url) (p : Arc P Global) (seen found now : List (MapEvent P G)) → is_legal weight found ≡ true → ContinuesFor maker_of found seen (Some c) → now ≡ found ++ Post c n p ∷ [] → HasUrl n u (replay weight seen)
       → (takes_by weight c now ≡ takes_by weight c seen) × (answers_by weight c now ≡ answers_by weight c seen ++ record { number = n; url = u; payload = arc_value p } ∷ []) × (asks_by weight c now ≡ asks_by weight c seen)
   after_post c n u p seen found now ok q more h = (
     along_more c (takes_in c) (takes_of_one c) seen found now (Post c n p) q more ∙ append-nil (takes_by weight c seen),
@@ -143,14 +141,14 @@ module _ {P G : Type 0} (weight : P → ℕ) where
     along_more c (asks_in c) (asks_of_one c) seen found now (Post c n p) q more ∙ append-nil (asks_by weight c seen),
   )
 
-  pub after_nothing : (c : ℕ) (seen found now : List (MapEvent P G)) → Continues maker_of found seen (Some c) → now ≡ found → SaysSame weight c seen now
+  pub after_nothing : (c : ℕ) (seen found now : List (MapEvent P G)) → ContinuesFor maker_of found seen (Some c) → now ≡ found → SaysSame weight c seen now
   after_nothing c seen found now q same = (
     ap (takes_by weight c) same ∙ along_found c (takes_in c) (takes_of_one c) seen found q,
     ap (answers_by weight c) same ∙ along_found c (answers_in c) (answers_of_one c) seen found q,
     ap (asks_by weight c) same ∙ along_found c (asks_in c) (asks_of_one c) seen found q,
   )
 
-  pub after_shut : (c : ℕ) (seen found now : List (MapEvent P G)) → Continues maker_of found seen (Some c) → now ≡ cond (replay weight found).shut found (found ++ Shut c ∷ []) → SaysSame weight c seen now
+  pub after_shut : (c : ℕ) (seen found now : List (MapEvent P G)) → ContinuesFor maker_of found seen (Some c) → now ≡ cond (replay weight found).shut found (found ++ Shut c ∷ []) → SaysSame weight c seen now
   after_shut c seen found now q is = by_test (replay weight found).shut is
     where
       by_test : (b : Bool) → now ≡ cond b found (found ++ Shut c ∷ []) → SaysSame weight c seen now

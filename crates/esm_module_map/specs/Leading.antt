@@ -1,8 +1,6 @@
 -- What leads to an ask ahead: a body that was posted before it, whose module requests the URL.
 use Rattle.std.specs.Prelude.{ℕ, ◌==◌, ◌&&◌, Bool, true, false, cond, List, [], ◌∷◌, ◌++◌, Option, Some, None}
 use Rattle.std.specs.Arc.{arc_value}
-use Rattle.std.specs.declared.sync.Arc.{Arc}
-use Rattle.std.specs.declared.alloc.Global.{Global}
 use Rattle.esm_base.specs.Urls.{Url}
 use Rattle.esm_module_map.specs.declared.event.Why.{Why}
 use Rattle.esm_module_map.specs.declared.event.Why.TheVariants.{Wanted, Ahead}

@@ -1,5 +1,5 @@
 -- The replay of a history, and which histories are legal.
-use Rattle.std.specs.Prelude.{◌≡◌, ℕ, zero, suc, ◌+◌, ◌==◌, ◌&&◌, not, nat_lt, min, Bool, true, false, cond, bytes_eq, List, [], ◌∷◌, ◌++◌, length, slice_get, position, Option, Some, None, is_some}
+use Rattle.std.specs.Prelude.{ℕ, zero, suc, ◌+◌, ◌==◌, ◌&&◌, not, nat_lt, min, Bool, true, false, bytes_eq, List, [], ◌∷◌, ◌++◌, length, slice_get, position, Option, Some, None, is_some}
 use Rattle.std.specs.List.{position_or_len}
 use Rattle.std.specs.Arc.{arc_value}
 use Rattle.esm_base.specs.Urls.{Url, is_usable}
@@ -10,7 +10,7 @@ use Rattle.esm_module_map.specs.declared.event.MapEvent.{MapEvent}
 use Rattle.esm_module_map.specs.declared.event.MapEvent.TheVariants.{Begin, Enrol, Ask, Take, Post, Shut}
 use Rattle.esm_module_map.specs.declared.number.Number.{Number}
 
--- what a history comes to
+-- own: what a history comes to
 pub record Replay : Type 0 where
   -- how many events there are
   pub events : ℕ
@@ -25,11 +25,12 @@ pub record Replay : Type 0 where
   -- how many numbers were made by wanted asks, and by asks ahead
   pub wanted : ℕ
   pub ahead : ℕ
-  -- what the posts weigh, up to a bound
+  -- what the posts weigh, at most MAX_DELIVERED_BYTES
   pub weight : ℕ
   -- nothing is asked or taken any more
   pub shut : Bool
 
+-- own: what no event comes to
 abbrev pub opening : Replay
 opening = record { events = 0; callers = 0; urls = []; numbers = []; posts = []; wanted = 0; ahead = 0; weight = 0; shut = false }
 
@@ -63,21 +64,12 @@ taken_by c x = record { wanted = x.wanted; taker = Some c; place = None }
 abbrev pub posted_at : ℕ → Number → Number
 posted_at k x = record { wanted = x.wanted; taker = x.taker; place = Some k }
 
--- nobody has taken it
+-- no caller has taken it
 abbrev pub is_free : Number → Bool
 is_free x = not (is_some x.taker)
 
 abbrev pub is_wanted_and_free : Number → Bool
 is_wanted_and_free x = x.wanted && is_free x
-
--- it is taken and not posted
-abbrev pub is_out : Number → Bool
-is_out x = is_some x.taker && not (is_some x.place)
-
--- how many are out
-abbrev pub outs_of : List Number → ℕ
-outs_of [] = 0
-outs_of (x ∷ xs) = cond (is_out x) 1 0 + outs_of xs
 
 -- the option has this number
 abbrev pub is_the : ℕ → Option ℕ → Bool
@@ -107,7 +99,8 @@ next_by (Some n) light later = Some n
 next_by None true later = later
 next_by None false later = None
 
--- the least free number that is wanted; where there is none, and the posts are light, the least free number
+-- own: the least free number that is wanted; where there is none, and the posts weigh less than MAX_DELIVERED_BYTES, the least
+-- free number
 abbrev pub next_order : Replay → Option ℕ
 next_order s = next_by (position is_wanted_and_free s.numbers) (nat_lt s.weight MAX_DELIVERED_BYTES) (position is_free s.numbers)
 
@@ -124,7 +117,14 @@ made_ahead (Ahead k) = 1
 -- the URL is asked for: one that has a number, and one that gets the next
 abbrev pub asked_by : Bool → Replay → ℕ → Url → Why → Replay
 asked_by true s n url why = record s { events = s.events + 1; numbers = change_at s.numbers n (asked_again why) }
-asked_by false s n url why = record s { events = s.events + 1; urls = s.urls ++ url ∷ []; numbers = s.numbers ++ fresh_number why ∷ []; wanted = s.wanted + made_wanted why; ahead = s.ahead + made_ahead why }
+asked_by false s n url why =
+    record s {
+      events = s.events + 1;
+      urls = s.urls ++ url ∷ [];
+      numbers = s.numbers ++ fresh_number why ∷ [];
+      wanted = s.wanted + made_wanted why;
+      ahead = s.ahead + made_ahead why;
+    }
 
 -- a number can be made by such an ask
 abbrev pub room_by : Why → ℕ → ℕ → Bool
@@ -138,6 +138,7 @@ abbrev pub may_ask : Bool → Replay → Why → Bool
 may_ask true s why = true
 may_ask false s why = has_room s why
 
+-- own: an ask of this kind may stand here: it is wanted, or something is posted under its number
 abbrev pub may_be_ahead : Replay → Why → Bool
 may_be_ahead s Wanted = true
 may_be_ahead s (Ahead k) = is_posted s k
@@ -156,18 +157,27 @@ module _ {P G : Type 0} where
   abbrev pub may_come : Replay → MapEvent P G → Bool
   may_come s (Begin g) = s.events == 0
   may_come s (Enrol c) = (c == s.callers) && nat_lt 0 s.events
-  may_come s (Ask c n url why) = nat_lt c s.callers && (not s.shut && (is_usable url && ((n == number_for s url) && (may_ask (is_numbered s url) s why && may_be_ahead s why))))
+  may_come s (Ask c n url why) =
+      nat_lt c s.callers && (not s.shut
+      && (is_usable url && ((n == number_for s url) && (may_ask (is_numbered s url) s why && may_be_ahead s why))))
   may_come s (Take c n) = nat_lt c s.callers && (not s.shut && is_the n (next_order s))
   may_come s (Post c n p) = nat_lt c s.callers && is_order s c n
   may_come s (Shut c) = nat_lt c s.callers && not s.shut
 
   module _ (weight : P → ℕ) where
+    -- own: what one event changes
     abbrev pub step : Replay → MapEvent P G → Replay
     step s (Begin g) = record s { events = s.events + 1 }
     step s (Enrol c) = record s { events = s.events + 1; callers = s.callers + 1 }
     step s (Ask c n url why) = asked_by (is_numbered s url) s n url why
     step s (Take c n) = record s { events = s.events + 1; numbers = change_at s.numbers n (taken_by c) }
-    step s (Post c n p) = record s { events = s.events + 1; numbers = change_at s.numbers n (posted_at s.events); posts = s.posts ++ n ∷ []; weight = min (s.weight + weight (arc_value p)) MAX_DELIVERED_BYTES }
+    step s (Post c n p) =
+        record s {
+          events = s.events + 1;
+          numbers = change_at s.numbers n (posted_at s.events);
+          posts = s.posts ++ n ∷ [];
+          weight = min (s.weight + weight (arc_value p)) MAX_DELIVERED_BYTES;
+        }
     step s (Shut c) = record s { events = s.events + 1; shut = true }
 
     abbrev pub replay_from : Replay → List (MapEvent P G) → Replay
@@ -182,6 +192,6 @@ module _ {P G : Type 0} where
     abbrev pub replay : List (MapEvent P G) → Replay
     replay es = replay_from opening es
 
-    -- the history begins with its guide, each event may stand behind those before it
+    -- own: the history begins with its guide, and each event may stand behind those before it
     abbrev pub is_legal : List (MapEvent P G) → Bool
     is_legal es = is_legal_from opening es

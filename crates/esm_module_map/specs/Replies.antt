@@ -1,7 +1,5 @@
 -- What the calls on a map answer, and what they add to its history.
-use Rattle.std.specs.Prelude.{◌≡◌, ◌⊎◌, ℕ, Bool, true, false, cond, List, [], ◌∷◌, ◌++◌, drop, slice_get, Option, Some, None, Result, Ok, Err}
-use Rattle.std.specs.Arc.{arc_value}
-use Rattle.std.specs.Arc as arcs
+use Rattle.std.specs.Prelude.{◌≡◌, ◌⊎◌, ℕ, Bool, true, false, cond, List, [], ◌∷◌, ◌++◌, slice_get, Option, Some, None, Result, Ok, Err}
 use Rattle.esm_base.specs.declared.memory.Memory.{Memory}
 use Rattle.esm_hlock.specs.Makers.{names}
 use Rattle.esm_base.specs.Urls.{Url}
@@ -22,20 +20,27 @@ answer_by false here n = New n
 answer_by true false n = Waiting n
 answer_by true true n = Here n
 
+-- how an ask for the URL is answered behind a history that comes to this
 abbrev pub answer_for : Replay → Url → Asked
 answer_for s url = answer_by (is_numbered s url) (is_posted s (number_for s url)) (number_for s url)
 
 module _ {P G : Type 0} where
   -- the event that a caller makes of an ask
   abbrev pub AskReply : (P → ℕ) → List (MapEvent P G) → ℕ → Url → Why → Result Asked MapEnd → List (MapEvent P G) → Type 0
-  AskReply weight found c url why (Ok asked) now = (now ≡ found ++ event.Ask c (number_for (replay weight found) url) url why ∷ []) × (asked ≡ answer_for (replay weight found) url)
-  AskReply weight found c url why (Err end.Full) now = (now ≡ found) × ((replay weight found).shut ≡ false) × (is_numbered (replay weight found) url ≡ false) × (has_room (replay weight found) why ≡ false)
+  AskReply weight found c url why (Ok asked) now =
+      (now ≡ found ++ event.Ask c (number_for (replay weight found) url) url why ∷ []) × (asked ≡ answer_for (replay weight found) url)
+  AskReply weight found c url why (Err end.Full) now =
+      (now ≡ found) × ((replay weight found).shut ≡ false) × (is_numbered (replay weight found) url ≡ false)
+      × (has_room (replay weight found) why ≡ false)
   AskReply weight found c url why (Err end.Closed) now = (now ≡ found) × ((replay weight found).shut ≡ true)
   AskReply weight found c url why (Err end.Memory) now = now ≡ found
 
+  -- the event that a caller makes of a take
   abbrev pub TakeReply : (P → ℕ) → List (MapEvent P G) → ℕ → Result Taken Memory → List (MapEvent P G) → Type 0
-  TakeReply weight found c (Ok (taken.Order order)) now = (now ≡ found ++ event.Take c order.number ∷ []) × (slice_get (replay weight found).urls order.number ≡ Some order.url)
-  TakeReply weight found c (Ok taken.NotYet) now = (now ≡ found) × ((replay weight found).shut ≡ false) × (next_order (replay weight found) ≡ None)
+  TakeReply weight found c (Ok (taken.Order order)) now =
+      (now ≡ found ++ event.Take c order.number ∷ []) × (slice_get (replay weight found).urls order.number ≡ Some order.url)
+  TakeReply weight found c (Ok taken.NotYet) now =
+      (now ≡ found) × ((replay weight found).shut ≡ false) × (next_order (replay weight found) ≡ None)
   TakeReply weight found c (Ok taken.Closed) now = (now ≡ found) × ((replay weight found).shut ≡ true)
   TakeReply weight found c (Err want) now = now ≡ found
 
@@ -48,12 +53,13 @@ module _ {P G : Type 0} where
   MayGrow found c now = (now ≡ found) ⊎ ((e : MapEvent P G) × (now ≡ found ++ e ∷ []) × (maker_of e ≡ Some c))
 
   -- a history begins with what was seen, and behind that no entry has the number
-  abbrev pub Continues : (MapEvent P G → Option ℕ) → List (MapEvent P G) → List (MapEvent P G) → Option ℕ → Type 0
-  Continues maker history seen number = (rest : List (MapEvent P G)) × (history ≡ seen ++ rest) × ((k : ℕ) → number ≡ Some k → names maker k rest ≡ 0)
+  abbrev pub ContinuesFor : (MapEvent P G → Option ℕ) → List (MapEvent P G) → List (MapEvent P G) → Option ℕ → Type 0
+  ContinuesFor maker history seen number =
+      (rest : List (MapEvent P G)) × (history ≡ seen ++ rest) × ((k : ℕ) → number ≡ Some k → names maker k rest ≡ 0)
 
   -- what a caller finds that had seen this
   abbrev pub Found : (P → ℕ) → List (MapEvent P G) → Option ℕ → List (MapEvent P G) → Type 0
-  Found weight seen c found = (is_legal weight found ≡ true) × Continues maker_of found seen c
+  Found weight seen c found = (is_legal weight found ≡ true) × ContinuesFor maker_of found seen c
 
   -- a call of a caller that had seen this, whose reply is by what it found
   abbrev pub Called : (P → ℕ) → List (MapEvent P G) → Option ℕ → (List (MapEvent P G) → Type 0) → Type 0

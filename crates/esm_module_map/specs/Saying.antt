@@ -1,5 +1,5 @@
 -- What a call changes of what the history has of its caller.
-use Rattle.std.specs.Prelude.{◌≡◌, ℕ, Bool, true, List, [], ◌∷◌, ◌++◌, slice_get, Option, Some, Result, Ok, Err}
+use Rattle.std.specs.Prelude.{◌≡◌, ℕ, true, List, [], ◌∷◌, ◌++◌, slice_get, Some, Result, Ok, Err}
 use Rattle.esm_base.specs.declared.memory.Memory.{Memory}
 use Rattle.esm_base.specs.Urls.{Url}
 use Rattle.esm_module_map.specs.declared.event.MapEvent.{MapEvent}
@@ -8,7 +8,7 @@ use Rattle.esm_module_map.specs.declared.reply.MapEnd.{MapEnd}
 use Rattle.esm_module_map.specs.declared.reply.Taken.{Taken}
 use Rattle.esm_module_map.specs.declared.reply.Taken.TheVariants as taken
 use Rattle.esm_module_map.specs.Replay.{replay, is_order}
-use Rattle.esm_module_map.specs.Histories.{Answer, asks_by, takes_by, answers_by}
+use Rattle.esm_module_map.specs.Histories.{asks_by, takes_by, answers_by}
 
 module _ {P G : Type 0} where
   -- the history has grown
@@ -18,8 +18,11 @@ module _ {P G : Type 0} where
   module _ (weight : P → ℕ) where
     -- it has the same of the caller
     abbrev pub SaysSame : ℕ → List (MapEvent P G) → List (MapEvent P G) → Type 0
-    SaysSame c seen now = (takes_by weight c now ≡ takes_by weight c seen) × (answers_by weight c now ≡ answers_by weight c seen) × (asks_by weight c now ≡ asks_by weight c seen)
+    SaysSame c seen now =
+        (takes_by weight c now ≡ takes_by weight c seen) × (answers_by weight c now ≡ answers_by weight c seen)
+        × (asks_by weight c now ≡ asks_by weight c seen)
 
+    -- the history has grown, and has the same of the caller
     abbrev pub Stays : ℕ → List (MapEvent P G) → List (MapEvent P G) → Type 0
     Stays c seen now = Begins seen now × SaysSame c seen now
 
@@ -54,12 +57,14 @@ module _ {P G : Type 0} where
       pub answers : answers_by weight c now ≡ answers_by weight c seen
       pub asks : asks_by weight c now ≡ asks_by weight c seen ++ url ∷ []
 
+    -- what a take changes, by its answer
     abbrev pub TakeSays : ℕ → List (MapEvent P G) → Result Taken Memory → List (MapEvent P G) → Type 0
     TakeSays c seen (Ok (taken.Order order)) now = TookOne c order.number order.url seen now
     TakeSays c seen (Ok taken.NotYet) now = Stays c seen now
     TakeSays c seen (Ok taken.Closed) now = Stays c seen now × IsShut now
     TakeSays c seen (Err want) now = Stays c seen now
 
+    -- what an ask changes, by its answer
     abbrev pub AskSays : ℕ → List (MapEvent P G) → Url → Result Asked MapEnd → List (MapEvent P G) → Type 0
     AskSays c seen url (Ok asked) now = AskedOne c url seen now
     AskSays c seen url (Err end) now = Stays c seen now

@@ -1,5 +1,5 @@
 -- What a caller knows.
-use Rattle.std.specs.Prelude.{◌≡◌, ℕ, Bool, true, false, List, [], Option, Some, None}
+use Rattle.std.specs.Prelude.{◌≡◌, Bool, true, false, [], Option, Some, None}
 use Rattle.atomic_table.specs.Seated.{TableId}
 use Rattle.esm_hlock.specs.declared.pass.PassOf.{PassOf}
 use Rattle.esm_hlock.specs.declared.view.View.{View}

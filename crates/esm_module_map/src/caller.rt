@@ -22,13 +22,15 @@ use esm_hlock::{Busy, Hlock, Pass};
 use std::alloc::Global;
 use std::sync::{Arc, Wait};
 
-/// A map that threads share.
+/// The module map that threads share: one history of events under a lock. HTML, module map: an entry is made when its
+/// URL is first asked for, and has a value once it is posted.
 #[derive(Drop)]
 pub struct ModuleMap<P: Payload> {
     pub(crate) lock: Hlock<MapState<P>>,
 }
 
-/// Who calls the map. It has a number, which its events name, and in proofs it knows what it has seen of the history.
+/// A thread's access to the map. It has a number, which its events name, and in contracts it knows what it has seen of
+/// the history.
 #[derive(Drop)]
 pub struct Caller<P: Payload> {
     pub(crate) pass: Option<Pass<MapState<P>>>,
@@ -53,7 +55,8 @@ impl<P: Payload> Caller<P> {
 }
 
 impl<P: Payload> ModuleMap<P> {
-    /// A map whose history begins with this guide, and the pass that has all 1,024 shares and has seen just that.
+    /// A map whose history begins with this guide, and the pass that has all 1,024 shares and has seen just that. Where
+    /// memory runs out the guide is dropped.
     pub fn new(
         alloc: Global,
         guide: Arc<P::Guide, Global>,
@@ -61,7 +64,8 @@ impl<P: Payload> ModuleMap<P> {
         ensures own { IfOk result (λ made. IsPassOf made.0.lock made.1) }
         ensures seen { IfOk result (λ made. (knows made.1).seen ≡ MapEvent.Begin guide ∷ []) }
         ensures shares { IfOk result (λ made. (knows made.1).shares ≡ 1024) }
-        ensures numbers { IfOk result (λ made. ((knows made.1).number ≡ None) × ((knows made.1).numbers ≡ [])) }
+        ensures numbers { IfOk result (λ made. ((knows made.1).number ≡ None)
+            × ((knows made.1).numbers ≡ [])) }
     {
         let state = MapState::new(alloc, guide)?;
         let Ok((lock, pass)) = Hlock::new(alloc, state) else {
@@ -70,7 +74,8 @@ impl<P: Payload> ModuleMap<P> {
         Ok((ModuleMap { lock }, pass))
     }
 
-    /// A caller with the next number. The pass comes back for want of memory alone.
+    /// A caller with the next number; callers are numbered from 0. The pass comes back where memory runs out, and nowhere
+    /// else; it may then have seen more.
     pub fn enrol<R: Wait>(
         &self,
         rt: &R,
@@ -78,10 +83,16 @@ impl<P: Payload> ModuleMap<P> {
     ) -> Result<Caller<P>, Pass<MapState<P>>>
         requires own { IsPassOf self.now.lock pass }
         requires none { (knows pass).number ≡ None }
-        ensures own { MatchResult result (λ c. table_of self.now.lock.table.shared.table_id c.pass ≡ self.now.lock.table.shared.table_id) (λ p. IsPassOf self.now.lock p) }
-        ensures seen { IfOk result (λ c. Called P.weight (knows pass).seen None (λ found. (c.number ≡ (replay P.weight found).callers) × ((view_in c.pass).seen ≡ found ++ MapEvent.Enrol c.number ∷ []))) }
-        ensures shares { MatchResult result (λ c. (view_in c.pass).shares ≡ (knows pass).shares) (λ p. (knows p).shares ≡ (knows pass).shares) }
-        ensures numbers { MatchResult result (λ c. (view_in c.pass).numbers ≡ c.number ∷ (knows pass).numbers) (λ p. ((knows p).number ≡ None) × ((knows p).numbers ≡ (knows pass).numbers)) }
+        ensures own { MatchResult result (λ c. table_of self.now.lock.table.shared.table_id c.pass
+            ≡ self.now.lock.table.shared.table_id) (λ p. IsPassOf self.now.lock p) }
+        ensures seen { IfOk result (λ c. Called P.weight (knows pass).seen None
+            (λ found. (c.number ≡ (replay P.weight found).callers)
+            × ((view_in c.pass).seen ≡ found ++ MapEvent.Enrol c.number ∷ []))) }
+        ensures shares { MatchResult result (λ c. (view_in c.pass).shares ≡ (knows pass).shares)
+            (λ p. (knows p).shares ≡ (knows pass).shares) }
+        ensures numbers { MatchResult result (λ c. (view_in c.pass).numbers
+            ≡ c.number ∷ (knows pass).numbers) (λ p. ((knows p).number ≡ None)
+            × ((knows p).numbers ≡ (knows pass).numbers)) }
     {
         let mut held = self.lock.enter(rt, pass);
         match held.state().enrol() {
@@ -93,7 +104,10 @@ impl<P: Payload> ModuleMap<P> {
         }
     }
 
-    /// Asks for a URL.
+    /// Asks for a URL, which is usable; an ask ahead is for a URL to which something leads that the caller has seen
+    /// posted. `New`: the URL had no number and got the next one. `Waiting`: nothing is posted under its number. `Here`:
+    /// something is. `Closed` comes exactly where the map is shut, `Full` exactly where it isn't, the URL has no number
+    /// and asks of this kind have made `MAX_URLS`. A refusal adds no event.
     pub fn ask<R: Wait>(
         &self,
         rt: &R,
@@ -101,15 +115,21 @@ impl<P: Payload> ModuleMap<P> {
         url: &Text,
         why: Why,
     ) -> Result<Asked, MapEnd>
-        requires own { table_of self.now.lock.table.shared.table_id caller.old.pass ≡ self.now.lock.table.shared.table_id }
+        requires own { table_of self.now.lock.table.shared.table_id caller.old.pass
+            ≡ self.now.lock.table.shared.table_id }
         requires usable { is_usable url.now ≡ true }
         requires ahead { may_be_ahead (replay P.weight (view_in caller.old.pass).seen) why ≡ true }
         requires leads { leads_to P.leads (view_in caller.old.pass).seen why url.now ≡ true }
         ensures led { is_led P.leads (view_in caller.new.pass).seen ≡ true }
-        ensures own { table_of self.now.lock.table.shared.table_id caller.new.pass ≡ self.now.lock.table.shared.table_id }
-        ensures call { Called P.weight (view_in caller.old.pass).seen (Some caller.old.number) (λ found. AskReply P.weight found caller.old.number url.now why result (view_in caller.new.pass).seen) }
-        ensures says { AskSays P.weight caller.old.number (view_in caller.old.pass).seen url.now result (view_in caller.new.pass).seen }
-        ensures same { Same (view_in caller.old.pass) (view_in caller.new.pass) × (caller.new.number ≡ caller.old.number) }
+        ensures own { table_of self.now.lock.table.shared.table_id caller.new.pass
+            ≡ self.now.lock.table.shared.table_id }
+        ensures call { Called P.weight (view_in caller.old.pass).seen (Some caller.old.number)
+            (λ found. AskReply P.weight found caller.old.number url.now why result
+            (view_in caller.new.pass).seen) }
+        ensures says { AskSays P.weight caller.old.number
+            (view_in caller.old.pass).seen url.now result (view_in caller.new.pass).seen }
+        ensures same { Same (view_in caller.old.pass) (view_in caller.new.pass)
+            × (caller.new.number ≡ caller.old.number) }
     {
         let Some(pass) = caller.pass.take() else {
             unreachable!()
@@ -120,13 +140,21 @@ impl<P: Payload> ModuleMap<P> {
         reply
     }
 
-    /// Takes the next number, if there is one.
+    /// Takes the least number that is wanted and not taken; where there is none, and what is posted weighs less than
+    /// `MAX_DELIVERED_BYTES`, the least that isn't taken. `Closed` comes exactly where the map is shut, `NotYet` exactly
+    /// where there is no such number. The room for the post is reserved here. Where memory runs out nothing is taken.
     pub fn take<R: Wait>(&self, rt: &R, caller: &mut Caller<P>) -> Result<Taken, Memory>
-        requires own { table_of self.now.lock.table.shared.table_id caller.old.pass ≡ self.now.lock.table.shared.table_id }
-        ensures own { table_of self.now.lock.table.shared.table_id caller.new.pass ≡ self.now.lock.table.shared.table_id }
-        ensures call { Called P.weight (view_in caller.old.pass).seen (Some caller.old.number) (λ found. TakeReply P.weight found caller.old.number result (view_in caller.new.pass).seen) }
-        ensures says { TakeSays P.weight caller.old.number (view_in caller.old.pass).seen result (view_in caller.new.pass).seen }
-        ensures same { Same (view_in caller.old.pass) (view_in caller.new.pass) × (caller.new.number ≡ caller.old.number) }
+        requires own { table_of self.now.lock.table.shared.table_id caller.old.pass
+            ≡ self.now.lock.table.shared.table_id }
+        ensures own { table_of self.now.lock.table.shared.table_id caller.new.pass
+            ≡ self.now.lock.table.shared.table_id }
+        ensures call { Called P.weight (view_in caller.old.pass).seen (Some caller.old.number)
+            (λ found. TakeReply P.weight found caller.old.number result
+            (view_in caller.new.pass).seen) }
+        ensures says { TakeSays P.weight caller.old.number (view_in caller.old.pass).seen result
+            (view_in caller.new.pass).seen }
+        ensures same { Same (view_in caller.old.pass) (view_in caller.new.pass)
+            × (caller.new.number ≡ caller.old.number) }
     {
         let Some(pass) = caller.pass.take() else {
             unreachable!()
@@ -137,7 +165,7 @@ impl<P: Payload> ModuleMap<P> {
         reply
     }
 
-    /// Posts what came of an order of this caller.
+    /// Posts what came of an order of this caller, also where the map is shut. It doesn't allocate.
     pub fn post<R: Wait>(
         &self,
         rt: &R,
@@ -145,12 +173,19 @@ impl<P: Payload> ModuleMap<P> {
         order: Order,
         payload: Arc<P, Global>,
     )
-        requires own { table_of self.now.lock.table.shared.table_id caller.old.pass ≡ self.now.lock.table.shared.table_id }
-        requires order { IsOrderIn P.weight (view_in caller.old.pass).seen caller.old.number order.number order.url }
-        ensures own { table_of self.now.lock.table.shared.table_id caller.new.pass ≡ self.now.lock.table.shared.table_id }
-        ensures call { Called P.weight (view_in caller.old.pass).seen (Some caller.old.number) (λ found. (view_in caller.new.pass).seen ≡ found ++ MapEvent.Post caller.old.number order.number payload ∷ []) }
-        ensures says { PostedOne P.weight caller.old.number order.number order.url (arc_value payload) (view_in caller.old.pass).seen (view_in caller.new.pass).seen }
-        ensures same { Same (view_in caller.old.pass) (view_in caller.new.pass) × (caller.new.number ≡ caller.old.number) }
+        requires own { table_of self.now.lock.table.shared.table_id caller.old.pass
+            ≡ self.now.lock.table.shared.table_id }
+        requires order { IsOrderIn P.weight (view_in caller.old.pass).seen caller.old.number
+            order.number order.url }
+        ensures own { table_of self.now.lock.table.shared.table_id caller.new.pass
+            ≡ self.now.lock.table.shared.table_id }
+        ensures call { Called P.weight (view_in caller.old.pass).seen (Some caller.old.number)
+            (λ found. (view_in caller.new.pass).seen ≡ found
+            ++ MapEvent.Post caller.old.number order.number payload ∷ []) }
+        ensures says { PostedOne P.weight caller.old.number order.number order.url
+            (arc_value payload) (view_in caller.old.pass).seen (view_in caller.new.pass).seen }
+        ensures same { Same (view_in caller.old.pass) (view_in caller.new.pass)
+            × (caller.new.number ≡ caller.old.number) }
     {
         let Some(pass) = caller.pass.take() else {
             unreachable!()
@@ -160,15 +195,20 @@ impl<P: Payload> ModuleMap<P> {
         caller.pass = Some(self.lock.leave(held));
     }
 
-    /// Shuts the map, unless it is shut.
+    /// Shuts the map, unless it is shut: nothing is asked or taken from then on. It doesn't allocate.
     pub fn shut<R: Wait>(&self, rt: &R, caller: &mut Caller<P>)
-        requires own { table_of self.now.lock.table.shared.table_id caller.old.pass ≡ self.now.lock.table.shared.table_id }
-        ensures own { table_of self.now.lock.table.shared.table_id caller.new.pass ≡ self.now.lock.table.shared.table_id }
+        requires own { table_of self.now.lock.table.shared.table_id caller.old.pass
+            ≡ self.now.lock.table.shared.table_id }
+        ensures own { table_of self.now.lock.table.shared.table_id caller.new.pass
+            ≡ self.now.lock.table.shared.table_id }
         ensures makers { HasAllMakers maker_of (view_in caller.new.pass) }
-        ensures call { Called P.weight (view_in caller.old.pass).seen (Some caller.old.number) (λ found. ShutReply P.weight found caller.old.number (view_in caller.new.pass).seen) }
-        ensures says { Stays P.weight caller.old.number (view_in caller.old.pass).seen (view_in caller.new.pass).seen }
+        ensures call { Called P.weight (view_in caller.old.pass).seen (Some caller.old.number)
+            (λ found. ShutReply P.weight found caller.old.number (view_in caller.new.pass).seen) }
+        ensures says { Stays P.weight caller.old.number (view_in caller.old.pass).seen
+            (view_in caller.new.pass).seen }
         ensures shut { IsShut P.weight (view_in caller.new.pass).seen }
-        ensures same { Same (view_in caller.old.pass) (view_in caller.new.pass) × (caller.new.number ≡ caller.old.number) }
+        ensures same { Same (view_in caller.old.pass) (view_in caller.new.pass)
+            × (caller.new.number ≡ caller.old.number) }
     {
         let Some(pass) = caller.pass.take() else {
             unreachable!()
@@ -178,7 +218,7 @@ impl<P: Payload> ModuleMap<P> {
         caller.pass = Some(self.lock.leave(held));
     }
 
-    /// The posted numbers in order of their posts, without the first `from`.
+    /// The posted numbers in order of their posts, without the first `from` of them.
     pub fn news<R: Wait>(
         &self,
         rt: &R,
@@ -186,12 +226,18 @@ impl<P: Payload> ModuleMap<P> {
         caller: &mut Caller<P>,
         from: usize,
     ) -> Result<Vec<u32>, Memory>
-        requires own { table_of self.now.lock.table.shared.table_id caller.old.pass ≡ self.now.lock.table.shared.table_id }
-        ensures own { table_of self.now.lock.table.shared.table_id caller.new.pass ≡ self.now.lock.table.shared.table_id }
-        ensures call { Called P.weight (view_in caller.old.pass).seen (Some caller.old.number) (λ found. (view_in caller.new.pass).seen ≡ found) }
-        ensures news { IfOk result (λ v. v.items ≡ drop from (replay P.weight (view_in caller.new.pass).seen).posts) }
-        ensures says { Stays P.weight caller.old.number (view_in caller.old.pass).seen (view_in caller.new.pass).seen }
-        ensures same { Same (view_in caller.old.pass) (view_in caller.new.pass) × (caller.new.number ≡ caller.old.number) }
+        requires own { table_of self.now.lock.table.shared.table_id caller.old.pass
+            ≡ self.now.lock.table.shared.table_id }
+        ensures own { table_of self.now.lock.table.shared.table_id caller.new.pass
+            ≡ self.now.lock.table.shared.table_id }
+        ensures call { Called P.weight (view_in caller.old.pass).seen (Some caller.old.number)
+            (λ found. (view_in caller.new.pass).seen ≡ found) }
+        ensures news { IfOk result (λ v. v.items
+            ≡ drop from (replay P.weight (view_in caller.new.pass).seen).posts) }
+        ensures says { Stays P.weight caller.old.number (view_in caller.old.pass).seen
+            (view_in caller.new.pass).seen }
+        ensures same { Same (view_in caller.old.pass) (view_in caller.new.pass)
+            × (caller.new.number ≡ caller.old.number) }
     {
         let Some(pass) = caller.pass.take() else {
             unreachable!()
@@ -202,20 +248,28 @@ impl<P: Payload> ModuleMap<P> {
         reply
     }
 
-    /// What is posted under a number.
+    /// What is posted under a number; none exactly where nothing is in what the caller has then seen.
     pub fn entry<R: Wait>(
         &self,
         rt: &R,
         caller: &mut Caller<P>,
         number: u32,
     ) -> Result<Option<Arc<P, Global>>, Memory>
-        requires own { table_of self.now.lock.table.shared.table_id caller.old.pass ≡ self.now.lock.table.shared.table_id }
-        ensures own { table_of self.now.lock.table.shared.table_id caller.new.pass ≡ self.now.lock.table.shared.table_id }
-        ensures call { Called P.weight (view_in caller.old.pass).seen (Some caller.old.number) (λ found. (view_in caller.new.pass).seen ≡ found) }
-        ensures posted { IfOk result (λ found. IfSome found (λ p. IsPostIn (view_in caller.new.pass).seen number (arc_value p))) }
-        ensures exact { IfOk result (λ found. is_some found ≡ is_posted (replay P.weight (view_in caller.new.pass).seen) number) }
-        ensures says { Stays P.weight caller.old.number (view_in caller.old.pass).seen (view_in caller.new.pass).seen }
-        ensures same { Same (view_in caller.old.pass) (view_in caller.new.pass) × (caller.new.number ≡ caller.old.number) }
+        requires own { table_of self.now.lock.table.shared.table_id caller.old.pass
+            ≡ self.now.lock.table.shared.table_id }
+        ensures own { table_of self.now.lock.table.shared.table_id caller.new.pass
+            ≡ self.now.lock.table.shared.table_id }
+        ensures call { Called P.weight (view_in caller.old.pass).seen (Some caller.old.number)
+            (λ found. (view_in caller.new.pass).seen ≡ found) }
+        ensures posted { IfOk result
+            (λ found. IfSome found (λ p. IsPostIn (view_in caller.new.pass).seen number
+            (arc_value p))) }
+        ensures exact { IfOk result (λ found. is_some found
+            ≡ is_posted (replay P.weight (view_in caller.new.pass).seen) number) }
+        ensures says { Stays P.weight caller.old.number (view_in caller.old.pass).seen
+            (view_in caller.new.pass).seen }
+        ensures same { Same (view_in caller.old.pass) (view_in caller.new.pass)
+            × (caller.new.number ≡ caller.old.number) }
     {
         let Some(pass) = caller.pass.take() else {
             unreachable!()
@@ -226,14 +280,20 @@ impl<P: Payload> ModuleMap<P> {
         reply
     }
 
-    /// A second pass that has seen the same, with one share of the caller's and no number.
+    /// A second pass that has seen the same, with one share of the caller's, which has two or more, and no number. It
+    /// doesn't allocate.
     pub fn split(&self, caller: &mut Caller<P>) -> Pass<MapState<P>>
-        requires own { table_of self.now.lock.table.shared.table_id caller.old.pass ≡ self.now.lock.table.shared.table_id }
+        requires own { table_of self.now.lock.table.shared.table_id caller.old.pass
+            ≡ self.now.lock.table.shared.table_id }
         requires shares { 1 < (view_in caller.old.pass).shares }
-        ensures own { (table_of self.now.lock.table.shared.table_id caller.new.pass ≡ self.now.lock.table.shared.table_id) × IsPassOf self.now.lock result }
-        ensures seen { ((view_in caller.new.pass).seen ≡ (view_in caller.old.pass).seen) × ((knows result).seen ≡ (view_in caller.old.pass).seen) }
-        ensures shares { ((view_in caller.new.pass).shares + 1 ≡ (view_in caller.old.pass).shares) × ((knows result).shares ≡ 1) }
-        ensures kept { (caller.new.number ≡ caller.old.number) × ((view_in caller.new.pass).numbers ≡ (view_in caller.old.pass).numbers) }
+        ensures own { (table_of self.now.lock.table.shared.table_id caller.new.pass
+            ≡ self.now.lock.table.shared.table_id) × IsPassOf self.now.lock result }
+        ensures seen { ((view_in caller.new.pass).seen ≡ (view_in caller.old.pass).seen)
+            × ((knows result).seen ≡ (view_in caller.old.pass).seen) }
+        ensures shares { ((view_in caller.new.pass).shares + 1 ≡ (view_in caller.old.pass).shares)
+            × ((knows result).shares ≡ 1) }
+        ensures kept { (caller.new.number ≡ caller.old.number) × ((view_in caller.new.pass).numbers
+            ≡ (view_in caller.old.pass).numbers) }
         ensures given { ((knows result).number ≡ None) × ((knows result).numbers ≡ []) }
     {
         let Some(pass) = caller.pass.take() else {
@@ -245,20 +305,33 @@ impl<P: Payload> ModuleMap<P> {
         other
     }
 
-    /// One caller, with the first one's number, that has seen what either saw.
+    /// One caller of two, with the first one's number, that has seen what either saw and has the shares and the numbers
+    /// of both. With all shares: no URL was taken twice by all listed callers together. It doesn't allocate.
     pub fn meet(&self, one: Caller<P>, other: Caller<P>) -> Caller<P>
-        requires own { (table_of self.now.lock.table.shared.table_id one.pass ≡ self.now.lock.table.shared.table_id) × (table_of self.now.lock.table.shared.table_id other.pass ≡ self.now.lock.table.shared.table_id) }
-        ensures own { table_of self.now.lock.table.shared.table_id result.pass ≡ self.now.lock.table.shared.table_id }
+        requires own { (table_of self.now.lock.table.shared.table_id one.pass
+            ≡ self.now.lock.table.shared.table_id)
+            × (table_of self.now.lock.table.shared.table_id other.pass
+            ≡ self.now.lock.table.shared.table_id) }
+        ensures own { table_of self.now.lock.table.shared.table_id result.pass
+            ≡ self.now.lock.table.shared.table_id }
         ensures number { result.number ≡ one.number }
-        ensures seen { (view_in result.pass).seen ≡ longer (view_in one.pass).seen (view_in other.pass).seen }
-        ensures one { Continues maker_of (view_in result.pass).seen (view_in one.pass).seen (view_in one.pass).numbers }
-        ensures other { Continues maker_of (view_in result.pass).seen (view_in other.pass).seen (view_in other.pass).numbers }
-        ensures shares { (view_in result.pass).shares ≡ (view_in one.pass).shares + (view_in other.pass).shares }
-        ensures numbers { (view_in result.pass).numbers ≡ (view_in one.pass).numbers ++ (view_in other.pass).numbers }
-        ensures says_one { (c : ℕ) → 0 < times c (view_in one.pass).numbers → Stays P.weight c (view_in one.pass).seen (view_in result.pass).seen }
-        ensures says_other { (c : ℕ) → 0 < times c (view_in other.pass).numbers → Stays P.weight c (view_in other.pass).seen (view_in result.pass).seen }
+        ensures seen { (view_in result.pass).seen
+            ≡ longer (view_in one.pass).seen (view_in other.pass).seen }
+        ensures one { Continues maker_of (view_in result.pass).seen (view_in one.pass).seen
+            (view_in one.pass).numbers }
+        ensures other { Continues maker_of (view_in result.pass).seen (view_in other.pass).seen
+            (view_in other.pass).numbers }
+        ensures shares { (view_in result.pass).shares
+            ≡ (view_in one.pass).shares + (view_in other.pass).shares }
+        ensures numbers { (view_in result.pass).numbers ≡ (view_in one.pass).numbers
+            ++ (view_in other.pass).numbers }
+        ensures says_one { (c : ℕ) → 0 < times c (view_in one.pass).numbers
+            → Stays P.weight c (view_in one.pass).seen (view_in result.pass).seen }
+        ensures says_other { (c : ℕ) → 0 < times c (view_in other.pass).numbers
+            → Stays P.weight c (view_in other.pass).seen (view_in result.pass).seen }
         ensures makers { HasAllMakers maker_of (view_in result.pass) }
-        ensures once { (view_in result.pass).shares ≡ 1024 → AreTakenOnce P.weight (view_in result.pass).seen (view_in result.pass).numbers }
+        ensures once { (view_in result.pass).shares ≡ 1024
+            → AreTakenOnce P.weight (view_in result.pass).seen (view_in result.pass).numbers }
     {
         let Caller { pass, number } = one;
         let Caller {
@@ -272,9 +345,10 @@ impl<P: Payload> ModuleMap<P> {
         Caller { pass, number }
     }
 
-    /// The whole history.
+    /// Ends the map and gives its whole history, or `Busy` where a call is still inside. It doesn't allocate.
     pub fn close(self, caller: Caller<P>) -> Result<Vec<MapEvent<P>>, Busy>
-        requires { table_of self.lock.table.shared.table_id caller.pass ≡ self.lock.table.shared.table_id }
+        requires { table_of self.lock.table.shared.table_id caller.pass
+            ≡ self.lock.table.shared.table_id }
         ensures found { IfOk result (λ v.
             Found P.weight (view_in caller.pass).seen (Some caller.number) v.items) }
         ensures led { IfOk result (λ v. is_led P.leads v.items ≡ true) }

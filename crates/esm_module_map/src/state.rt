@@ -6,7 +6,8 @@ ghost use Rattle.std.specs.List.{position_or_len};
 ghost use Rattle.std.specs.Coded.{codes, Coded-set};
 ghost use Rattle.esm_base.specs.Urls.{is_usable};
 ghost use Rattle.esm_base.specs.declared.limits.TheConstants.{MAX_URLS, MAX_DELIVERED_BYTES};
-ghost use Rattle.esm_module_map.specs.Replay.{Replay, replay, is_legal, outs_of, is_order, next_order, has_room, room_by, fresh_number, made_wanted, made_ahead, next_by, is_free, has_place, may_be_ahead, number_for, is_numbered, is_posted};
+ghost use Rattle.esm_module_map.specs.Replay.{Replay, replay, is_legal, is_order, next_order, has_room, room_by, fresh_number, made_wanted, made_ahead, next_by, is_free, has_place, may_be_ahead, number_for, is_numbered, is_posted};
+ghost use Rattle.esm_module_map.specs.Inner.Outs.{outs_of};
 ghost use Rattle.esm_module_map.specs.Histories.{Posts, IsPostIn, is_post_of};
 ghost use Rattle.esm_module_map.specs.Leading.{is_led, leads_to};
 ghost use Rattle.esm_module_map.specs.Replies.{AskReply, TakeReply, ShutReply, answer_by};
@@ -98,7 +99,9 @@ impl<P: Payload> MapState<P> {
 
     // One more caller, with the next number.
     pub(crate) fn enrol(&mut self) -> Result<u64, Memory>
-        ensures { MatchResult result (λ c. (c ≡ (replay P.weight self.old.events.items).callers) × (self.new.events.items ≡ self.old.events.items ++ MapEvent.Enrol c ∷ [])) (λ _. self.new.events.items ≡ self.old.events.items) }
+        ensures { MatchResult result (λ c. (c ≡ (replay P.weight self.old.events.items).callers)
+            × (self.new.events.items ≡ self.old.events.items ++ MapEvent.Enrol c ∷ []))
+            (λ _. self.new.events.items ≡ self.old.events.items) }
     {
         let MapState {
             events,
@@ -143,7 +146,8 @@ impl<P: Payload> MapState<P> {
         requires leads { leads_to P.leads self.old.events.items why url.now ≡ true }
         requires known { place ≡ position_or_len (bytes_eq url.now) self.old.urls.keys }
         requires within { place < vec_len self.old.numbers }
-        ensures reply { AskReply P.weight self.old.events.items caller url.now why result self.new.events.items }
+        ensures reply { AskReply P.weight self.old.events.items caller url.now why result
+            self.new.events.items }
         ensures callers { self.new.callers ≡ self.old.callers }
     {
         let Ok(copy) = url.clone() else {
@@ -172,8 +176,10 @@ impl<P: Payload> MapState<P> {
         requires usable { is_usable url.now ≡ true }
         requires ahead { may_be_ahead (replay P.weight self.old.events.items) why ≡ true }
         requires leads { leads_to P.leads self.old.events.items why url.now ≡ true }
-        requires fresh { position_or_len (bytes_eq url.now) self.old.urls.keys ≡ length self.old.urls.keys }
-        ensures reply { AskReply P.weight self.old.events.items caller url.now why result self.new.events.items }
+        requires fresh { position_or_len (bytes_eq url.now) self.old.urls.keys
+            ≡ length self.old.urls.keys }
+        ensures reply { AskReply P.weight self.old.events.items caller url.now why result
+            self.new.events.items }
         ensures callers { self.new.callers ≡ self.old.callers }
     {
         if !has_room(self.wanted, self.ahead, why) {
@@ -216,7 +222,8 @@ impl<P: Payload> MapState<P> {
         requires usable { is_usable url.now ≡ true }
         requires ahead { may_be_ahead (replay P.weight self.old.events.items) why ≡ true }
         requires leads { leads_to P.leads self.old.events.items why url.now ≡ true }
-        ensures reply { AskReply P.weight self.old.events.items caller url.now why result self.new.events.items }
+        ensures reply { AskReply P.weight self.old.events.items caller url.now why result
+            self.new.events.items }
         ensures callers { self.new.callers ≡ self.old.callers }
     {
         if self.shut {
@@ -240,7 +247,8 @@ impl<P: Payload> MapState<P> {
 
     // The least free number, while the posts are light.
     fn next_ahead(&self) -> Option<usize>
-        ensures { result ≡ next_by None (nat_lt self.now.weight MAX_DELIVERED_BYTES) (position is_free self.now.numbers.items) }
+        ensures { result ≡ next_by None (nat_lt self.now.weight MAX_DELIVERED_BYTES)
+            (position is_free self.now.numbers.items) }
     {
         if self.weight < HEAVY {
             free(&self.numbers)
@@ -302,7 +310,8 @@ impl<P: Payload> MapState<P> {
     pub(crate) fn post(&mut self, caller: u64, number: u32, payload: Arc<P, Global>)
         requires is_in { caller < (replay P.weight self.old.events.items).callers }
         requires order { is_order (replay P.weight self.old.events.items) caller number ≡ true }
-        ensures reply { self.new.events.items ≡ self.old.events.items ++ MapEvent.Post caller number payload ∷ [] }
+        ensures reply { self.new.events.items ≡ self.old.events.items
+            ++ MapEvent.Post caller number payload ∷ [] }
         ensures callers { self.new.callers ≡ self.old.callers }
     {
         let size = payload.size();
@@ -323,7 +332,8 @@ impl<P: Payload> MapState<P> {
 
     // The posted numbers, without the first so many.
     pub(crate) fn news(&self, alloc: Global, from: usize) -> Result<Vec<u32>, Memory>
-        ensures { IfOk result (λ v. v.items ≡ drop from (replay P.weight self.now.events.items).posts) }
+        ensures { IfOk result (λ v. v.items
+            ≡ drop from (replay P.weight self.now.events.items).posts) }
     {
         if from >= self.posts.len() {
             return Ok(Vec::new(alloc));
@@ -333,8 +343,10 @@ impl<P: Payload> MapState<P> {
 
     // What is posted under a number.
     pub(crate) fn entry(&self, number: u32) -> Result<Option<Arc<P, Global>>, Memory>
-        ensures posted { IfOk result (λ found. IfSome found (λ p. IsPostIn self.now.events.items number (arc_value p))) }
-        ensures exact { IfOk result (λ found. is_some found ≡ is_posted (replay P.weight self.now.events.items) number) }
+        ensures posted { IfOk result
+            (λ found. IfSome found (λ p. IsPostIn self.now.events.items number (arc_value p))) }
+        ensures exact { IfOk result (λ found. is_some found
+            ≡ is_posted (replay P.weight self.now.events.items) number) }
     {
         let Some(standing) = self.numbers.get(number as usize) else {
             return Ok(None);
@@ -377,7 +389,8 @@ fn posted_by<P: Payload>(event: &MapEvent<P>, number: u32) -> Result<Option<Arc<
 // A URL that has no number gets the next.
 fn add_key(urls: &mut IndexSet<Text>, key: Text) -> Result<(), Memory>
     requires { position_or_len (bytes_eq key) urls.old.keys ≡ length urls.old.keys }
-    ensures { MatchResult result (λ _. urls.new.keys ≡ urls.old.keys ++ key ∷ []) (λ _. urls.new.keys ≡ urls.old.keys) }
+    ensures { MatchResult result (λ _. urls.new.keys ≡ urls.old.keys ++ key ∷ [])
+        (λ _. urls.new.keys ≡ urls.old.keys) }
 {
     let Ok(_added) = urls.insert(key) else {
         return Err(Memory);
@@ -400,7 +413,8 @@ fn count_number(wanted: &mut usize, ahead: &mut usize, why: Why)
     requires { room_by why wanted.old ahead.old ≡ true }
     ensures wanted { wanted.new ≡ wanted.old + made_wanted why }
     ensures ahead { ahead.new ≡ ahead.old + made_ahead why }
-    ensures few { (wanted.old ≤ MAX_URLS → wanted.new ≤ MAX_URLS) × (ahead.old ≤ MAX_URLS → ahead.new ≤ MAX_URLS) }
+    ensures few { (wanted.old ≤ MAX_URLS → wanted.new ≤ MAX_URLS)
+        × (ahead.old ≤ MAX_URLS → ahead.new ≤ MAX_URLS) }
     ensures one { wanted.new + ahead.new ≡ wanted.old + ahead.old + 1 }
 {
     match why {

@@ -1,7 +1,7 @@
-use Rattle.std.proofs.Common.{ap, ◌∙◌, sym, subst, ◌≡◌, ◌<◌, true, nat_lt, Some}
+use Rattle.std.proofs.Common.{ap, ◌∙◌, sym, subst, ◌≡◌, ◌<◌, true, Some}
 use Rattle.esm_module_map.specs.Views.{view_in}
 use Rattle.esm_module_map.specs.Replay.{replay, is_legal, maker_of}
-use Rattle.esm_module_map.proofs.Calls.{continues_as, in_found, longer_legal, own_after, listed_left}
+use Rattle.esm_module_map.proofs.Calls.{continues_as, in_found, longer_legal, listed_left}
 use Rattle.esm_module_map.proofs.Replays.{lt_true}
 use Rattle.esm_module_map.proofs.Says.{listed_says}
 use Rattle.esm_module_map.proofs.Tally.{taken_once_by}

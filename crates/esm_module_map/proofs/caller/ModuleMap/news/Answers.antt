@@ -1,11 +1,9 @@
-use Rattle.std.proofs.Common.{arith, ap, ◌∙◌, sym, subst, refl, ◌≡◌, ◌<◌, ◌++◌, ◌∷◌, [], Some, ℕ, true, Option, nat_lt, inr, None}
-use Rattle.esm_hlock.specs.Makers.{Continues, number_after, numbers_after, added, MayMake, times}
+use Rattle.std.proofs.Common.{arith, ap, ◌∙◌, sym, subst, refl, ◌≡◌, ◌<◌, Some, true, nat_lt}
+use Rattle.esm_hlock.specs.Makers.{Continues, times}
 use Rattle.esm_module_map.specs.Views.{view_in}
-use Rattle.esm_module_map.specs.Replay.{replay, is_legal, is_order, may_be_ahead, maker_of, opening}
-use Rattle.esm_module_map.specs.Replies.{AskReply, TakeReply, ShutReply}
-use Rattle.esm_module_map.specs.declared.event.MapEvent.TheVariants.{Enrol, Post}
-use Rattle.esm_module_map.proofs.Replays.{lt_true, replay_more}
-use Rattle.esm_module_map.proofs.Calls.{in_found, continues_as, own_after, unnamed, added_one, posted_found, order_found, numbers_kept, listed_self, continues_none}
+use Rattle.esm_module_map.specs.Replay.{replay, is_legal, maker_of}
+use Rattle.esm_module_map.proofs.Replays.{lt_true}
+use Rattle.esm_module_map.proofs.Calls.{in_found, continues_as, own_after, numbers_kept}
 use Rattle.esm_module_map.proofs.Says.{same_says}
 use Rattle.esm_module_map.proofs.caller.ModuleMap.news.Goals as goal
 use Rattle.esm_module_map.specs.Leading.{is_led}

@@ -1,8 +1,7 @@
-use Rattle.std.proofs.Common.{arith, ap, ◌∙◌, sym, refl, subst, ◌≡◌, ◌+◌, ◌<◌, ◌++◌, ◌∷◌, [], ℕ, List, vec_len, not, Bool, true, false, length, cond, slice_get, bytes_eq, Some, min}
-use Rattle.esm_module_map.specs.declared.number.Number.{Number}
-use Rattle.esm_module_map.specs.Replay.{Replay, replay, change_at, asked_again, fresh_number, taken_by, posted_at, is_out, outs_of, next_order, may_be_ahead, is_order, number_for, is_numbered}
-use Rattle.esm_base.specs.declared.limits.TheConstants.{MAX_DELIVERED_BYTES}
-use Rattle.esm_module_map.proofs.Replays.{lt_true, lt_none, length_change, outs_change, outs_append, outs_most, outs_same}
+use Rattle.std.proofs.Common.{arith, ap, ◌∙◌, sym, subst, ◌≡◌, ◌+◌, vec_len, true}
+use Rattle.esm_module_map.specs.Replay.{asked_again, may_be_ahead}
+use Rattle.esm_module_map.specs.Inner.Outs.{outs_of}
+use Rattle.esm_module_map.proofs.Replays.{outs_same}
 use Rattle.esm_module_map.proofs.Asks as asks
 use Rattle.esm_module_map.proofs.state.MapState.ask_known.Goals as goal
 use Rattle.esm_module_map.proofs.Led.{led_ask}

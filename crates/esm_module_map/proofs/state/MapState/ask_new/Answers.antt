@@ -1,8 +1,7 @@
-use Rattle.std.proofs.Common.{arith, ap, ◌∙◌, sym, refl, subst, ◌≡◌, ◌+◌, ◌<◌, ◌++◌, ◌∷◌, [], ℕ, List, vec_len, not, Bool, true, false, length, cond, slice_get, bytes_eq, Some, min}
-use Rattle.esm_module_map.specs.declared.number.Number.{Number}
-use Rattle.esm_module_map.specs.Replay.{Replay, replay, change_at, asked_again, fresh_number, taken_by, posted_at, is_out, outs_of, next_order, may_be_ahead, is_order, number_for, is_numbered}
-use Rattle.esm_base.specs.declared.limits.TheConstants.{MAX_DELIVERED_BYTES}
-use Rattle.esm_module_map.proofs.Replays.{lt_true, lt_none, length_change, outs_change, outs_append, outs_most, outs_same}
+use Rattle.std.proofs.Common.{arith, ap, ◌∙◌, sym, subst, ◌≡◌, ◌+◌, ◌++◌, ◌∷◌, [], ℕ, vec_len, true, cond}
+use Rattle.esm_module_map.specs.Replay.{fresh_number, may_be_ahead}
+use Rattle.esm_module_map.specs.Inner.Outs.{is_out, outs_of}
+use Rattle.esm_module_map.proofs.Replays.{outs_append}
 use Rattle.esm_module_map.proofs.Asks as asks
 use Rattle.esm_module_map.proofs.state.MapState.ask_new.Goals as goal
 use Rattle.esm_module_map.proofs.Led.{led_ask}

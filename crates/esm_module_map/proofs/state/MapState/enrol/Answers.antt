@@ -1,4 +1,4 @@
-use Rattle.std.proofs.Common.{arith, ap, ◌∙◌, sym, refl, ◌≡◌, ◌+◌, ◌++◌, ◌∷◌, [], ℕ, List, vec_len}
+use Rattle.std.proofs.Common.{ap, ◌∙◌, refl, ◌+◌, ◌++◌, ◌∷◌, [], vec_len}
 use Rattle.esm_module_map.specs.declared.event.MapEvent.TheVariants.{Enrol}
 use Rattle.esm_module_map.proofs.Replays.{true_both, lt_true, eq_true, replay_as, legal_with}
 use Rattle.esm_module_map.proofs.state.MapState.enrol.Goals as goal

@@ -1,7 +1,7 @@
-use Rattle.std.proofs.Common.{arith, ap, ◌∙◌, sym, refl, ◌≡◌, ◌+◌, ◌++◌, ◌∷◌, [], ℕ, List, vec_len, not}
+use Rattle.std.proofs.Common.{arith, ap, refl, ◌≡◌, vec_len, not}
 use Rattle.esm_module_map.specs.declared.event.MapEvent.TheVariants.{Shut}
 use Rattle.esm_module_map.specs.Replay.{replay}
-use Rattle.esm_module_map.proofs.Replays.{true_both, lt_true, eq_true, replay_as, legal_with}
+use Rattle.esm_module_map.proofs.Replays.{true_both, lt_true, replay_as, legal_with}
 use Rattle.esm_module_map.proofs.state.MapState.shut.Goals as goal
 use Rattle.esm_module_map.proofs.Led.{led_with}
 
