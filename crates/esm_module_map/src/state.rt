@@ -262,7 +262,8 @@ impl<P: Payload> MapState<P> {
         requires is_in { caller < self.old.callers }
         requires live { self.old.shut ≡ false }
         requires next { next_order (replay P.weight self.old.events.items) ≡ Some place }
-        ensures reply { TakeReply P.weight self.old.events.items caller result self.new.events.items }
+        ensures reply { TakeReply P.weight self.old.events.items caller result
+            (self.new.events.items) }
         ensures callers { self.new.callers ≡ self.old.callers }
     {
         let Some(url) = self.urls.get_index(place) else {
@@ -294,7 +295,8 @@ impl<P: Payload> MapState<P> {
     // The caller takes what is to be taken next.
     pub(crate) fn take(&mut self, caller: u64) -> Result<Taken, Memory>
         requires { caller < (replay P.weight self.old.events.items).callers }
-        ensures reply { TakeReply P.weight self.old.events.items caller result self.new.events.items }
+        ensures reply { TakeReply P.weight self.old.events.items caller result
+            (self.new.events.items) }
         ensures callers { self.new.callers ≡ self.old.callers }
     {
         if self.shut {
@@ -371,7 +373,7 @@ impl<P: Payload> MapState<P> {
 
 // What an event posts under a number, if it does.
 fn posted_by<P: Payload>(event: &MapEvent<P>, number: u32) -> Result<Option<Arc<P, Global>>, Memory>
-    ensures posted { IfOk result (λ found. IfSome found (λ p. Posts event.now number (arc_value p))) }
+    ensures posted { IfOk result (λ it. IfSome it (λ p. Posts event.now number (arc_value p))) }
     ensures exact { IfOk result (λ found. is_some found ≡ is_post_of number event.now) }
 {
     match event {
