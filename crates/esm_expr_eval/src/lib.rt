@@ -6,6 +6,8 @@ pub mod laws;
 mod machine;
 mod nodes;
 mod sums;
+#[cfg(test)]
+mod tests;
 mod world;
 
 pub use frame::Frame;
