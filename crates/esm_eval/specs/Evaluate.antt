@@ -1,7 +1,8 @@
 -- Evaluating a module and all that it reaches. ECMA-262, Evaluate and InnerModuleEvaluation, mark by mark of the walk.
 -- A call for a body is one step of `acts`. A stop has a reason S, as a limit.
 use Rattle.std.specs.Prelude.{◌≡◌, ℕ, Bool, true, false, List, [], ◌∷◌, ◌++◌, slice_get, Some, None, Result, Ok, Err}
-use Rattle.esm_realm.specs.Walk.{Mark, Enter, Pass, Leave, is_in, IsWalkOf}
+use Rattle.esm_realm.specs.Walk.{Mark, Enter, Pass, Leave, IsWalkOf}
+use Rattle.esm_base.specs.Lists.{is_in}
 use Rattle.esm_realm.specs.Components.{closes, opened_before, opened_from}
 use Rattle.esm_values.specs.Ran.Ran.{Normal, Thrown}
 use Rattle.esm_eval.specs.Nodes.{Phase, Evaluating, EvaluatingAsync, Evaluated, was_entered, Start, Run, BodyCalls}

@@ -1,15 +1,16 @@
 -- Without a fault each module that the walk has left is closed.
 use Rattle.std.proofs.Common.{◌≡◌, Bool, true, List, [], ◌∷◌, ◌++◌, None, subst, sym}
-use Rattle.esm_realm.specs.Walk.{Mark, is_in}
+use Rattle.esm_realm.specs.Walk.{Mark}
+use Rattle.esm_base.specs.Lists.{is_in, IsSameness}
 use Rattle.esm_realm.specs.Components.{opened_before, opened_from}
 use Rattle.esm_realm.proofs.OneWalk.{walk_one}
 use Rattle.esm_realm.proofs.Lists.{either, in_left, in_right, in_split, in_first, in_cons, split_is}
 use Rattle.esm_env.specs.Modules.{Modules}
 use Rattle.esm_link.specs.Link.{targets, Links}
 use Rattle.esm_link.specs.Link.Links.{done, enters, passes, stays, component}
-use Rattle.esm_link.specs.Laws.{Decides, LinksWhole, entered}
+use Rattle.esm_link.specs.Laws.{LinksWhole, entered}
 
-module _ {N : Type 0} (same : N → N → Bool) (g : Modules N) (d : Decides N same) where
+module _ {N : Type 0} (same : N → N → Bool) (g : Modules N) (d : IsSameness same) where
   abbrev In : List N → N → Type 0
   In xs y = is_in same xs y ≡ true
 
