@@ -187,7 +187,8 @@ module _ {W S : Type 0} (url : W → List ℕ) (acts : Acting W CodeValue S) whe
 
   -- what is planned of a value comes to this answer
   abbrev pub AnswersPlan : W → ((CodeValue → Term CodeValue) → Plan CodeValue S (Term CodeValue)) → Result Out (ExprEnd S) → W → Type 0
-  AnswersPlan w plan (Ok (o.Value v)) after = (rest : CodeValue → Term CodeValue) → Follows acts w (plan rest) (Goes (rest (value_of v))) after
+  AnswersPlan w plan (Ok (o.Value v)) after = (rest : CodeValue → Term CodeValue)
+      → Follows acts w (plan rest) (Goes (rest (value_of v))) after
   AnswersPlan w plan (Ok (o.Thrown v)) after = (rest : CodeValue → Term CodeValue) → Follows acts w (plan rest) (Leaves (value_of v)) after
   AnswersPlan w plan (Err (ends.Stopped why)) after = (rest : CodeValue → Term CodeValue) → Follows acts w (plan rest) (Stops why) after
   AnswersPlan w plan (Err ends.Memory) after = Unit {0}
@@ -217,7 +218,8 @@ module _ {W S : Type 0} (url : W → List ℕ) (acts : Acting W CodeValue S) whe
 
   -- an operand of a sum is seen so, after what is asked for that
   abbrev pub Sees : W → CodeValue → Result (Option Shown) (ExprEnd S) → W → Type 0
-  Sees w v (Ok s) mid = (l : Look) × IsShown l s × ((next : Look → Plan CodeValue S (Term CodeValue)) (c : Rewritten CodeValue S (Term CodeValue)) (after : W)
+  Sees w v (Ok s) mid = (l : Look) × IsShown l s
+      × ((next : Look → Plan CodeValue S (Term CodeValue)) (c : Rewritten CodeValue S (Term CodeValue)) (after : W)
       → Follows acts mid (next l) c after → Follows acts w (operand numbered v (numbered.look v) next) c after)
   Sees w v (Err (ends.Stopped why)) after = (next : Look → Plan CodeValue S (Term CodeValue))
       → Follows acts w (operand numbered v (numbered.look v) next) (Stops why) after
