@@ -1,1 +1,3 @@
 pub mod OneLoad
+pub mod Tables
+pub mod Orderly

@@ -1,5 +1,5 @@
 -- A fetch ends, and the pending requests of its URL are answered.
-use Rattle.std.specs.Prelude.{◌≡◌, ℕ, ◌+◌, Bool, true, false, nat_lt, List, [], ◌∷◌, filter, Option, Some, None}
+use Rattle.std.specs.Prelude.{◌≡◌, ℕ, ◌+◌, Bool, true, false, nat_lt, List, [], ◌∷◌, length, filter, Option, Some, None}
 use Rattle.esm_base.specs.declared.limits.Limit.{Limit}
 use Rattle.esm_base.specs.declared.limits.Limit.TheVariants.{L2}
 use Rattle.esm_base.specs.declared.limits.TheConstants.{MAX_DELIVERED_BYTES}
@@ -7,7 +7,7 @@ use Rattle.esm_base.specs.Urls.{Url}
 use Rattle.esm_ast.specs.Outcome.{OutcomeView}
 use Rattle.esm_values.specs.Errors.{make_error, next_error}
 pub use Rattle.esm_load.specs.Arrival.{bytes_of}
-use Rattle.esm_loads.specs.UrlTable.{TableEntry, Failed, Broken, Module, Found, Nothing, Faulty, Script, found, put_at}
+use Rattle.esm_loads.specs.UrlTable.{TableEntry, Entries, Failed, Broken, Module, Found, Nothing, Faulty, Script, found, put_at}
 use Rattle.esm_loads.specs.Loading.{Loading, PendingRequest, is_fetching}
 use Rattle.esm_loads.specs.Host.{Host, with_loading, Answered}
 
@@ -75,6 +75,20 @@ pub record AnswersNext (before after : Host) : Type 0 where
   pub who : Next
   pub is_next : next before.imports ≡ Some who
   pub answered : Answered (without_next before who) who.pending_request who.url who.entry after
+
+-- ---- what is left
+
+abbrev pub waiting_by : Option TableEntry → List PendingRequest → ℕ
+waiting_by None requests = 0
+waiting_by (Some e) requests = length requests
+
+abbrev pub left_among : Entries → (Url → List PendingRequest) → List Url → ℕ
+left_among entries pending [] = 0
+left_among entries pending (u ∷ us) = waiting_by (entries u) (pending u) + left_among entries pending us
+
+-- how many pending requests of fetched URLs there are
+abbrev pub pending_left : Loading → ℕ
+pending_left l = left_among l.entries l.pending l.asked
 
 -- ---- what is asked for
 

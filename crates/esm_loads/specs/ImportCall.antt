@@ -61,6 +61,7 @@ end_by None = Ok tt
 end_by (Some l) = Err l
 
 -- an import() begins, as a body sees it: whether a limit was passed, and what is then
-pub record BeginsImport (h : Host) (referrer : Url) (specifier : Text) (promise : ℕ) (end : Result (Unit {0}) Limit) (after : Host) : Type 0 where
+pub record BeginsImport
+    (h : Host) (referrer : Url) (specifier : Text) (promise : ℕ) (end : Result (Unit {0}) Limit) (after : Host) : Type 0 where
   pub imports : Imports h referrer specifier promise after
   pub ends : end ≡ end_by after.imports.stopped
