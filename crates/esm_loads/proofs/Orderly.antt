@@ -3,17 +3,15 @@ use mathlib.Core.Bool.{true≢false}
 use Rattle.std.proofs.Common.{◌≡◌, ℕ, ◌+◌, ◌≤◌, ◌<◌, Bool, true, false, cond, List, [], ◌∷◌, ◌++◌, length, Option, Some, None, refl, ap, subst, sym, ◌∙◌, arith, inl, inr}
 use Rattle.std.specs.Prelude.{◌⊎◌, nat_lt}
 use Rattle.esm_base.specs.declared.limits.Limit.{Limit}
-use Rattle.esm_base.specs.Urls.{Text, Url, has, same_url}
+use Rattle.esm_base.specs.Urls.{Url, has, same_url}
 use Rattle.esm_tree.specs.Syntax.{Item}
 use Rattle.esm_ast.specs.Outcome.{OutcomeView}
-use Rattle.esm_realm.specs.Laws.{AreDistinct}
 use Rattle.esm_realm.proofs.Urls.{cases, same_text, own_text, or_left, or_true, or_false, both_false, has_append, not_true, not_both, distinct_append}
 use Rattle.esm_import_map.specs.ImportMap.{Maps}
-use Rattle.esm_loads.specs.UrlTable.{Entries, TableEntry, Failed, Broken, Module, Found, Nothing, Faulty, Script, found, put_at}
-use Rattle.esm_loads.specs.Loading.{Loading, PendingRequest, Root, is_fetching, ask_by, ask, add_pending, no_pending}
-use Rattle.esm_loads.specs.Host.{Host, Answered, opening_host, with_loading}
-use Rattle.esm_loads.specs.Arrival.{bytes_of, count, count_by, after_fetch, store_by, put_found, with_entry, Next, next, next_by, next_among, AnswersNext, without_next}
-use Rattle.esm_loads.specs.ImportCall.{Imports}
+use Rattle.esm_loads.specs.UrlTable.{TableEntry, Failed, Module, Found, Nothing, Faulty, Script, found, put_at}
+use Rattle.esm_loads.specs.Loading.{Loading, PendingRequest, Root, is_fetching, ask_by, no_pending}
+use Rattle.esm_loads.specs.Host.{Host, opening_host, with_loading}
+use Rattle.esm_loads.specs.Arrival.{bytes_of, count_by, store_by, put_found, with_entry, Next, next, next_by, next_among, without_next}
 use Rattle.esm_loads.specs.Laws.{AreOrderly, IsOrderly, StaysOrderly, Grows, OnlyGrows, AskLimit}
 use Rattle.esm_loads.proofs.Tables.{Table, table_of, OnAsk, answered_keeps, imports_keeps}
 

@@ -81,7 +81,7 @@ module _ (P : Table → Type 0) where
   begin_keeps h s None (Some (ForImport q None)) p = p
   begin_keeps h s None (Some (ForImport q (Some r))) p = p
 
-  begun : (h : Host) (a : PendingRequest) (u : Url) (e : TableEntry) → P (table_of h.imports) → P (table_of (begin_load h a u e).imports)
+  pub begun : (h : Host) (a : PendingRequest) (u : Url) (e : TableEntry) → P (table_of h.imports) → P (table_of (begin_load h a u e).imports)
   begun h (Root s) u e p = begin_keeps h s (thrown_by u e) (slice_get h.imports.purposes s) p
   begun h (Request s x i) u e p = p
 

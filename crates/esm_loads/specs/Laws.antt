@@ -1,5 +1,5 @@
 -- The laws of loading.
-use Rattle.std.specs.Prelude.{◌≡◌, ◌⊎◌, ℕ, ◌+◌, ◌≤◌, ◌<◌, Bool, true, false, All, List, [], ◌∷◌, ◌++◌, length, Option, Some, None, Result, Ok}
+use Rattle.std.specs.Prelude.{◌≡◌, ◌⊎◌, ℕ, ◌+◌, ◌≤◌, ◌<◌, Bool, true, false, List, [], ◌∷◌, ◌++◌, length, Some, None, Result}
 use Rattle.esm_base.specs.declared.limits.Limit.{Limit}
 use Rattle.esm_base.specs.declared.limits.Limit.TheVariants.{L1, L2}
 use Rattle.esm_base.specs.declared.limits.TheConstants.{MAX_URLS, MAX_DELIVERED_BYTES}
@@ -84,19 +84,24 @@ pub record AskLimit : Type 0 where
 abbrev pub HasNothing : Loading → Url → Type 0
 HasNothing l u = (l.entries u ≡ None) ⊎ (l.pending u ≡ [])
 
+-- none of these URLs is fetched and has a pending request
+abbrev pub HaveNothing : Loading → List Url → Type 0
+HaveNothing l [] = Unit {0}
+HaveNothing l (u ∷ us) = HasNothing l u × HaveNothing l us
+
 -- it is the first pending request, in order of asking, of the first fetched URL that has one, and the others stay in order
 pub record IsFirst (l : Loading) (n : Next) : Type 0 where
   pub before : List Url
   pub behind : List Url
   pub all : l.asked ≡ before ++ n.url ∷ behind
-  pub nothing : All (HasNothing l) before
+  pub nothing : HaveNothing l before
   pub fetched : l.entries n.url ≡ Some n.entry
   pub first : l.pending n.url ≡ n.pending_request ∷ n.others
 
 pub record FirstPending : Type 0 where
   pub is : (l : Loading) (n : Next) → next l ≡ Some n → IsFirst l n
   -- none is next only where no fetched URL has a pending request
-  pub none : (l : Loading) → next l ≡ None → All (HasNothing l) l.asked
+  pub none : (l : Loading) → next l ≡ None → HaveNothing l l.asked
 
 -- an answer leaves fewer pending requests of fetched URLs, and an import() adds none
 pub record FewerLeft : Type 0 where

@@ -1,5 +1,5 @@
 // Laws of the definitions, as functions without effect.
-ghost use Rattle.esm_loads.specs.Laws.{AskLimit, OneLoad, OnlyGrows, StaysOrderly};
+ghost use Rattle.esm_loads.specs.Laws.{AskLimit, BytesFirst, EndedLoadStays, FewerLeft, FirstPending, HasLoad, LimitStops, OneLoad, OnlyGrows, StaysOrderly, StoresOutcome};
 
 /// Entering a module, asking, an answer to a pending request, and a call of `import()` have one outcome each.
 pub fn one_load()
@@ -19,4 +19,35 @@ pub fn only_grows()
 /// `MAX_URLS` URLs are asked, and one more stops loading.
 pub fn ask_limit()
     ensures { AskLimit }
+{}
+
+/// Pending requests are answered in order of asking.
+pub fn first_pending()
+    ensures { FirstPending }
+{}
+
+/// An answer leaves fewer pending requests of fetched URLs, and a call of `import()` adds none.
+pub fn fewer_left()
+    ensures { FewerLeft }
+{}
+
+/// A load that has ended, or that a limit has stopped, does nothing more: an answer that comes late changes nothing.
+pub fn ended_load_stays()
+    ensures { EndedLoadStays }
+{}
+
+/// A limit stops at once: no promise is settled and no error is made behind it.
+pub fn limit_stops()
+    ensures { LimitStops }
+{}
+
+/// Delivered bytes are counted before the outcome is stored.
+pub fn bytes_first()
+    ensures first { BytesFirst }
+    ensures stores { StoresOutcome }
+{}
+
+/// Entering a module, an answer to a pending request, and a call of `import()` have an outcome.
+pub fn has_load()
+    ensures { HasLoad }
 {}
