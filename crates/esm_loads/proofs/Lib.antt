@@ -4,3 +4,4 @@ pub mod Orderly
 pub mod Pending
 pub mod Limits
 pub mod HasLoad
+pub mod Worked

@@ -5,3 +5,4 @@ pub mod Host
 pub mod Arrival
 pub mod ImportCall
 pub mod Laws
+pub mod Examples
