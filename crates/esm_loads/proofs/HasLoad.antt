@@ -57,12 +57,12 @@ not_in_less set (u ∷ us) x h n = by (or_cases (same_url x u) (has us x) h) (λ
 
 -- ---- entering
 
-opened_visit : (l : Loading) (s : ℕ) (o : OpenLoad) (x : Url) → open_load l s ≡ Some o → open_load (visit l s o x) s ≡ Some (o.0, with_url o.1 x)
+pub opened_visit : (l : Loading) (s : ℕ) (o : OpenLoad) (x : Url) → open_load l s ≡ Some o → open_load (visit l s o x) s ≡ Some (o.0, with_url o.1 x)
 opened_visit l s o x e =
     let h = live l.stopped (slice_get l.loads s) e in
     rw (h.0, get_set l.loads s _ (Open o.0 (with_url o.1 x)) h.1)
 
-opened_throw : (l : Loading) (s : ℕ) (thrown : Throw) (o : OpenLoad) → open_load l s ≡ Some o → open_load (throw l s thrown) s ≡ None
+pub opened_throw : (l : Loading) (s : ℕ) (thrown : Throw) (o : OpenLoad) → open_load l s ≡ Some o → open_load (throw l s thrown) s ≡ None
 opened_throw l s thrown o e =
     let h = live l.stopped (slice_get l.loads s) e in
     rw (h.0, get_set l.loads s _ (Thrown thrown) h.1)

@@ -4,4 +4,7 @@ pub mod Orderly
 pub mod Pending
 pub mod Limits
 pub mod HasLoad
+pub mod Requests
+pub mod Framed
+pub mod Whole
 pub mod Worked

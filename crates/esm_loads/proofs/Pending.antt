@@ -1,14 +1,17 @@
 -- Pending requests are answered in order of asking, and each answer leaves one less.
-use Rattle.std.proofs.Common.{◌≡◌, ℕ, ◌+◌, ◌≤◌, ◌<◌, Bool, true, false, List, [], ◌∷◌, ◌++◌, length, Option, Some, None, refl, ap, subst, ◌∙◌, arith, inl, inr}
+use Rattle.std.proofs.Common.{◌≡◌, ℕ, ◌+◌, ◌≤◌, ◌<◌, Bool, true, false, List, [], ◌∷◌, ◌++◌, length, Option, Some, None, refl, ap, subst, sym, ◌∙◌, arith, inl, inr}
 use Rattle.std.specs.Prelude.{◌⊎◌, nat_lt}
+use Rattle.esm_base.specs.declared.limits.Limit.{Limit}
+use Rattle.esm_ast.specs.Outcome.{OutcomeView}
 use Rattle.esm_base.specs.Urls.{Url, has, same_url}
 use Rattle.esm_realm.proofs.Urls.{cases, same_text, or_cases}
-use Rattle.esm_loads.specs.UrlTable.{Entries, TableEntry, put_at}
+use Rattle.esm_loads.specs.UrlTable as found
+use Rattle.esm_loads.specs.UrlTable.{Entries, TableEntry, Failed, Module, Found, put_at}
 use Rattle.esm_loads.specs.Loading.{Loading, PendingRequest, ask_by}
-use Rattle.esm_loads.specs.Host.{Host}
-use Rattle.esm_loads.specs.Arrival.{Next, next, next_by, next_among, AnswersNext, without_next, waiting_by, left_among, pending_left}
-use Rattle.esm_loads.specs.Laws.{HasNothing, HaveNothing, IsFirst, FirstPending, FewerLeft}
-use Rattle.esm_loads.proofs.Tables.{Table, OnAsk, answered_keeps, imports_keeps}
+use Rattle.esm_loads.specs.Host.{Host, with_loading}
+use Rattle.esm_loads.specs.Arrival.{Next, next, next_by, next_among, AnswersNext, without_next, bytes_of, count_by, store_by, put_found, with_entry, waiting_by, left_among, pending_left}
+use Rattle.esm_loads.specs.Laws.{IsOrderly, HasNothing, HaveNothing, IsFirst, FirstPending, FewerLeft, IsAnswering, OneUrlAtATime}
+use Rattle.esm_loads.proofs.Tables.{Table, table_of, OnAsk, answered_keeps, imports_keeps}
 use Rattle.esm_loads.proofs.Orderly.{put_own, put_other, next_asked}
 
 some_is : {A : Type 0} {x y : A} → Some x ≡ Some y → x ≡ y
@@ -142,4 +145,98 @@ fewer_left = record {
   answer = next_fewer;
   import_call = λ before after referrer specifier promise q. (imports_keeps (LeftIs (pending_left before.imports)) (on_ask _) q (record { is = refl })).is;
   none = λ l e. nothing_left l l.asked (none_of l l.asked e);
+}
+
+-- ---- one URL at a time
+
+abbrev Nothing : Entries → (Url → List PendingRequest) → Url → Type 0
+Nothing E P v = (E v ≡ None) ⊎ (P v ≡ [])
+
+AnswersAt : Url → Table → Type 0
+AnswersAt u t = (v : Url) → same_url u v ≡ false → Nothing t.entries t.pending v
+
+add_nothing : (E : Entries) (P : Url → List PendingRequest) (t v : Url) (rs : List PendingRequest) → E t ≡ None → Nothing E P v → Nothing E (put_at P t rs) v
+add_nothing E P t v rs n (inl e) = inl e
+add_nothing E P t v rs n (inr p) = by (cases (same_url t v))
+  where
+    by : (same_url t v ≡ true) ⊎ (same_url t v ≡ false) → Nothing E (put_at P t rs) v
+    by (inl s) = inl (subst (λ w. E w ≡ None) (same_text t v s) n)
+    by (inr s) = inr (put_other P t v rs s ∙ p)
+
+ask_answers : (b c : Bool) (u : Url) (l : Loading) (t : Url) (a : PendingRequest) → l.entries t ≡ None → AnswersAt u (table_of l) → AnswersAt u (table_of (ask_by b c l t a))
+unfolding AnswersAt
+ask_answers true c u l t a n h = λ v d. add_nothing l.entries l.pending t v _ n (h v d)
+ask_answers false true u l t a n h = λ v d. add_nothing l.entries l.pending t v _ n (h v d)
+ask_answers false false u l t a n h = h
+
+answers_ask : (u : Url) → OnAsk (AnswersAt u)
+answers_ask u l t a n h = ask_answers (has l.asked t) (nat_lt (length l.asked) 4096) u l t a n h
+
+who_is : (l : Loading) (u : Url) (n : Next) → IsAnswering l u → next l ≡ Some n → n.url ≡ u
+who_is l u n h e = by (cases (same_url u n.url))
+  where
+    f : IsFirst l n
+    f = first_is l n e
+
+    not_both_of : HasNothing l n.url → n.url ≡ u
+    not_both_of (inl g) = let s = f.fetched in cc
+    not_both_of (inr p) = let r = f.first in cc
+
+    by : (same_url u n.url ≡ true) ⊎ (same_url u n.url ≡ false) → n.url ≡ u
+    by (inl s) = sym (same_text u n.url s)
+    by (inr d) = not_both_of (h n.url d)
+
+-- the URL of the next request is this one, and the others of it are left
+dropped : (l : Loading) (u : Url) (n : Next) → IsAnswering l u → next l ≡ Some n → AnswersAt u (table_of (record l { pending = put_at l.pending n.url n.others }))
+unfolding AnswersAt
+dropped l u n h e = λ v d. by v d (cases (same_url n.url v)) (h v d)
+  where
+    by : (v : Url) → same_url u v ≡ false → (same_url n.url v ≡ true) ⊎ (same_url n.url v ≡ false) → HasNothing l v → Nothing l.entries (put_at l.pending n.url n.others) v
+    by v d (inl s) g = let is : same_url u v ≡ true = subst (λ w. same_url w v ≡ true) (who_is l u n h e) s in cc
+    by v d (inr s) (inl g) = inl g
+    by v d (inr s) (inr p) = inr (put_other l.pending n.url v n.others s ∙ p)
+
+pub nothing_in : (l : Loading) (us : List Url) (v : Url) → HaveNothing l us → has us v ≡ true → HasNothing l v
+nothing_in l [] v h k = cc
+nothing_in l (u ∷ us) v h k = by (or_cases (same_url v u) (has us v) k) (nothing_in l us v h.1)
+  where
+    by : (same_url v u ≡ true) ⊎ (has us v ≡ true) → (has us v ≡ true → HasNothing l v) → HasNothing l v
+    by (inl s) rest = subst (λ w. HasNothing l w) (sym (same_text v u s)) h.0
+    by (inr k) rest = rest k
+
+-- where no request is next, no URL has one that is fetched
+quiet : (l : Loading) → IsOrderly l → next l ≡ None → (v : Url) → HasNothing l v
+quiet l o e v = by (cases (has l.asked v))
+  where
+    by : (has l.asked v ≡ true) ⊎ (has l.asked v ≡ false) → HasNothing l v
+    by (inl k) = nothing_in l l.asked v (none_of l l.asked e) k
+    by (inr n) = inr (o.waits v n)
+
+entry_answers : (l : Loading) (u : Url) (e : TableEntry) → ((v : Url) → HasNothing l v) → IsAnswering (with_entry l u e) u
+entry_answers l u e h = λ v d. by v d (h v)
+  where
+    by : (v : Url) → same_url u v ≡ false → HasNothing l v → HasNothing (with_entry l u e) v
+    by v d (inl g) = inl (put_other l.entries u v (Some e) d ∙ g)
+    by v d (inr p) = inr p
+
+found_answers : (h : Host) (u : Url) (f : Found) → ((v : Url) → HasNothing h.imports v) → IsAnswering (put_found h u f).imports u
+found_answers h u found.Nothing q = entry_answers h.imports u Failed q
+found_answers h u (found.Script m) q = entry_answers h.imports u (Module m) q
+found_answers h u (found.Faulty f) q = entry_answers h.imports u _ q
+
+store_answers : (s : Option Limit) (h : Host) (u : Url) (c : OutcomeView) → ((v : Url) → HasNothing h.imports v) → IsAnswering (store_by s h u c).imports u
+store_answers None h u c q = found_answers h u (found.found h.imports.maps h.imports.built u c) q
+store_answers (Some limit) h u c q = λ v d. q v
+
+fetch_answers : (b : Bool) (h : Host) (u : Url) (c : OutcomeView) → ((v : Url) → HasNothing h.imports v) → IsAnswering (store_by (count_by b h.imports (bytes_of c)).stopped (with_loading h (count_by b h.imports (bytes_of c))) u c).imports u
+fetch_answers true h u c q = λ v d. q v
+fetch_answers false h u c q = store_answers h.imports.stopped (with_loading h (count_by false h.imports (bytes_of c))) u c q
+
+pub one_url_at_a_time : OneUrlAtATime
+unfolding AnswersAt
+one_url_at_a_time = record {
+  fetched = λ before u c o e. fetch_answers (nat_lt 16777216 (before.imports.bytes + bytes_of c)) before u c (quiet before.imports o e);
+  answer = λ before after u h q. answered_keeps (AnswersAt u) (answers_ask u) q.answered (dropped before.imports u q.who h q.is_next);
+  import_call = λ before after u referrer specifier promise h q. imports_keeps (AnswersAt u) (answers_ask u) q h;
+  who = who_is;
 }

@@ -1,18 +1,19 @@
 -- The laws of loading.
-use Rattle.std.specs.Prelude.{◌≡◌, ◌⊎◌, ℕ, ◌+◌, ◌≤◌, ◌<◌, Bool, true, false, List, [], ◌∷◌, ◌++◌, length, Some, None, Result}
+use Rattle.std.specs.Prelude.{◌≡◌, ◌⊎◌, ℕ, ◌+◌, ◌≤◌, ◌<◌, Bool, true, false, List, [], ◌∷◌, ◌++◌, length, slice_get, Some, None, Result}
 use Rattle.esm_base.specs.declared.limits.Limit.{Limit}
 use Rattle.esm_base.specs.declared.limits.Limit.TheVariants.{L1, L2}
 use Rattle.esm_base.specs.declared.limits.TheConstants.{MAX_URLS, MAX_DELIVERED_BYTES}
-use Rattle.esm_base.specs.Urls.{Text, Url, has}
+use Rattle.esm_base.specs.Urls.{Text, Url, has, same_url}
 use Rattle.esm_tree.specs.Syntax.{Item}
 use Rattle.esm_ast.specs.Outcome.{OutcomeView}
 use Rattle.esm_realm.specs.Laws.{AreDistinct}
 use Rattle.esm_import_map.specs.ImportMap.{Maps}
 use Rattle.esm_loads.specs.UrlTable.{Entries, TableEntry, found}
-use Rattle.esm_loads.specs.Loading.{Loading, PendingRequest, Request, open_load, finish, ask, add_pending, is_fetching}
+use Rattle.esm_loads.specs.Loading.{Loading, LoadState, PendingRequest, Request, open_load, finish, ask, add_pending, is_fetching}
 use Rattle.esm_loads.specs.Load.{Enters, Asks, Answers}
 use Rattle.esm_loads.specs.Host.{Host, Answered, opening_host, begin_load, with_loading}
-use Rattle.esm_loads.specs.Arrival.{bytes_of, after_fetch, put_found, Next, next, AnswersNext, pending_left}
+use Rattle.esm_loads.specs.Arrival.{bytes_of, after_fetch, put_found, Next, next, AnswersNext, pending_left, open_asks}
+use Rattle.esm_loads.specs.Whole.{IsWhole, HasEnded}
 use Rattle.esm_loads.specs.ImportCall.{Imports, BeginsImport, IsFull, stop_imports}
 
 -- ---- one outcome
@@ -103,6 +104,19 @@ pub record FirstPending : Type 0 where
   -- none is next only where no fetched URL has a pending request
   pub none : (l : Loading) → next l ≡ None → HaveNothing l l.asked
 
+-- no URL but this one is fetched and has pending requests
+abbrev pub IsAnswering : Loading → Url → Type 0
+IsAnswering l u = (v : Url) → same_url u v ≡ false → HasNothing l v
+
+-- behind the end of a fetch only the pending requests of its URL are answered, until none is left
+pub record OneUrlAtATime : Type 0 where
+  pub fetched : (before : Host) (u : Url) (c : OutcomeView)
+      → IsOrderly before.imports → next before.imports ≡ None → IsAnswering (after_fetch before u c).imports u
+  pub answer : (before after : Host) (u : Url) → IsAnswering before.imports u → AnswersNext before after → IsAnswering after.imports u
+  pub import_call : (before after : Host) (u referrer : Url) (specifier : Text) (promise : ℕ)
+      → IsAnswering before.imports u → Imports before referrer specifier promise after → IsAnswering after.imports u
+  pub who : (l : Loading) (u : Url) (n : Next) → IsAnswering l u → next l ≡ Some n → n.url ≡ u
+
 -- an answer leaves fewer pending requests of fetched URLs, and an import() adds none
 pub record FewerLeft : Type 0 where
   pub answer : (before after : Host) → AnswersNext before after → pending_left after.imports < pending_left before.imports
@@ -142,6 +156,23 @@ abbrev pub StoresOutcome : Type 0
 StoresOutcome = (h : Host) (u : Url) (c : OutcomeView) → h.imports.stopped ≡ None
     → h.imports.bytes + bytes_of c ≤ MAX_DELIVERED_BYTES
     → after_fetch h u c ≡ put_found (with_bytes h (bytes_of c)) u (found h.imports.maps h.imports.built u c)
+
+-- ---- what is loaded
+
+-- what is Unlinked is loaded with all that it reaches, and each load has ended or waits: this holds where the entry alone is asked,
+-- and an answer, an import() and the end of a fetch keep it
+pub record StaysWhole : Type 0 where
+  pub opening : (maps : Maps) (built : List Item → Bool) (entry : Url) → IsWhole (opening_host maps built entry).imports
+  pub next : (before after : Host) → IsWhole before.imports → AnswersNext before after → IsWhole after.imports
+  pub imports : (before after : Host) (referrer : Url) (specifier : Text) (promise : ℕ)
+      → IsWhole before.imports → Imports before referrer specifier promise after → IsWhole after.imports
+  pub fetched : (before : Host) (u : Url) (c : OutcomeView)
+      → IsWhole before.imports → before.imports.entries u ≡ None → IsWhole (after_fetch before u c).imports
+
+-- where no URL is being fetched and no request is left, each load has ended, unless a limit has stopped loading
+abbrev pub LoadsEnd : Type 0
+LoadsEnd = (l : Loading) (s : ℕ) (state : LoadState) → IsWhole l → l.stopped ≡ None → next l ≡ None → open_asks l ≡ []
+    → slice_get l.loads s ≡ Some state → HasEnded state
 
 -- ---- there is an outcome
 

@@ -4,5 +4,6 @@ pub mod Load
 pub mod Host
 pub mod Arrival
 pub mod ImportCall
+pub mod Whole
 pub mod Laws
 pub mod Examples

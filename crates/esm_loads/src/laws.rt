@@ -1,5 +1,5 @@
 // Laws of the definitions, as functions without effect.
-ghost use Rattle.esm_loads.specs.Laws.{AskLimit, BytesFirst, EndedLoadStays, FewerLeft, FirstPending, HasLoad, LimitStops, OneLoad, OnlyGrows, StaysOrderly, StoresOutcome};
+ghost use Rattle.esm_loads.specs.Laws.{AskLimit, BytesFirst, EndedLoadStays, FewerLeft, FirstPending, HasLoad, LimitStops, LoadsEnd, OneLoad, OneUrlAtATime, OnlyGrows, StaysOrderly, StaysWhole, StoresOutcome};
 
 /// Entering a module, asking, an answer to a pending request, and a call of `import()` have one outcome each.
 pub fn one_load()
@@ -26,6 +26,11 @@ pub fn first_pending()
     ensures { FirstPending }
 {}
 
+/// Behind the end of a fetch only the pending requests of its URL are answered, until none is left.
+pub fn one_url_at_a_time()
+    ensures { OneUrlAtATime }
+{}
+
 /// An answer leaves fewer pending requests of fetched URLs, and a call of `import()` adds none.
 pub fn fewer_left()
     ensures { FewerLeft }
@@ -50,4 +55,14 @@ pub fn bytes_first()
 /// Entering a module, an answer to a pending request, and a call of `import()` have an outcome.
 pub fn has_load()
     ensures { HasLoad }
+{}
+
+/// What is Unlinked is loaded with all that it reaches, and each load has ended or waits.
+pub fn stays_whole()
+    ensures { StaysWhole }
+{}
+
+/// Where no URL is being fetched and no request is left, each load has ended, unless a limit has stopped loading.
+pub fn loads_end()
+    ensures { LoadsEnd }
 {}
