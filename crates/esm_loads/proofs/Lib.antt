@@ -7,4 +7,5 @@ pub mod HasLoad
 pub mod Requests
 pub mod Framed
 pub mod Whole
+pub mod Told
 pub mod Worked
