@@ -1,8 +1,10 @@
 -- Entering a module, answering a pending request, and a call of import() have an outcome.
 use Rattle.std.proofs.Common.{◌≡◌, ℕ, zero, suc, ◌+◌, ◌≤◌, ◌<◌, Bool, true, false, cond, List, [], ◌∷◌, length, Some, None, Option, Result, Ok, Err, refl, ap, subst, sym, ◌∙◌, arith, inl, inr}
 use Rattle.std.specs.Prelude.{◌⊎◌, ◌||◌, ◌==◌, not, nat_lt, slice_get}
+use Rattle.esm_base.specs.declared.limits.Limit.{Limit}
 use Rattle.esm_base.specs.Urls.{Text, Url, has, same_url}
 use Rattle.esm_realm.proofs.Urls.{same_text, own_text, or_cases}
+use Rattle.esm_ast.specs.Outcome.{OutcomeView}
 use Rattle.esm_specifier.specs.Resolution.{resolution_of_specifier}
 use Rattle.esm_specifier.specs.declared.fault.SpecFault.{SpecFault}
 use Rattle.esm_loads.specs.UrlTable.{Entries, TableEntry, Throw, thrown_by, targets_in, with_url}
@@ -13,11 +15,12 @@ use Rattle.esm_loads.specs.Load.Asks.{no_more, over, waits, throws, loads}
 use Rattle.esm_loads.specs.Load.Answers.{no_root, no_module, root, request}
 use Rattle.esm_loads.specs.Host.{Host, Answered, begin_load, settle_load, with_loading}
 use Rattle.esm_loads.specs.Host.Answered.{answered, late}
-use Rattle.esm_loads.specs.Arrival.{Next, next, AnswersNext, without_next}
+use Rattle.esm_loads.specs.Arrival.{Next, next, AnswersNext, AnswersAll, Arrives, after_fetch, pending_left, without_next}
+use Rattle.esm_loads.proofs.Pending.{fewer_left}
 use Rattle.esm_loads.specs.ImportCall.{Imports, add_load, counted, next_load, end_by}
 use Rattle.esm_loads.specs.Laws.{IsOrderly, HasLoad}
 use Rattle.esm_loads.proofs.Limits.{live, get_set}
-use Rattle.esm_loads.proofs.Orderly.{without_orderly}
+use Rattle.esm_loads.proofs.Orderly.{without_orderly, stays_orderly}
 use Rattle.esm_loads.proofs.Tables.{Table, begun}
 
 -- ---- how many of these URLs a set hasn't
@@ -222,11 +225,33 @@ has_next h n o e =
     let q = has_answered k n.pending_request n.url n.entry (among_of k.imports (without_orderly h n e o)) in
     (q.0, record { who = n; is_next = e; answered = q.1 })
 
+AllWithin : ℕ → Type 0
+AllWithin k = (h : Host) → IsOrderly h.imports → pending_left h.imports ≤ k → (after : Host) × AnswersAll h after
+
+-- one request is answered, and then the others
+all_by : (h : Host) → IsOrderly h.imports → ((mid : Host) → AnswersNext h mid → (after : Host) × AnswersAll mid after) → (after : Host) × AnswersAll h after
+all_by h o rest = by h.imports.stopped refl (next h.imports) refl
+  where
+    by : (s : Option Limit) → h.imports.stopped ≡ s → (n : Option Next) → next h.imports ≡ n → (after : Host) × AnswersAll h after
+    by (Some limit) s n e = (h, AnswersAll.stops limit s)
+    by None s None e = (h, AnswersAll.none e)
+    by None s (Some n) e = let q = has_next h n o e in let r = rest q.0 q.1 in (r.0, AnswersAll.answers s q.1 r.1)
+
+all_within : (k : ℕ) → AllWithin k
+unfolding AllWithin
+all_within zero h o le = all_by h o (λ mid q. let less = fewer_left.answer h mid q in absurd (omega (arith, less, le)))
+all_within (suc k) h o le = all_by h o (λ mid q. let less = fewer_left.answer h mid q in all_within k mid (stays_orderly.next h mid o q) (omega (arith, less, le)))
+
+has_arrival : (h : Host) (u : Url) (c : OutcomeView) → IsOrderly h.imports → has h.imports.asked u ≡ true → (after : Host) × Arrives h u c after
+unfolding AllWithin
+has_arrival h u c o k = let f = after_fetch h u c in all_within (pending_left f.imports) f (stays_orderly.fetched h u c o k) (omega arith)
+
 pub has_load : HasLoad
 has_load = record {
   enters = λ l s x o. has_entered l s x (among_of l o);
   answered = λ h a u e o. has_answered h a u e (among_of h.imports o);
   next = has_next;
+  arrives = has_arrival;
   imports = λ h referrer specifier promise o. has_import h referrer specifier promise (among_of h.imports o);
   begins = λ h referrer specifier promise o.
       let q = has_import h referrer specifier promise (among_of h.imports o) in

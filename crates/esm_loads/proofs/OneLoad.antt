@@ -10,7 +10,7 @@ use Rattle.esm_loads.specs.Load.{Enters, Asks, Answers}
 use Rattle.esm_loads.specs.Load.Enters.{ended, known, enters}
 use Rattle.esm_loads.specs.Load.Asks.{no_more, over, waits, throws, loads}
 use Rattle.esm_loads.specs.Load.Answers.{no_root, no_module, root, request}
-use Rattle.esm_loads.specs.Arrival.{AnswersNext, without_next}
+use Rattle.esm_loads.specs.Arrival.{AnswersNext, AnswersAll, without_next}
 use Rattle.esm_loads.specs.Laws.{OneLoad}
 
 asks_from : {l m after : Loading} {s i : ℕ} {x : Url} {ts : List Url} → l ≡ m → Asks m s x i ts after → Asks l s x i ts after
@@ -110,6 +110,17 @@ next_one {h} {x} {y} p q =
     let same : q.who ≡ p.who = cc (p.is_next, q.is_next) in
     answered_one p.answered (subst (λ n. Answered (without_next h n) n.pending_request n.url n.entry y) same q.answered)
 
+all_one : {h x y : Host} → AnswersAll h x → AnswersAll h y → x ≡ y
+all_one (AnswersAll.none n) (AnswersAll.none m) = refl
+all_one (AnswersAll.none n) (AnswersAll.stops limit s) = refl
+all_one (AnswersAll.none n) (AnswersAll.answers s q r) = let is = q.is_next in cc
+all_one (AnswersAll.stops limit s) (AnswersAll.none n) = refl
+all_one (AnswersAll.stops limit s) (AnswersAll.stops other t) = refl
+all_one (AnswersAll.stops limit s) (AnswersAll.answers t q r) = cc
+all_one (AnswersAll.answers s q r) (AnswersAll.none n) = let is = q.is_next in cc
+all_one (AnswersAll.answers s q r) (AnswersAll.stops limit t) = cc
+all_one {y = y} (AnswersAll.answers s q r) (AnswersAll.answers t q' r') = all_one r (subst (λ h. AnswersAll h y) (next_one q' q) r')
+
 pub one_load : OneLoad
 one_load = record {
   enters = λ l one other s x p q. enters_one p q;
@@ -117,6 +128,7 @@ one_load = record {
   answers = λ l one other a t e p q. answers_one p q;
   answered = λ h one other a u e p q. answered_one p q;
   next = λ h one other p q. next_one p q;
+  arrives = λ h one other u c p q. all_one p q;
   imports = λ h one other referrer specifier promise p q. imports_one p q;
   begins = λ h one other referrer specifier promise a b p q.
       let same = imports_one p.imports q.imports in (p.ends ∙ ap (λ (k : Host). end_by k.imports.stopped) same ∙ sym q.ends, same);

@@ -76,6 +76,16 @@ pub record AnswersNext (before after : Host) : Type 0 where
   pub is_next : next before.imports ≡ Some who
   pub answered : Answered (without_next before who) who.pending_request who.url who.entry after
 
+-- the pending requests of fetched URLs are answered, one after the other, until none is left or a limit stops. Between two of them
+-- the world runs its jobs: this is an arrival for loading alone
+pub data AnswersAll : Host → Host → Type 0 where
+  none : {h : Host} → next h.imports ≡ None → AnswersAll h h
+  stops : {h : Host} (limit : Limit) → h.imports.stopped ≡ Some limit → AnswersAll h h
+  answers : {h mid after : Host} → h.imports.stopped ≡ None → AnswersNext h mid → AnswersAll mid after → AnswersAll h after
+
+abbrev pub Arrives : Host → Url → OutcomeView → Host → Type 0
+Arrives h u c after = AnswersAll (after_fetch h u c) after
+
 -- ---- what is left
 
 abbrev pub waiting_by : Option TableEntry → List PendingRequest → ℕ

@@ -15,7 +15,7 @@ use Rattle.esm_loads.specs.UrlTable.{Entries, TableEntry, Found, Nothing, Faulty
 use Rattle.esm_loads.specs.Loading.{Loading, LoadState, PendingRequest, Request, open_load, finish, ask, add_pending, is_fetching}
 use Rattle.esm_loads.specs.Load.{Enters, Asks, Answers}
 use Rattle.esm_loads.specs.Host.{Host, Answered, opening_host, begin_load, with_loading}
-use Rattle.esm_loads.specs.Arrival.{bytes_of, after_fetch, put_found, Next, next, AnswersNext, pending_left, open_asks}
+use Rattle.esm_loads.specs.Arrival.{bytes_of, after_fetch, put_found, Next, next, AnswersNext, Arrives, pending_left, open_asks}
 use Rattle.esm_loads.specs.Whole.{IsWhole, HasEnded}
 use Rattle.esm_loads.specs.ImportCall.{Imports, BeginsImport, IsFull, stop_imports}
 
@@ -30,6 +30,7 @@ pub record OneLoad : Type 0 where
   pub answered : (h one other : Host) (a : PendingRequest) (u : Url) (e : TableEntry)
       → Answered h a u e one → Answered h a u e other → one ≡ other
   pub next : (h one other : Host) → AnswersNext h one → AnswersNext h other → one ≡ other
+  pub arrives : (h one other : Host) (u : Url) (c : OutcomeView) → Arrives h u c one → Arrives h u c other → one ≡ other
   pub imports : (h one other : Host) (referrer : Url) (specifier : Text) (promise : ℕ)
       → Imports h referrer specifier promise one → Imports h referrer specifier promise other → one ≡ other
   pub begins : (h one other : Host) (referrer : Url) (specifier : Text) (promise : ℕ) (a b : Result (Unit {0}) Limit)
@@ -196,6 +197,8 @@ pub record HasLoad : Type 0 where
   pub enters : (l : Loading) (s : ℕ) (x : Url) → IsOrderly l → (after : Loading) × Enters l s x after
   pub answered : (h : Host) (a : PendingRequest) (u : Url) (e : TableEntry) → IsOrderly h.imports → (after : Host) × Answered h a u e after
   pub next : (h : Host) (n : Next) → IsOrderly h.imports → next h.imports ≡ Some n → (after : Host) × AnswersNext h after
+  pub arrives : (h : Host) (u : Url) (c : OutcomeView) → IsOrderly h.imports → has h.imports.asked u ≡ true
+      → (after : Host) × Arrives h u c after
   pub imports : (h : Host) (referrer : Url) (specifier : Text) (promise : ℕ) → IsOrderly h.imports
       → (after : Host) × Imports h referrer specifier promise after
   pub begins : (h : Host) (referrer : Url) (specifier : Text) (promise : ℕ) → IsOrderly h.imports
