@@ -12,7 +12,7 @@ use Rattle.esm_loads.specs.Whole.{is_module, IsPending, IsKnown, AreFollowed, Is
 use Rattle.esm_loads.proofs.Limits.{live}
 use Rattle.esm_loads.proofs.HasLoad.{opened_visit, opened_throw}
 use Rattle.esm_loads.proofs.Orderly.{put_own, put_other}
-use Rattle.esm_loads.proofs.Requests.{contains_more, contains_last, set_other, set_own}
+use Rattle.esm_loads.proofs.Requests.{contains_more, contains_last, set_other, set_own, length_set}
 
 -- ---- the other loads, and the table
 
@@ -23,18 +23,22 @@ HasBegun l s = ((slice_get l.loads s ≡ Some Asked) → ⊥) × ((start : Url) 
 pub record Framed (s : ℕ) (l m : Loading) : Type 0 where
   pub entries : m.entries ≡ l.entries
   pub unlinked : m.unlinked ≡ l.unlinked
+  pub purposes : m.purposes ≡ l.purposes
+  pub size : length m.loads ≡ length l.loads
   pub pending : (u : Url) (a : PendingRequest) → IsPending l u a → IsPending m u a
   pub others : (k : ℕ) → (k ≡ s → ⊥) → slice_get m.loads k ≡ slice_get l.loads k
   pub stopped : m.stopped ≡ None → l.stopped ≡ None
   pub begun : HasBegun l s → HasBegun m s
 
 pub framed_same : (s : ℕ) (l : Loading) → Framed s l l
-framed_same s l = record { entries = refl; unlinked = refl; pending = λ u a h. h; others = λ k n. refl; stopped = λ h. h; begun = λ h. h }
+framed_same s l = record { entries = refl; unlinked = refl; purposes = refl; size = refl; pending = λ u a h. h; others = λ k n. refl; stopped = λ h. h; begun = λ h. h }
 
 pub framed_on : {s : ℕ} {l m n : Loading} → Framed s l m → Framed s m n → Framed s l n
 framed_on a b = record {
   entries = b.entries ∙ a.entries;
   unlinked = b.unlinked ∙ a.unlinked;
+  purposes = b.purposes ∙ a.purposes;
+  size = b.size ∙ a.size;
   pending = λ u r h. b.pending u r (a.pending u r h);
   others = λ k n. b.others k n ∙ a.others k n;
   stopped = λ h. a.stopped (b.stopped h);
@@ -46,6 +50,8 @@ pub framed_open : (l : Loading) (s : ℕ) (start : Url) (visited : Url → Bool)
 framed_open l s start visited = record {
   entries = refl;
   unlinked = refl;
+  purposes = refl;
+  size = length_set l.loads s _;
   pending = λ u a h. h;
   others = λ k n. set_other l.loads s k _ n;
   stopped = λ h. h;
@@ -59,6 +65,8 @@ pub framed_throw : (l : Loading) (s : ℕ) (thrown : Throw) → Framed s l (thro
 framed_throw l s thrown = record {
   entries = refl;
   unlinked = refl;
+  purposes = refl;
+  size = length_set l.loads s _;
   pending = λ u a h. h;
   others = λ k n. set_other l.loads s k _ n;
   stopped = λ h. h;
@@ -80,9 +88,9 @@ now_there : (P : Url → List PendingRequest) (t : Url) (a : PendingRequest) →
 now_there P t a = subst (λ rs. Contains rs a) (sym (put_own P t (P t ++ a ∷ []))) (contains_last (P t) a)
 
 pub framed_ask : (b c : Bool) (l : Loading) (s : ℕ) (t : Url) (a : PendingRequest) → Framed s l (ask_by b c l t a)
-framed_ask true c l s t a = record { entries = refl; unlinked = refl; pending = λ u r h. (h.0, still_there l.pending t u a r h.1); others = λ k n. refl; stopped = λ h. h; begun = λ h. h }
-framed_ask false true l s t a = record { entries = refl; unlinked = refl; pending = λ u r h. (has_append l.asked (t ∷ []) u ∙ or_left (has l.asked u) _ h.0, still_there l.pending t u a r h.1); others = λ k n. refl; stopped = λ h. h; begun = λ h. h }
-framed_ask false false l s t a = record { entries = refl; unlinked = refl; pending = λ u r h. h; others = λ k n. refl; stopped = λ h. cc; begun = λ h. h }
+framed_ask true c l s t a = record { entries = refl; unlinked = refl; purposes = refl; size = refl; pending = λ u r h. (h.0, still_there l.pending t u a r h.1); others = λ k n. refl; stopped = λ h. h; begun = λ h. h }
+framed_ask false true l s t a = record { entries = refl; unlinked = refl; purposes = refl; size = refl; pending = λ u r h. (has_append l.asked (t ∷ []) u ∙ or_left (has l.asked u) _ h.0, still_there l.pending t u a r h.1); others = λ k n. refl; stopped = λ h. h; begun = λ h. h }
+framed_ask false false l s t a = record { entries = refl; unlinked = refl; purposes = refl; size = refl; pending = λ u r h. h; others = λ k n. refl; stopped = λ h. cc; begun = λ h. h }
 
 -- what is asked for is pending, unless a limit stops it
 pub asked_for : (b c : Bool) (l : Loading) (t : Url) (a : PendingRequest) → has l.asked t ≡ b → (ask_by b c l t a).stopped ≡ None → IsPending (ask_by b c l t a) t a

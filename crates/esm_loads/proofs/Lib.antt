@@ -7,5 +7,6 @@ pub mod HasLoad
 pub mod Requests
 pub mod Framed
 pub mod Whole
+pub mod Owed
 pub mod Told
 pub mod Worked

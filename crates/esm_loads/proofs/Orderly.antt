@@ -63,10 +63,10 @@ ask_orderly false true l t a e f h =
     before u n = (or_false (has l.asked u) _ (sym (has_append l.asked (t ∷ []) u) ∙ n)).0
 ask_orderly false false l t a e f h = h
 
-abbrev OrderlyTable : Table → Type 0
+abbrev pub OrderlyTable : Table → Type 0
 OrderlyTable t = AreOrderly t.asked t.entries t.pending
 
-on_ask : OnAsk OrderlyTable
+pub on_ask : OnAsk OrderlyTable
 on_ask l t a n h = ask_orderly (has l.asked t) (nat_lt (length l.asked) 4096) l t a refl refl h
 
 opening_is : (maps : Maps) (built : List Item → Bool) (entry : Url) → IsOrderly (opening_host maps built entry).imports

@@ -126,3 +126,8 @@ equal_cases (suc m) (suc n) = by (equal_cases m n)
     by : (m ≡ n) ⊎ (m ≡ n → ⊥) → (suc m ≡ suc n) ⊎ (suc m ≡ suc n → ⊥)
     by (inl e) = inl (ap suc e)
     by (inr n) = inr (λ e. n (omega (arith, e)))
+
+pub length_set : {A : Type 0} (xs : List A) (k : ℕ) (y : A) → length (slice_set xs k y) ≡ length xs
+length_set [] k y = refl
+length_set (x ∷ xs) zero y = refl
+length_set (x ∷ xs) (suc k) y = ap suc (length_set xs k y)

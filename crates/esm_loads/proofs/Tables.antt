@@ -74,7 +74,7 @@ module _ (P : Table → Type 0) where
   answers_keeps on_ask (root {mid = mid} {s = s} h q) p = finished mid s (enters_keeps on_ask q p)
   answers_keeps on_ask (request {mid = mid} {s = s} o h k q) p = finished mid s (enters_keeps on_ask q p)
 
-  begin_keeps : (h : Host) (s : ℕ) (t : Option Throw) (p : Option Purpose) → P (table_of h.imports) → P (table_of (begin_by h s t p).imports)
+  pub begin_keeps : (h : Host) (s : ℕ) (t : Option Throw) (p : Option Purpose) → P (table_of h.imports) → P (table_of (begin_by h s t p).imports)
   begin_keeps h s (Some t) o p = p
   begin_keeps h s None None p = p
   begin_keeps h s None (Some (ForEntry q)) p = p

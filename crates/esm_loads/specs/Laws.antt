@@ -16,6 +16,8 @@ use Rattle.esm_loads.specs.Loading.{Loading, LoadState, PendingRequest, Request,
 use Rattle.esm_loads.specs.Load.{Enters, Asks, Answers}
 use Rattle.esm_loads.specs.Host.{Host, Answered, opening_host, begin_load, with_loading}
 use Rattle.esm_loads.specs.Arrival.{bytes_of, after_fetch, put_found, Next, next, AnswersNext, Arrives, pending_left, open_asks}
+use Rattle.esm_promise.specs.Promises.{is_pending}
+use Rattle.esm_loads.specs.Owed.{owed, OwesPromises}
 use Rattle.esm_loads.specs.Whole.{IsWhole, HasEnded}
 use Rattle.esm_loads.specs.ImportCall.{Imports, BeginsImport, IsFull, stop_imports}
 
@@ -177,6 +179,19 @@ pub record StaysWhole : Type 0 where
 abbrev pub LoadsEnd : Type 0
 LoadsEnd = (l : Loading) (s : ℕ) (state : LoadState) → IsWhole l → l.stopped ≡ None → next l ≡ None → open_asks l ≡ []
     → slice_get l.loads s ≡ Some state → HasEnded state
+
+-- ---- promises
+
+-- the promise of each load that hasn't ended is pending, and of that load alone: so each promise is settled once. This holds where
+-- the entry alone is asked, and an answer, an import() whose promise is pending and no load's, and the end of a fetch keep it
+pub record KeepsPromises : Type 0 where
+  pub opening : (maps : Maps) (built : List Item → Bool) (entry : Url) → OwesPromises (opening_host maps built entry)
+  pub next : (before after : Host) → IsOrderly before.imports → before.imports.stopped ≡ None
+      → OwesPromises before → AnswersNext before after → OwesPromises after
+  pub imports : (before after : Host) (referrer : Url) (specifier : Text) (promise : ℕ) → IsOrderly before.imports
+      → is_pending before.promises promise ≡ true → ((s : ℕ) → owed before.imports s ≡ Some promise → ⊥)
+      → OwesPromises before → Imports before referrer specifier promise after → OwesPromises after
+  pub fetched : (before : Host) (u : Url) (c : OutcomeView) → OwesPromises before → OwesPromises (after_fetch before u c)
 
 -- ---- what an outcome brings
 

@@ -5,5 +5,6 @@ pub mod Host
 pub mod Arrival
 pub mod ImportCall
 pub mod Whole
+pub mod Owed
 pub mod Laws
 pub mod Examples

@@ -1,5 +1,5 @@
 // Laws of the definitions, as functions without effect.
-ghost use Rattle.esm_loads.specs.Laws.{AskLimit, BytesFirst, EndedLoadStays, FewerLeft, FirstPending, HasLoad, LimitStops, LoadsEnd, OneLoad, OneUrlAtATime, OnlyGrows, StaysOrderly, StaysWhole, StoresOutcome, ToldAlike};
+ghost use Rattle.esm_loads.specs.Laws.{AskLimit, BytesFirst, EndedLoadStays, FewerLeft, FirstPending, HasLoad, KeepsPromises, LimitStops, LoadsEnd, OneLoad, OneUrlAtATime, OnlyGrows, StaysOrderly, StaysWhole, StoresOutcome, ToldAlike};
 
 /// Entering a module, asking, an answer to a pending request, and a call of `import()` have one outcome each.
 pub fn one_load()
@@ -70,4 +70,9 @@ pub fn loads_end()
 /// What an outcome brings to its URL is told as `esm_load` tells it.
 pub fn told_alike()
     ensures { ToldAlike }
+{}
+
+/// The promise of each load that hasn't ended is pending, and of that load alone.
+pub fn keeps_promises()
+    ensures { KeepsPromises }
 {}
