@@ -1,5 +1,5 @@
 -- A load that has ended or that a limit has stopped does nothing more.
-use Rattle.std.proofs.Common.{◌≡◌, ℕ, zero, suc, ◌≤◌, ◌<◌, Bool, true, false, List, [], ◌∷◌, Option, Some, None, refl, ap, subst, sym, ◌∙◌, arith}
+use Rattle.std.proofs.Common.{◌≡◌, ℕ, zero, suc, ◌+◌, ◌≤◌, ◌<◌, Bool, true, false, List, [], ◌∷◌, Option, Some, None, refl, ap, subst, sym, ◌∙◌, arith}
 use Rattle.std.specs.Prelude.{nat_lt, slice_get, slice_set, length}
 use Rattle.esm_base.specs.declared.limits.Limit.{Limit}
 use Rattle.esm_base.specs.Urls.{Text, Url, has}
@@ -12,10 +12,10 @@ use Rattle.esm_loads.specs.Load.Answers.{no_root, no_module, root, request}
 use Rattle.esm_loads.specs.Host.{Host, Answered, begin_load, begin_by, settle_load, settle_by, with_loading}
 use Rattle.esm_loads.specs.Host.Answered.{answered, late}
 use Rattle.esm_loads.specs.Arrival.{bytes_of, store, store_by, count_by}
-use Rattle.esm_loads.specs.ImportCall.{Imports, IsFull, stop_imports}
+use Rattle.esm_loads.specs.ImportCall.{Imports, IsFull, HasRoom, stop_imports, add_load, counted, next_load}
 use Rattle.esm_loads.specs.Laws.{EndedLoadStays, LimitStops, BytesFirst, StoresOutcome}
 use Rattle.esm_loads.proofs.OneLoad.{enters_late, asks_late}
-use Rattle.esm_loads.proofs.Tables.{settled_imports}
+use Rattle.esm_loads.proofs.Tables.{Table, table_of, OnAsk, answered_keeps, settled_imports}
 
 finish_late : (b : Bool) (l : Loading) (s : ℕ) (o : Option OpenLoad) → o ≡ None → finish_by b o l s ≡ l
 finish_late b l s None e = refl
@@ -148,8 +148,25 @@ import_stops h after referrer specifier promise full (Imports.unresolved f room 
 import_stops h after referrer specifier promise full (Imports.asks u room r n) = cc
 import_stops h after referrer specifier promise full (Imports.answers u e room r g q) = cc
 
+record CallsAre (n : ℕ) (t : Table) : Type 0 where
+  are : t.calls ≡ n
+
+ask_calls : (n : ℕ) (b c : Bool) (l : Loading) (t : Url) (a : PendingRequest) → CallsAre n (table_of l) → CallsAre n (table_of (ask_by b c l t a))
+ask_calls n true c l t a h = record { are = h.are }
+ask_calls n false true l t a h = record { are = h.are }
+ask_calls n false false l t a h = record { are = h.are }
+
+on_ask : (n : ℕ) → OnAsk (CallsAre n)
+on_ask n l t a g h = ask_calls n (has l.asked t) (nat_lt (length l.asked) 4096) l t a h
+
+import_counts : (h after : Host) (referrer : Url) (specifier : Text) (promise : ℕ) → HasRoom h.imports → Imports h referrer specifier promise after → after.imports.import_calls ≡ h.imports.import_calls + 1
+import_counts h after referrer specifier promise room (Imports.limit full) = cc
+import_counts h after referrer specifier promise room (Imports.unresolved f r e) = refl
+import_counts h after referrer specifier promise room (Imports.asks u r e n) = (on_ask (h.imports.import_calls + 1) (add_load (counted h) promise).imports u (Root (next_load h)) n (record { are = refl })).are
+import_counts h after referrer specifier promise room (Imports.answers u e r s g q) = (answered_keeps (CallsAre (h.imports.import_calls + 1)) (on_ask (h.imports.import_calls + 1)) q (record { are = refl })).are
+
 pub limit_stops : LimitStops
-limit_stops = record { answered = λ h after a u e limit n q k. answered_stops limit n q k; imports = import_stops }
+limit_stops = record { answered = λ h after a u e limit n q k. answered_stops limit n q k; imports = import_stops; counts = import_counts }
 
 -- ---- the bytes
 

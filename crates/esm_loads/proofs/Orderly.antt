@@ -121,7 +121,7 @@ stays_orderly = record {
   opening = opening_is;
   answered = λ before after a u e o q. answered_keeps OrderlyTable on_ask q o;
   next = λ before after o q. answered_keeps OrderlyTable on_ask q.answered (without_orderly before q.who q.is_next o);
-  imports = λ before after referrer specifier promise o q. imports_keeps OrderlyTable on_ask q o;
+  imports = λ before after referrer specifier promise o q. imports_keeps OrderlyTable on_ask (λ t n h. h) q o;
   fetched = λ before u c o k. counts (nat_lt 16777216 (before.imports.bytes + bytes_of c)) before u c k o;
 }
 
@@ -161,12 +161,14 @@ pub only_grows : OnlyGrows
 only_grows = record {
   answered = λ before after a u e q. grows_is before.imports after.imports (answered_keeps (GrowsTo before.imports) (ask_grow before.imports) q (same_grows before.imports));
   next = λ before after q. grows_is before.imports after.imports (answered_keeps (GrowsTo before.imports) (ask_grow before.imports) q.answered (record { maps = refl; built = refl; entries = refl; bytes = refl; more = []; asked = no_more_of before.imports.asked }));
-  imports = λ before after referrer specifier promise q. grows_is before.imports after.imports (imports_keeps (GrowsTo before.imports) (ask_grow before.imports) q (same_grows before.imports));
+  imports = λ before after referrer specifier promise q. grows_is before.imports after.imports (imports_keeps (GrowsTo before.imports) (ask_grow before.imports) (λ t n g. record { maps = g.maps; built = g.built; entries = g.entries; bytes = g.bytes; more = g.more; asked = g.asked }) q (same_grows before.imports));
 }
 
 pub ask_limit : AskLimit
 ask_limit = record {
   again = λ l u a h. ap (λ b. ask_by b (nat_lt (length l.asked) 4096) l u a) h;
   asks = λ l u a h n. λ i. ask_by (h i) (lt_true (length l.asked) 4096 n i) l u a;
+  behind = λ l u a. put_own l.pending u (l.pending u ++ a ∷ []);
+  elsewhere = λ l u v a n. put_other l.pending u v (l.pending u ++ a ∷ []) n;
   stops = λ l u a h n. λ i. ask_by (h i) (lt_false (length l.asked) 4096 n i) l u a;
 }

@@ -7,27 +7,27 @@ use Rattle.esm_tree.specs.Syntax.{Item}
 use Rattle.esm_ast.specs.Outcome.{OutcomeView}
 use Rattle.esm_import_map.specs.ImportMap.{Maps}
 use Rattle.esm_realm.specs.Laws.{AreDistinct}
-use Rattle.esm_realm.proofs.Urls.{cases, same_text, own_text, or_cases, or_false}
+use Rattle.esm_realm.proofs.Urls.{cases, same_text, or_cases, or_false}
 use Rattle.esm_values.specs.Value.{Value}
-use Rattle.esm_promise.specs.Promises.{Promises, Promise, Pending, Done, Settled, make, settle, next_promise, is_pending, is_pending_by}
+use Rattle.esm_promise.specs.Promises.{Promises, Promise, Pending, make, next_promise, is_pending, is_pending_by}
 use Rattle.esm_promise.specs.Reactions.{Reaction, Loaded}
-use Rattle.esm_loads.specs.UrlTable.{Entries, TableEntry, Failed, Module, Throw, New, Kept, Found, Nothing, Faulty, Script, found, thrown_by, put_at, no_urls, with_url}
-use Rattle.esm_loads.specs.Loading.{Loading, LoadState, Asked, Open, LoadComplete, Thrown, PendingRequest, Root, Request, Purpose, ForEntry, ForImport, OpenLoad, load_of, open_load, ask, ask_by, begin, throw, visit, finish, finish_by, has_pending}
+use Rattle.esm_loads.specs.UrlTable.{TableEntry, Throw, New, Kept, Found, Nothing, Faulty, Script, found, thrown_by, put_at, no_urls}
+use Rattle.esm_loads.specs.Loading.{Loading, LoadState, Asked, Open, LoadComplete, Thrown, PendingRequest, Root, Request, Purpose, ForEntry, ForImport, OpenLoad, load_of, open_load, ask, ask_by, throw, finish, finish_by, has_pending}
 use Rattle.esm_loads.specs.Load.{Enters, Asks, Answers}
 use Rattle.esm_loads.specs.Load.Enters.{ended, known, enters}
 use Rattle.esm_loads.specs.Load.Asks.{no_more, over, waits, throws, loads}
 use Rattle.esm_loads.specs.Load.Answers.{no_root, no_module, root, request}
-use Rattle.esm_loads.specs.Host.{Host, Answered, opening_host, begin_load, begin_by, own_load, settle_load, settle_by, with_loading, reject, promise_of}
+use Rattle.esm_loads.specs.Host.{Host, Answered, opening_host, begin_load, begin_by, own_load, settle_load, settle_by, with_loading, promise_of}
 use Rattle.esm_loads.specs.Host.Answered.{answered, late}
-use Rattle.esm_loads.specs.Arrival.{bytes_of, after_fetch, count_by, store_by, put_found, with_entry, Next, next, AnswersNext, without_next}
+use Rattle.esm_loads.specs.Arrival.{bytes_of, count_by, store_by, put_found, Next, next, AnswersNext, without_next}
 use Rattle.esm_loads.specs.ImportCall.{Imports, add_load, counted, next_load}
 use Rattle.esm_loads.specs.Owed.{is_asked, is_root_of, roots_in, roots_among, roots_of, owes, owed_by, owed, OwesPromises}
-use Rattle.esm_loads.specs.Laws.{IsOrderly, IsFirst, KeepsPromises}
+use Rattle.esm_loads.specs.Laws.{IsOrderly, KeepsPromises}
 use Rattle.esm_loads.proofs.Limits.{live, get_set}
 use Rattle.esm_loads.proofs.Orderly.{put_own, put_other, next_asked, OrderlyTable, on_ask, without_orderly}
 use Rattle.esm_loads.proofs.Pending.{first_pending}
 use Rattle.esm_loads.proofs.Tables.{enters_keeps, begin_keeps, settled_imports}
-use Rattle.esm_loads.proofs.Requests.{set_own, set_other, length_set, push_cases, equal_cases, same_number}
+use Rattle.esm_loads.proofs.Requests.{set_own, set_other, length_set, equal_cases, same_number}
 use Rattle.esm_loads.proofs.Framed.{HasBegun, Framed, framed_open, framed_throw, begun_open, begun_throw, enters_framed, asks_framed, framed_on}
 
 -- ---- promises
@@ -384,10 +384,10 @@ root_stage : (h : Host) (n : Next) (s : ℕ) → h.imports.stopped ≡ None → 
 root_stage h n s stop o is e w = record {
   sizes = w.sizes;
   roots = λ stop k d.
-    let one = without_roots h n k o e in
-    let none : cond (is_root_of k n.pending_request) 1 0 ≡ 0 = ap (one_root k) is ∙ ap one_if (number_apart s k d) in
-    let was = w.roots stop k in
-    omega (arith, one, none, was);
+      let one = without_roots h n k o e in
+      let none : cond (is_root_of k n.pending_request) 1 0 ≡ 0 = ap (one_root k) is ∙ ap one_if (number_apart s k d) in
+      let was = w.roots stop k in
+      omega (arith, one, none, was);
   rootless = λ stop. state.1;
   pending = w.pending;
   once = w.once;
@@ -406,10 +406,10 @@ without_owes : (h : Host) (n : Next) (s i : ℕ) (x : Url) → IsOrderly h.impor
 without_owes h n s i x o is e w = record {
   sizes = w.sizes;
   roots = λ stop k.
-    let one = without_roots h n k o e in
-    let none : cond (is_root_of k n.pending_request) 1 0 ≡ 0 = ap (one_root k) is in
-    let was = w.roots stop k in
-    omega (arith, one, none, was);
+      let one = without_roots h n k o e in
+      let none : cond (is_root_of k n.pending_request) 1 0 ≡ 0 = ap (one_root k) is in
+      let was = w.roots stop k in
+      omega (arith, one, none, was);
   pending = w.pending;
   once = w.once;
 }

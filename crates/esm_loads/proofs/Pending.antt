@@ -143,7 +143,7 @@ nothing_left l (u ∷ us) h = let one = by h.0 in let rest = nothing_left l us h
 pub fewer_left : FewerLeft
 fewer_left = record {
   answer = next_fewer;
-  import_call = λ before after referrer specifier promise q. (imports_keeps (LeftIs (pending_left before.imports)) (on_ask _) q (record { is = refl })).is;
+  import_call = λ before after referrer specifier promise q. (imports_keeps (LeftIs (pending_left before.imports)) (on_ask _) (λ t n h. record { is = h.is }) q (record { is = refl })).is;
   none = λ l e. nothing_left l l.asked (none_of l l.asked e);
 }
 
@@ -237,6 +237,6 @@ unfolding AnswersAt
 one_url_at_a_time = record {
   fetched = λ before u c o e. fetch_answers (nat_lt 16777216 (before.imports.bytes + bytes_of c)) before u c (quiet before.imports o e);
   answer = λ before after u h q. answered_keeps (AnswersAt u) (answers_ask u) q.answered (dropped before.imports u q.who h q.is_next);
-  import_call = λ before after u referrer specifier promise h q. imports_keeps (AnswersAt u) (answers_ask u) q h;
+  import_call = λ before after u referrer specifier promise h q. imports_keeps (AnswersAt u) (answers_ask u) (λ t n h. h) q h;
   who = who_is;
 }

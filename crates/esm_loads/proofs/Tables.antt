@@ -1,5 +1,5 @@
 -- What asking keeps of the table of URLs, all of loading keeps.
-use Rattle.std.proofs.Common.{◌≡◌, ℕ, Bool, true, false, List, Option, Some, None, refl, subst, sym}
+use Rattle.std.proofs.Common.{◌≡◌, ℕ, ◌+◌, Bool, true, false, List, Option, Some, None, refl, subst, sym}
 use Rattle.std.specs.Prelude.{slice_get}
 use Rattle.esm_base.specs.Urls.{Text, Url}
 use Rattle.esm_tree.specs.Syntax.{Item}
@@ -22,9 +22,10 @@ pub record Table : Type 0 where
   pub entries : Entries
   pub pending : Url → List PendingRequest
   pub bytes : ℕ
+  pub calls : ℕ
 
 abbrev pub table_of : Loading → Table
-table_of l = record { maps = l.maps; built = l.built; asked = l.asked; entries = l.entries; pending = l.pending; bytes = l.bytes }
+table_of l = record { maps = l.maps; built = l.built; asked = l.asked; entries = l.entries; pending = l.pending; bytes = l.bytes; calls = l.import_calls }
 
 -- the end of a load settles promises and makes errors alone
 reject_table : (h : Host) (p : ℕ) (t : Throw) → (reject h p t).imports ≡ h.imports
@@ -90,8 +91,12 @@ module _ (P : Table → Type 0) where
   answered_keeps {h} {a = a} {u = u} {e = e} on_ask (answered {l = l} q) p =
       subst (λ l. P (table_of l)) (sym (settled_imports (with_loading (begin_load h a u e) l) (load_of a))) (answers_keeps on_ask q (begun h a u e p))
 
-  pub imports_keeps : {h k : Host} {referrer : Url} {specifier : Text} {promise : ℕ} → OnAsk → Imports h referrer specifier promise k → P (table_of h.imports) → P (table_of k.imports)
-  imports_keeps on_ask (Imports.limit full) p = p
-  imports_keeps on_ask (Imports.unresolved f room r) p = p
-  imports_keeps {h} {promise = promise} on_ask (Imports.asks u room r n) p = on_ask (add_load (counted h) promise).imports u (Root (next_load h)) n p
-  imports_keeps on_ask (Imports.answers u e room r g q) p = answered_keeps on_ask q p
+  -- and so does counting a call of import()
+  abbrev pub OnCall : Type 0
+  OnCall = (t : Table) (n : ℕ) → P t → P (record t { calls = n })
+
+  pub imports_keeps : {h k : Host} {referrer : Url} {specifier : Text} {promise : ℕ} → OnAsk → OnCall → Imports h referrer specifier promise k → P (table_of h.imports) → P (table_of k.imports)
+  imports_keeps on_ask on_call (Imports.limit full) p = p
+  imports_keeps {h} on_ask on_call (Imports.unresolved f room r) p = on_call (table_of h.imports) (h.imports.import_calls + 1) p
+  imports_keeps {h} {promise = promise} on_ask on_call (Imports.asks u room r n) p = on_ask (add_load (counted h) promise).imports u (Root (next_load h)) n (on_call (table_of h.imports) (h.imports.import_calls + 1) p)
+  imports_keeps {h} on_ask on_call (Imports.answers u e room r g q) p = answered_keeps on_ask q (on_call (table_of h.imports) (h.imports.import_calls + 1) p)

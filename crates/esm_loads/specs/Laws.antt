@@ -19,7 +19,7 @@ use Rattle.esm_loads.specs.Arrival.{bytes_of, after_fetch, put_found, Next, next
 use Rattle.esm_promise.specs.Promises.{is_pending}
 use Rattle.esm_loads.specs.Owed.{owed, OwesPromises}
 use Rattle.esm_loads.specs.Whole.{IsWhole, HasEnded}
-use Rattle.esm_loads.specs.ImportCall.{Imports, BeginsImport, IsFull, stop_imports}
+use Rattle.esm_loads.specs.ImportCall.{Imports, BeginsImport, IsFull, HasRoom, stop_imports}
 
 -- ---- one outcome
 
@@ -82,6 +82,9 @@ pub record AskLimit : Type 0 where
   pub again : (l : Loading) (u : Url) (a : PendingRequest) → has l.asked u ≡ true → ask l u a ≡ add_pending l u a
   pub asks : (l : Loading) (u : Url) (a : PendingRequest) → has l.asked u ≡ false → length l.asked < MAX_URLS
       → ask l u a ≡ add_pending (record l { asked = l.asked ++ u ∷ [] }) u a
+  -- the request waits behind the others of its URL
+  pub behind : (l : Loading) (u : Url) (a : PendingRequest) → (add_pending l u a).pending u ≡ l.pending u ++ a ∷ []
+  pub elsewhere : (l : Loading) (u v : Url) (a : PendingRequest) → same_url u v ≡ false → (add_pending l u a).pending v ≡ l.pending v
   pub stops : (l : Loading) (u : Url) (a : PendingRequest) → has l.asked u ≡ false → MAX_URLS ≤ length l.asked
       → ask l u a ≡ record l { stopped = Some L1 }
 
@@ -148,6 +151,9 @@ pub record LimitStops : Type 0 where
       → (after.promises ≡ (begin_load h a u e).promises) × (after.errors ≡ h.errors)
   pub imports : (h after : Host) (referrer : Url) (specifier : Text) (promise : ℕ)
       → IsFull h.imports → Imports h referrer specifier promise after → after ≡ stop_imports h
+  -- each call of import() that isn't stopped by its own limit is counted, also one whose specifier doesn't resolve
+  pub counts : (h after : Host) (referrer : Url) (specifier : Text) (promise : ℕ)
+      → HasRoom h.imports → Imports h referrer specifier promise after → after.imports.import_calls ≡ h.imports.import_calls + 1
 
 -- the bytes are counted before the outcome is stored: past MAX_DELIVERED_BYTES nothing else happens
 abbrev pub BytesFirst : Type 0
