@@ -8,5 +8,5 @@ pub mod Requests
 pub mod Framed
 pub mod Whole
 pub mod Owed
-pub mod Told
+pub mod Descriptions
 pub mod Worked

@@ -1,4 +1,4 @@
-use Rattle.esm_loads.proofs.Told.{told_alike}
+use Rattle.esm_loads.proofs.Descriptions.{told_alike}
 use Rattle.esm_loads.proofs.laws.told_alike.Goals as goal
 
 pub returns : goal.returns
