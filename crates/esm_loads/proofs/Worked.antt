@@ -1,5 +1,5 @@
 -- The worked examples of loading.
-use Rattle.std.proofs.Common.{◌≡◌, ℕ, List, [], ◌∷◌, Ok, refl, subst, sym}
+use Rattle.std.proofs.Common.{◌≡◌, ℕ, List, [], ◌∷◌, Ok, Err, refl, subst, sym}
 use Rattle.std.specs.Prelude.{codes}
 use Rattle.url.proofs.OnLiterals.{url_on_literals}
 use Rattle.esm_base.specs.Urls.{Url}
@@ -9,17 +9,18 @@ use Rattle.esm_tree.specs.Syntax.{ImportEffect}
 use Rattle.esm_import_map.specs.ImportMap.{no_maps}
 use Rattle.esm_specifier.specs.Resolution.{resolution_of_specifier}
 use Rattle.esm_loads.specs.UrlTable as table
-use Rattle.esm_loads.specs.UrlTable.{TableEntry, New, Kept, no_urls, with_url, fetch_error}
+use Rattle.esm_loads.specs.UrlTable.{TableEntry, New, Kept, no_urls, with_url, fetch_error, specifier_error}
+use Rattle.esm_specifier.specs.declared.fault.SpecFault.TheVariants.{S4}
 use Rattle.esm_loads.specs.Loading.{Loading, PendingRequest, Root, Request, OpenLoad, begin, visit, throw, finish, ask, load_of}
 use Rattle.esm_loads.specs.Load.Enters.{known, enters}
 use Rattle.esm_loads.specs.Load.Asks.{no_more, waits}
 use Rattle.esm_loads.specs.Load.Answers.{no_root, no_module, root, request}
-use Rattle.esm_loads.specs.Host.{Host, opening_host, begin_load, settle_load, with_loading}
+use Rattle.esm_loads.specs.Host.{Host, opening_host, begin_load, settle_load, with_loading, reject_new}
 use Rattle.esm_loads.specs.Host.Answered.{answered, late}
 use Rattle.esm_loads.specs.Arrival.{after_fetch, with_entry, Next, without_next, AnswersNext}
 use Rattle.esm_loads.specs.ImportCall.{Imports, add_load, counted, ask_root}
 use Rattle.esm_loads.specs.Laws.{with_bytes}
-use Rattle.esm_loads.specs.Examples.{m_url, x_url, t_url, all_built, empty_text, importing, broken_text, one_waits, x_waits, RefusedRoot, LateAnswer, SharedUrl, KeptError}
+use Rattle.esm_loads.specs.Examples.{m_url, x_url, t_url, all_built, empty_text, importing, broken_text, one_waits, x_waits, RefusedRoot, LateAnswer, SharedUrl, KeptError, mapping, m_ran, MappedImport}
 
 -- what is where a request is answered, and the loading is this
 abbrev behind : Host → Next → Loading → Host
@@ -234,4 +235,34 @@ kept_error = record {
   imports_again = Imports.answers t_url table.Failed refl t_resolves refl (answered (no_root (New (fetch_error t_url)) refl));
   rejected_again = refl;
   none = refl;
+}
+
+-- ---- import() under an import map
+
+t_mapped : resolution_of_specifier mapping m_url (codes "t") ≡ Ok t_url
+unfolding url_on_literals
+t_mapped = refl
+
+t_bare : resolution_of_specifier no_maps m_url (codes "t") ≡ Err S4
+unfolding url_on_literals
+t_bare = refl
+
+abbrev mapped_is : Host
+mapped_is = ask_root (add_load (counted (m_ran mapping)) 1) 1 t_url
+
+abbrev bare_is : Host
+bare_is = reject_new (counted (m_ran no_maps)) 1 (specifier_error m_url (codes "t") S4)
+
+pub mapped_import : MappedImport
+mapped_import = record {
+  mapped = mapped_is;
+  imports = Imports.asks t_url refl t_mapped refl;
+  asks = refl;
+  pends = refl;
+  bare = bare_is;
+  refused = Imports.unresolved S4 refl t_bare;
+  asks_nothing = refl;
+  rejected = refl;
+  text = refl;
+  counted = refl;
 }

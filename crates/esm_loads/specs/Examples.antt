@@ -1,14 +1,14 @@
 -- Worked examples of loading.
 use Rattle.std.specs.Prelude.{◌≡◌, Bool, true, List, [], ◌∷◌, Option, Some, None, codes}
-use Rattle.esm_base.specs.Urls.{Url}
+use Rattle.esm_base.specs.Urls.{Url, url_of}
 use Rattle.esm_base.specs.declared.fault.TextFault.TheVariants.{P2}
 use Rattle.esm_tree.specs.Syntax.{Item, ImportEffect}
 use Rattle.esm_ast.specs.Outcome.{OutcomeView, Script, Broken, Absent}
-use Rattle.esm_import_map.specs.ImportMap.{no_maps}
+use Rattle.esm_import_map.specs.ImportMap.{Maps, no_maps}
 use Rattle.esm_values.specs.Value.{Undefined, Error}
 use Rattle.esm_values.specs.Errors.{Errors, fault, error_text}
 use Rattle.esm_values.specs.declared.errors.FaultKind.TheVariants as kinds
-use Rattle.esm_promise.specs.Promises.{Pending, Done, job, settled}
+use Rattle.esm_promise.specs.Promises.{Pending, Done, job, settled, is_pending}
 use Rattle.esm_promise.specs.Promises.Settled.{Fulfilled, Rejected}
 use Rattle.esm_promise.specs.Reactions.{Loaded, EntryLoaded}
 use Rattle.esm_loads.specs.UrlTable as table
@@ -159,3 +159,42 @@ pub record KeptError : Type 0 where
   pub imports_again : Imports three m_url (codes "a:/t") 4 four
   pub rejected_again : settled four.promises 4 ≡ Some (Rejected (Error 2))
   pub none : next four.imports ≡ None
+
+-- ---- import() under an import map
+
+-- the import map that has t at a:/t
+abbrev pub mapping : Maps
+mapping = record { imports = (codes "t", url_of None (codes "a:/t")) ∷ []; scopes = [] }
+
+-- m was evaluated under this import map. The promise of an import() is there
+abbrev pub m_ran : Maps → Host
+m_ran maps = record {
+  promises = record { all = Done (Fulfilled Undefined) ∷ Pending [] ∷ []; jobs = [] };
+  errors = [];
+  imports = record {
+    maps = maps;
+    built = all_built;
+    asked = m_url ∷ [];
+    entries = put_at no_entries m_url (module_of [] []);
+    pending = no_pending;
+    loads = LoadComplete m_url ∷ [];
+    purposes = ForEntry 0 ∷ [];
+    unlinked = with_url no_urls m_url;
+    bytes = 0;
+    import_calls = 0;
+    stopped = None;
+  };
+}
+
+-- an import() of t asks for a:/t, and without the import map it is rejected at once
+pub record MappedImport : Type 0 where
+  pub mapped : Host
+  pub imports : Imports (m_ran mapping) m_url (codes "t") 1 mapped
+  pub asks : open_asks mapped.imports ≡ t_url ∷ []
+  pub pends : is_pending mapped.promises 1 ≡ true
+  pub bare : Host
+  pub refused : Imports (m_ran no_maps) m_url (codes "t") 1 bare
+  pub asks_nothing : open_asks bare.imports ≡ []
+  pub rejected : settled bare.promises 1 ≡ Some (Rejected (Error 0))
+  pub text : error_text bare.errors 0 ≡ codes "TypeError: a:/m: specifier t: S4 bare and not mapped"
+  pub counted : bare.imports.import_calls ≡ 1

@@ -1,5 +1,5 @@
 // Worked examples of the definitions, as functions without effect.
-ghost use Rattle.esm_loads.specs.Examples.{KeptError, LateAnswer, RefusedRoot, SharedUrl};
+ghost use Rattle.esm_loads.specs.Examples.{KeptError, LateAnswer, MappedImport, RefusedRoot, SharedUrl};
 
 /// The entry isn't there: its promise is rejected.
 pub fn refused_root()
@@ -19,4 +19,9 @@ pub fn shared_url()
 /// Two calls of `import()` of a broken text are rejected with one error value, two of a missing URL with one each.
 pub fn kept_error()
     ensures { KeptError }
+{}
+
+/// A bare specifier in a call of `import()`, with an import map and without one.
+pub fn mapped_import()
+    ensures { MappedImport }
 {}
