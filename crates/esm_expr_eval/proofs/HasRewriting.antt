@@ -40,7 +40,7 @@ abbrev mutual
   size (Sum e es) = suc (size e + size_all es)
   size (Not e) = suc (size e)
   size (Post e ls) = suc (size e + size_links ls)
-  size (Print es) = suc (size_all es)
+  size (Print es) = suc (suc (size_all es))
   size (NewError e) = suc (size e)
   size (Import e) = suc (size e)
   size OwnUrl = 2
@@ -172,7 +172,7 @@ module _ {W V S : Type 0} (view : Views W V) (values : Values V) (url : W → Li
   -- ---- at once
 
   here : {w : W} {e : Term V} (f : Term V) → view.Fits w → Rewrites values url acts w e (Goes f) w → Holds (view.Knows w) ⊥ f → size f < size e → Comes' w e
-  here {w} f fits r h lt = comes (Goes f) w r (0, (stays view values acts lives fits, (h, λ e. lt)))
+  here {w} f fits r h lt = comes (Goes f) w r (0, (stays view values acts lives fits, (h, lt)))
 
   -- a plan is followed
   planned : {w : W} {e : Term V} (p : Plan V S (Term V)) → ((c : Comes V S (Term V)) (after : W) → Follows acts w p c after → Rewrites values url acts w e c after) → Followed view values acts lives (Arrives w (size e)) w p → Comes' w e
@@ -189,7 +189,7 @@ module _ {W V S : Type 0} (view : Views W V) (values : Values V) (url : W → Li
   leaves : (w : W) (s n : ℕ) (mid : W) (v : V) → Later view w n mid → view.Knows mid v → Plans w s mid (Ends (Leaves v))
   leaves w s n mid v l k = followed (Leaves v) mid Follows.ends (n, (l, k))
 
-  goes : (w : W) (s n : ℕ) (mid : W) (f : Term V) → Later view w n mid → Holds (view.Knows mid) ⊥ f → (n ≡ 0 → size f < s) → Plans w s mid (Ends (Goes f))
+  goes : (w : W) (s n : ℕ) (mid : W) (f : Term V) → Later view w n mid → Holds (view.Knows mid) ⊥ f → size f < s → Plans w s mid (Ends (Goes f))
   goes w s n mid f l h lt = followed (Goes f) mid Follows.ends (n, (l, (h, lt)))
 
   throws : (w : W) (s n : ℕ) (mid : W) (kind : FaultKind) (message : List ℕ) → Later view w n mid → Plans w s mid (faults values kind message)
@@ -199,21 +199,17 @@ module _ {W V S : Type 0} (view : Views W V) (values : Values V) (url : W → Li
 
   completes : (w : W) (s n : ℕ) (mid : W) (rest : V → Term V) (r : Completion V) → Later view w n mid → KnowsCompletion (view.Knows mid) r
       → ((v : V) → view.Knows mid v → Holds (view.Knows mid) ⊥ (rest v)) → ((v : V) → size (rest v) < s) → Plans w s mid (complete values rest r)
-  completes w s n mid rest (Normal v) l k h lt = goes w s n mid (rest v) l (h v k) (λ e. lt v)
+  completes w s n mid rest (Normal v) l k h lt = goes w s n mid (rest v) l (h v k) (lt v)
   completes w s n mid rest (Throw v) l k h lt = leaves w s n mid v l k
 
   -- what a plan goes on with is known in each later world
   abbrev Rests : W → ℕ → (V → Term V) → Type 0
   Rests w s rest = ((after : W) (n : ℕ) (v : V) → Later view w n after → view.Knows after v → Holds (view.Knows after) ⊥ (rest v)) × ((v : V) → size (rest v) < s)
 
-  -- behind some steps
-  spent : (n : ℕ) {A : Type 0} → n + 1 ≡ 0 → A
-  spent n e = absurd (omega (arith, e))
-
   asks_error : (w : W) (s n : ℕ) (mid : W) (rest : V → Term V) (message : List ℕ) → Rests w s rest → Later view w n mid → Plans w s mid (new_error values rest message)
   asks_error w s n mid rest message r l =
       ask view values acts lives (Arrives w s) mid (act.Fault kinds.Error message) _ (stop w s) l.fits tt
-      (λ v late m k. let both = onward view values acts lives l m in goes w s (n + 0) late (rest v) both (r.0 late (n + 0) v both k) (λ e. r.1 v))
+      (λ v late m k. let both = onward view values acts lives l m in goes w s (n + 0) late (rest v) both (r.0 late (n + 0) v both k) (r.1 v))
 
   texts : (w : W) (s n : ℕ) (mid : W) (rest : V → Term V) (v : V) (t : Textual) → Rests w s rest → Later view w n mid → view.Knows mid v → Plans w s mid (to_text_by values v t (new_error values rest))
   texts w s n mid rest v (Known t) r l k = asks_error w s n mid rest t r l
@@ -234,18 +230,18 @@ module _ {W V S : Type 0} (view : Views W V) (values : Values V) (url : W → Li
   step : (w : W) (s : ℕ) (next : Plan V S (Term V)) → view.Fits w → ((mid : W) → Later view w 1 mid → Plans w s mid next) → Plans w s w (Asks (act.Step 1) (λ _. next))
   step w s next f go = ask view values acts lives (Arrives w s) w (act.Step 1) _ (stop w s) f tt (λ r mid l k. go mid l)
 
-  prints : (w : W) (s : ℕ) (vs : List V) → view.Fits w → AllKnown (view.Knows w) vs → Plans w s w (printed values vs)
-  prints w s vs f k =
+  prints : (w : W) (s : ℕ) (vs : List V) → 1 < s → view.Fits w → AllKnown (view.Knows w) vs → Plans w s w (printed values vs)
+  prints w s vs lt f k =
       step w s _ f (λ mid l. ask view values acts lives (Arrives w s) mid (act.Print vs) _ (stop w s) l.fits (known_all _ _ l.keeps vs k)
-      (λ r late m q. goes w s (1 + 0) late (Val values.undefined) (onward view values acts lives l m) (lives.undefined late) (λ e. spent 0 e)))
+      (λ r late m q. goes w s (1 + 0) late (Val values.undefined) (onward view values acts lives l m) (lives.undefined late) lt))
 
   makes_error : (w : W) (s : ℕ) (v : V) → 1 < s → view.Fits w → view.Knows w v → Plans w s w (error_made values v)
   makes_error w s v lt f k = step w s _ f (λ mid l. error_by w s 1 mid (λ u. Val u) v (values.look v) ((λ after n u m q. q), (λ u. lt)) l (l.keeps v k))
 
-  imports : (w : W) (s : ℕ) (v : V) → view.Fits w → view.Knows w v → Plans w s w (import_begun values v)
-  imports w s v f k =
+  imports : (w : W) (s : ℕ) (v : V) → 1 < s → view.Fits w → view.Knows w v → Plans w s w (import_begun values v)
+  imports w s v lt f k =
       step w s _ f (λ mid l. ask view values acts lives (Arrives w s) mid (act.Import v) _ (stop w s) l.fits (l.keeps v k)
-      (λ p late m q. goes w s (1 + 0) late (Val p) (onward view values acts lives l m) q (λ e. spent 0 e)))
+      (λ p late m q. goes w s (1 + 0) late (Val p) (onward view values acts lives l m) q lt))
 
   -- ---- calls
 
@@ -280,7 +276,7 @@ module _ {W V S : Type 0} (view : Views W V) (values : Values V) (url : W → Li
       ask view values acts lives (Arrives w s) mid (act.Step (length t / BYTES_PER_STEP)) _ (stop w s) l.fits tt
       (λ u late m k.
           let both = onward view values acts lives l m in
-          goes w s _ late (rest (values.text t)) both (r.0 late _ (values.text t) both (lives.text late t)) (λ e. r.1 (values.text t)))
+          goes w s _ late (rest (values.text t)) both (r.0 late _ (values.text t) both (lives.text late t)) (r.1 (values.text t)))
 
   sums_by : (w : W) (s n : ℕ) (mid : W) (rest : V → Term V) (o : Option (List ℕ)) → Rests w s rest → Later view w n mid → Plans w s mid (made values rest o)
   sums_by w s n mid rest None r l = throws w s n mid kinds.TypeError (codes "bad operands") l
@@ -425,7 +421,7 @@ module _ {W V S : Type 0} (view : Views W V) (values : Values V) (url : W → Li
     call_by e es ls h (inr c) k = post_in_by e (call es ls) h c
 
     print_by : (es : Terms V) → HereAll w es → Comes' w (Print es)
-    print_by es (inl (vs, (a, k))) = planned (printed values vs) (λ c after f. print a f) (prints w _ vs fits k)
+    print_by es (inl (vs, (a, k))) = planned (printed values vs) (λ c after f. print a f) (prints w (size (Print es)) vs (omega arith) fits k)
     print_by es (inr c) = list_in w es (λ es. Print es) (λ c a r. print_in r) (λ after n gap a l i. i) (λ a lt. omega (arith, lt)) c
 
     error_value : (v : V) → Ready (NewError (Val v)) → Comes' w (NewError (Val v))
@@ -436,7 +432,7 @@ module _ {W V S : Type 0} (view : Views W V) (values : Values V) (url : W → Li
     error_by_part e h (inr c) = part_in w e (λ e. NewError e) (λ c a r. error_in r) (λ after n gap a l i. i) (λ a lt. omega (arith, lt)) c
 
     import_value : (v : V) → Ready (Import (Val v)) → Comes' w (Import (Val v))
-    import_value v h = planned (import_begun values v) (λ c after f. begins f) (imports w 2 v fits h)
+    import_value v h = planned (import_begun values v) (λ c after f. begins f) (imports w 2 v (omega arith) fits h)
 
     import_by : (e : Term V) → Ready (Import e) → Here w e → Comes' w (Import e)
     import_by e h (inl x) = by_value (λ e. Import e) import_value e h x

@@ -1,5 +1,5 @@
--- What a rewriting comes to, in a world in which each call is answered: each value is known, and steps are taken or what remains
--- gets smaller.
+-- What a rewriting comes to, in a world in which each call is answered: each value is known, and what remains gets
+-- smaller.
 use Rattle.std.proofs.Common.{◌≡◌, ℕ, zero, suc, ◌+◌, ◌<◌, Bool, true, false, List, [], ◌∷◌, refl, ap, subst, sym, ◌∙◌, arith}
 use Rattle.std.specs.Prelude.{Result, Ok, Err, ⊤}
 use Rattle.esm_values.specs.Acts.{Act, Answer}
@@ -82,7 +82,7 @@ module _ {W V : Type 0} (view : Views W V) where
 
   -- from the world w, and from what remains of this size
   abbrev pub Lands : {S A : Type 0} (values : Values V) → Inside A → (A → ℕ) → W → ℕ → Comes V S A → W → Type 0
-  Lands values In size w s (Goes e) after = (n : ℕ) × (Later w n after × (In after ⊥ e × (n ≡ 0 → size e < s)))
+  Lands values In size w s (Goes e) after = (n : ℕ) × (Later w n after × (In after ⊥ e × (size e < s)))
   Lands values In size w s (Leaves v) after = (n : ℕ) × (Later w n after × view.Knows after v)
   Lands values In size w s (Calls f vs e) after = (n : ℕ) × (Later w (suc n) after
       × ((values.look f ≡ Func) × (view.Knows after f × (AllKnown (view.Knows after) vs × In after ⊤ e))))
@@ -118,7 +118,7 @@ module _ {W V : Type 0} (view : Views W V) where
     pub lift : {A B : Type 0} (In : Inside A) (In' : Inside B) (size : A → ℕ) (size' : B → ℕ) (make : A → B) (s s' : ℕ) (w : W)
         → ((after : W) (n : ℕ) (gap : Type 0) (a : A) → Later w n after → In after gap a → In' after gap (make a)) → ((a : A) → size a < s → size' (make a) < s')
         → (c : Comes V S A) (after : W) → Lands values In size w s c after → Lands values In' size' w s' (inside make c) after
-    lift In In' size size' make s s' w builds smaller (Goes a) after (n, (l, (i, g))) = (n, (l, (builds after n ⊥ a l i, λ e. smaller a (g e))))
+    lift In In' size size' make s s' w builds smaller (Goes a) after (n, (l, (i, g))) = (n, (l, (builds after n ⊥ a l i, smaller a g)))
     lift In In' size size' make s s' w builds smaller (Leaves v) after h = h
     lift In In' size size' make s s' w builds smaller (Calls f vs a) after (n, (l, (e, (k, (ks, i))))) = (n, (l, (e, (k, (ks, builds after (suc n) ⊤ a l i)))))
     lift In In' size size' make s s' w builds smaller (Stops why) after h = tt

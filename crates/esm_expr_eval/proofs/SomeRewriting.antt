@@ -1,18 +1,20 @@
 -- Over a world in which each call has an outcome, what remains of an expression is a value or has a rewriting.
-use Rattle.std.proofs.Common.{◌≡◌, ℕ, ◌⊎◌, inl, inr, List, [], ◌∷◌}
+use Rattle.std.proofs.Common.{◌≡◌, ℕ, zero, suc, ◌<◌, ◌⊎◌, inl, inr, List, [], ◌∷◌, arith, subst, sym}
 use Rattle.std.specs.Prelude.{Result, Ok, Err, ⊤}
 use Rattle.esm_values.specs.Acts.{Act, Answer}
 use Rattle.esm_values.specs.Acts.{Act as act}
 use Rattle.esm_values.specs.Completion.{Completion, Normal, Throw}
 use Rattle.esm_values.specs.Code.{Worth, numbered}
 use Rattle.esm_values.specs.Plans.{Acting, Comes}
+use Rattle.esm_values.specs.Plans.Comes.{Goes, Leaves, Calls, Stops}
+use Rattle.esm_expr_eval.specs.Ends.{End, Value, Thrown, Call, Stopped, Leads}
 use Rattle.esm_expr_eval.specs.Terms.{Term}
 use Rattle.esm_expr_eval.specs.Terms.Term.{Val}
 use Rattle.esm_expr_eval.specs.Ready.{IsAtWork}
 use Rattle.esm_expr_eval.specs.Rewriting.{Rewrites}
 use Rattle.esm_expr_eval.specs.Laws.{ActsAlways, HasRewriting}
 use Rattle.esm_expr_eval.proofs.Lands.{Views, Later, Answered, answers, stopped, Lives, KnowsAnswer, KnowsCompletion, cost}
-use Rattle.esm_expr_eval.proofs.HasRewriting.{Comes', comes, come, Here}
+use Rattle.esm_expr_eval.proofs.HasRewriting.{Comes', comes, come, Here, Arrives, size}
 
 -- nothing is asked of worlds and values
 abbrev any : (W : Type 0) → Views W Worth
@@ -52,6 +54,34 @@ module _ {W S : Type 0} (url : W → List ℕ) (acts : Acting W Worth S) (always
   found : (w : W) (t : Term Worth) → Comes' (any W) numbered url acts lives w t → Some w t
   found w t (comes c after r l) = inr (c, (after, r))
 
+  -- rewritings up to an end, for terms of at most this size
+  abbrev Found : W → Term Worth → Type 0
+  Found w t = (end : End Worth S) × ((after : W) × Leads numbered url acts w t end after)
+
+  abbrev Later' : ℕ → Type 0
+  Later' n = (w : W) (t : Term Worth) → size t < n → IsAtWork t → Found w t
+
+  went : (n : ℕ) (again : Later' n) (w : W) (t : Term Worth) → size t < suc n → (c : Comes Worth S (Term Worth)) (after : W) → Rewrites numbered url acts w t c after
+      → Arrives (any W) numbered url acts lives w (size t) c after → Found w t
+  went n again w t lt (Goes f) after r (k, (l, (h, g))) = let e = again after f (omega (arith, lt, g)) h in (e.0, (e.1.0, Leads.goes r e.1.1))
+  went n again w t lt (Leaves v) after r l = (Thrown v, (after, Leads.throws r))
+  went n again w t lt (Calls f vs e) after r l = (Call f vs e, (after, Leads.calls r))
+  went n again w t lt (Stops why) after r l = (Stopped why, (after, Leads.stopped r))
+
+  stepped : (n : ℕ) (again : Later' n) (w : W) (t : Term Worth) → size t < suc n → Comes' (any W) numbered url acts lives w t → Found w t
+  stepped n again w t lt (comes c after r l) = went n again w t lt c after r l
+
+  ended_by : (n : ℕ) (again : Later' n) (w : W) (t : Term Worth) → size t < suc n → Here (any W) numbered url acts lives w t → Found w t
+  ended_by n again w t lt (inl x) = (Value x.0, (w, subst (λ t. Leads numbered url acts w t (Value x.0) w) (sym x.1) Leads.value))
+  ended_by n again w t lt (inr c) = stepped n again w t lt c
+
+  ended : (n : ℕ) → Later' n
+  ended zero w t lt h = absurd (omega (arith, lt))
+  ended (suc n) w t lt h = ended_by n (ended n) w t lt (come (any W) numbered url acts lives w tt t h)
+
+  pub leads_somewhere : (w : W) (t : Term Worth) → IsAtWork t → Found w t
+  leads_somewhere w t h = ended (suc (size t)) w t (omega arith) h
+
   either : (w : W) (t : Term Worth) → Here (any W) numbered url acts lives w t → Some w t
   either w t (inl x) = inl x
   either w t (inr c) = found w t c
@@ -60,4 +90,4 @@ module _ {W S : Type 0} (url : W → List ℕ) (acts : Acting W Worth S) (always
   some_rewriting w t h = either w t (come (any W) numbered url acts lives w tt t h)
 
 pub has_rewriting : {W S : Type 0} (url : W → List ℕ) (acts : Acting W Worth S) → HasRewriting url acts
-has_rewriting url acts always w t h = some_rewriting url acts always w t h
+has_rewriting url acts = record { rewrites = λ always w t h. some_rewriting url acts always w t h; leads = λ always w t h. leads_somewhere url acts always w t h }

@@ -25,7 +25,9 @@ pub record RewritesOnce {W S : Type 0} (url : W → List ℕ) (acts : Acting W W
 abbrev pub ActsAlways : {W S : Type 0} → Acting W Worth S → Type 0
 ActsAlways {W} {S} acts = (w : W) (a : Act Worth) → (r : Result (Answer a) S) × ((after : W) × acts w a r after)
 
--- then what remains of an expression, where no call is under way in it, is a value or has a rewriting
-abbrev pub HasRewriting : {W S : Type 0} → (W → List ℕ) → Acting W Worth S → Type 0
-HasRewriting {W} {S} url acts = ActsAlways acts → (w : W) (t : Term Worth) → IsAtWork t
-    → ((v : Worth) × (t ≡ Val v)) ⊎ ((c : Comes Worth S (Term Worth)) × ((after : W) × Rewrites numbered url acts w t c after))
+-- then what remains of an expression, where no call is under way in it, is a value or has a rewriting, and leads to an end
+pub record HasRewriting {W S : Type 0} (url : W → List ℕ) (acts : Acting W Worth S) : Type 0 where
+  pub rewrites : ActsAlways acts → (w : W) (t : Term Worth) → IsAtWork t
+      → ((v : Worth) × (t ≡ Val v)) ⊎ ((c : Comes Worth S (Term Worth)) × ((after : W) × Rewrites numbered url acts w t c after))
+  pub leads : ActsAlways acts → (w : W) (t : Term Worth) → IsAtWork t
+      → (end : End Worth S) × ((after : W) × Leads numbered url acts w t end after)

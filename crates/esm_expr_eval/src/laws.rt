@@ -9,7 +9,7 @@ pub fn one_rewriting<W: World>()
 {}
 
 /// Over a world in which each call has an outcome, what remains of an expression is a value or has a rewriting, where no
-/// call is under way in it.
+/// call is under way in it, and it leads to an end.
 pub fn has_rewriting<W: World>()
     ensures { HasRewriting W.url_of W.acts }
 {}
