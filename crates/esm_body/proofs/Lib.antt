@@ -5,3 +5,5 @@ pub mod OneSegment
 pub mod OneOutcome
 pub mod Limits
 pub mod Examples
+pub mod Grown
+pub mod SomeAct

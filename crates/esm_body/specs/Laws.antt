@@ -1,6 +1,6 @@
 -- Laws of the definitions, over modules with numbers, where import() is a function of what it is given and changes nothing but
 -- promises, errors and the modules that are there.
-use Rattle.std.specs.Prelude.{◌≡◌, ℕ, ◌+◌, nat_eq, List, Option, Result}
+use Rattle.std.specs.Prelude.{◌≡◌, ℕ, ◌+◌, nat_eq, Bool, List, Option, Result}
 use Rattle.esm_base.specs.declared.limits.Limit.{Limit}
 use Rattle.esm_values.specs.Value.{Value}
 use Rattle.esm_values.specs.Ran.{Ran}
@@ -18,6 +18,7 @@ use Rattle.esm_body.specs.State.{State, Importing}
 use Rattle.esm_body.specs.Acts.{Inner, read_answer, throws_new, not_initialized}
 use Rattle.esm_body.specs.Moves.{Move, On, RewritesBody}
 use Rattle.esm_body.specs.Segment.{Active, Ended, Segment}
+use Rattle.esm_body.specs.Fits.{AreReadable, IsKnown, FitsRun}
 use Rattle.esm_body.specs.Bodies.{StartsBody, RunsBody, ResumesBody}
 
 abbrev pub Around : Type 0
@@ -71,3 +72,15 @@ StopsAreNotCaught = (f : Importer) (m : ℕ) (w after : Inner ℕ (Modules ℕ))
 abbrev pub UnsetThrows : Type 0
 UnsetThrows = (w : Inner ℕ (Modules ℕ)) (x : List ℕ)
     → read_answer w x reading.Unset ≡ throws_new w kinds.ReferenceError (not_initialized x)
+
+-- import() leaves linked modules as they can be read, and what is known of them
+abbrev pub KeepsModules : (Modules ℕ → ℕ → Bool) → Importer → Type 0
+KeepsModules linked f = (o : Around) (m : ℕ) (text : List ℕ) (p : ℕ) → AreReadable o.imports (linked o.imports)
+    → AreReadable (f o m text p).1.imports (linked (f o m text p).1.imports)
+    × ((v : Value ℕ) → IsKnown o.imports (linked o.imports) v → IsKnown (f o m text p).1.imports (linked (f o m text p).1.imports) v)
+
+-- from each state that fits, a segment has an outcome
+abbrev pub HasSegment : Type 0
+HasSegment = (linked : Modules ℕ → ℕ → Bool) (f : Importer) → KeepsModules linked f → (w : Here) (m : ℕ) (awaits : Bool)
+    (r : Rest (Value ℕ)) (callers : List (Active ℕ)) → FitsRun itself linked w m awaits r callers
+    → (how : Ended ℕ) × ((after : Here) × Segment nat_eq itself (imports_by f) w m r callers how after)

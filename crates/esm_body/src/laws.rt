@@ -1,5 +1,5 @@
 //! Laws of the definitions, each the contract of a function without effect.
-ghost use Rattle.esm_body.specs.Laws.{HaveOneOutcome, StatementsTakeSteps, StopsAreNotCaught, UnsetThrows};
+ghost use Rattle.esm_body.specs.Laws.{HaveOneOutcome, StatementsTakeSteps, StopsAreNotCaught, UnsetThrows, HasSegment};
 ghost use Rattle.esm_body.specs.Examples.{ThrowLeaves, AwaitDivides};
 
 /// A rewriting, a segment of a body, and each call for a body, has one outcome, where `import()` has one.
@@ -31,4 +31,9 @@ pub fn throw_leaves()
 /// body's end is fulfilled.
 pub fn await_divides()
     ensures { AwaitDivides }
+{}
+
+/// From each state that fits, a segment has an outcome.
+pub fn has_segment()
+    ensures { HasSegment }
 {}
