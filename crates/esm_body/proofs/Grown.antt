@@ -156,7 +156,7 @@ size_positive OwnUrl = omega arith
 
 pub size_whole : (V : Type 0) (ss : Stmts) → size_rest {V = V} (whole ss) ≡ count ss
 size_whole V nothing = refl
-size_whole V (first s ss) = ap suc (size_whole V ss)
+size_whole V (first s ss) = let r = size_whole V ss in omega (arith, r)
 
 module _ {V : Type 0} (given : Term V) (one : size given ≡ 1) where
   mutual

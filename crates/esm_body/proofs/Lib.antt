@@ -7,3 +7,4 @@ pub mod Limits
 pub mod Examples
 pub mod Grown
 pub mod SomeAct
+pub mod SomeMove

@@ -58,7 +58,7 @@ module _ {N I : Type 0} (same : N → N → Bool) (modules : I → Modules N) (l
     pub took : Took w.state n after.state
 
   abbrev pub view : N → Views (Inner N I) (Value N)
-  view m = record { Fits = FitsInner m; Knows = λ w v. Known w.state v; Took = TookIn }
+  view m = record { Fits = FitsInner m; Knows = λ w v. Known w.state v; Took = TookIn; Halts = λ w after. after.scopes ≡ w.scopes }
 
   module _ (m : N) where
     abbrev pub acts : Inner N I → (a : Act (Value N)) → Result (Answer a) Limit → Inner N I → Type 0
@@ -110,7 +110,7 @@ module _ {N I : Type 0} (same : N → N → Bool) (modules : I → Modules N) (l
 
     reads_by : (w : Inner N I) (x : List ℕ) → FitsInner m w → (o : Option (Cell (Value N))) → in_scopes w.scopes x ≡ o
         → (read : Reading (Value N)) × (ReadsBy same modules begins m w.state x o read × IsKnownReading (modules w.state.outer.imports) (linked w.state.outer.imports) read)
-    reads_by w x f (Some c) e = (read_cell (Some c), (refl, value_read _ _ c.value (scopes_known (Known w.state) w.scopes x f.scopes c e)))
+    reads_by w x f (Some c) e = (read_cell (Some c), (refl, value_read (modules w.state.outer.imports) (linked w.state.outer.imports) c.value (scopes_known (Known w.state) w.scopes x f.scopes c e)))
     reads_by w x f None e = let r = f.state.readable.names w.state.cells m x f.state.cells f.home in (r.0, (r.1, r.2))
 
     reads : (w : Inner N I) (x : List ℕ) → FitsInner m w → Reads w x
@@ -164,7 +164,7 @@ module _ {N I : Type 0} (same : N → N → Bool) (modules : I → Modules N) (l
 
     prints_by : (w : Inner N I) (vs : List (Value N)) → FitsInner m w → (texts : List (List ℕ)) → DisplaysAll modules w.state vs texts → (b : Bool)
         → nat_lt MAX_LOG_BYTES (length w.state.engine.log + length (printed_line texts) + 1) ≡ b → Answer' w (act.Print vs)
-    prints_by w vs f texts d true e = stopped L5 _ (texts, d, ap (λ b. over_scopes w (line_by b w.state (printed_line texts))) (sym e))
+    prints_by w vs f texts d true e = stopped L5 _ (texts, d, ap (λ b. over_scopes w (line_by b w.state (printed_line texts))) (sym e)) refl
     prints_by w vs f texts d false e =
         answers tt (over_scopes w (line_by false w.state (printed_line texts))).1 (texts, d, ap (λ b. over_scopes w (line_by b w.state (printed_line texts))) (sym e))
         (record {
@@ -179,7 +179,7 @@ module _ {N I : Type 0} (same : N → N → Bool) (modules : I → Modules N) (l
     -- ---- steps
 
     step_by : (w : Inner N I) (n : ℕ) → FitsInner m w → (b : Bool) → nat_lt MAX_STEPS (w.state.engine.steps + n) ≡ b → Answer' w (act.Step n)
-    step_by w n f true e = stopped L3 _ (ap (λ b. over_scopes w (steps_by b w.state n)) (sym e))
+    step_by w n f true e = stopped L3 _ (ap (λ b. over_scopes w (steps_by b w.state n)) (sym e)) refl
     step_by w n f false e =
         answers tt (over_scopes w (steps_by false w.state n)).1 (ap (λ b. over_scopes w (steps_by b w.state n)) (sym e))
         (record {
@@ -203,7 +203,7 @@ module _ {N I : Type 0} (same : N → N → Bool) (modules : I → Modules N) (l
         → begins (with_promise w.state).outer m text (next_promise w.state.outer.promises) r after → AreReadable (modules after.imports) (linked after.imports)
         → ((v : Value N) → Knows modules linked w.state.outer.imports v → Knows modules linked after.imports v) → Answer' w (act.Import v)
     begun_by w v text f e (Err why) after h a k =
-        stopped why (with_state w (with_outer w.state after)) (subst (λ t. BeginsBy same modules begins m w t (Err why, with_state w (with_outer w.state after))) (sym e) (Err why, after, h, refl))
+        stopped why (with_state w (with_outer w.state after)) (subst (λ t. BeginsBy same modules begins m w t (Err why, with_state w (with_outer w.state after))) (sym e) (Err why, after, h, refl)) refl
     begun_by w v text f e (Ok done) after h a k =
         answers (Promise (next_promise w.state.outer.promises)) (with_state w (with_outer w.state after))
         (subst (λ t. BeginsBy same modules begins m w t (Ok (Promise (next_promise w.state.outer.promises)), with_state w (with_outer w.state after))) (sym e) (Ok done, after, h, refl))
@@ -241,5 +241,6 @@ module _ {N I : Type 0} (same : N → N → Bool) (modules : I → Modules N) (l
       truth = λ w b. tt;
       text = λ w t. tt;
       none = λ w. record { scopes = refl; took = took_none w.state };
+      halts = λ a b. b ∙ a.scopes;
       both = λ {w} {mid} {after} {n} {k} a b. record { scopes = b.scopes ∙ a.scopes; took = took_both n k a.took b.took };
     }

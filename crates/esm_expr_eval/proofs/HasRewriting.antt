@@ -183,8 +183,8 @@ module _ {W V S : Type 0} (view : Views W V) (values : Values V) (url : W → Li
   abbrev Plans : W → ℕ → W → Plan V S (Term V) → Type 0
   Plans w s mid p = Followed view values acts lives (Arrives w s) mid p
 
-  stop : (w : W) (s : ℕ) (why : S) (after : W) → Arrives w s (Stops why) after
-  stop w s why after = tt
+  stop : (w : W) (s n : ℕ) (mid : W) → Later view w n mid → (why : S) (after : W) → view.Halts mid after → Arrives w s (Stops why) after
+  stop w s n mid l why after h = lives.halts l.took h
 
   leaves : (w : W) (s n : ℕ) (mid : W) (v : V) → Later view w n mid → view.Knows mid v → Plans w s mid (Ends (Leaves v))
   leaves w s n mid v l k = followed (Leaves v) mid Follows.ends (n, (l, k))
@@ -194,7 +194,7 @@ module _ {W V S : Type 0} (view : Views W V) (values : Values V) (url : W → Li
 
   throws : (w : W) (s n : ℕ) (mid : W) (kind : FaultKind) (message : List ℕ) → Later view w n mid → Plans w s mid (faults values kind message)
   throws w s n mid kind message l =
-      ask view values acts lives (Arrives w s) mid (act.Fault kind message) _ (stop w s) l.fits tt
+      ask view values acts lives (Arrives w s) mid (act.Fault kind message) _ (stop w s n mid l) l.fits tt
       (λ v late m k. leaves w s (n + 0) late v (onward view values acts lives l m) k)
 
   completes : (w : W) (s n : ℕ) (mid : W) (rest : V → Term V) (r : Completion V) → Later view w n mid → KnowsCompletion (view.Knows mid) r
@@ -208,13 +208,13 @@ module _ {W V S : Type 0} (view : Views W V) (values : Values V) (url : W → Li
 
   asks_error : (w : W) (s n : ℕ) (mid : W) (rest : V → Term V) (message : List ℕ) → Rests w s rest → Later view w n mid → Plans w s mid (new_error values rest message)
   asks_error w s n mid rest message r l =
-      ask view values acts lives (Arrives w s) mid (act.Fault kinds.Error message) _ (stop w s) l.fits tt
+      ask view values acts lives (Arrives w s) mid (act.Fault kinds.Error message) _ (stop w s n mid l) l.fits tt
       (λ v late m k. let both = onward view values acts lives l m in goes w s (n + 0) late (rest v) both (r.0 late (n + 0) v both k) (r.1 v))
 
   texts : (w : W) (s n : ℕ) (mid : W) (rest : V → Term V) (v : V) (t : Textual) → Rests w s rest → Later view w n mid → view.Knows mid v → Plans w s mid (to_text_by values v t (new_error values rest))
   texts w s n mid rest v (Known t) r l k = asks_error w s n mid rest t r l
   texts w s n mid rest v Displayed r l k =
-      ask view values acts lives (Arrives w s) mid (act.Display v) _ (stop w s) l.fits k
+      ask view values acts lives (Arrives w s) mid (act.Display v) _ (stop w s n mid l) l.fits k
       (λ t late m q. asks_error w s (n + 0) late rest t r (onward view values acts lives l m))
   texts w s n mid rest v Refused r l k = throws w s n mid kinds.TypeError (codes "cannot convert to text") l
 
@@ -228,11 +228,11 @@ module _ {W V S : Type 0} (view : Views W V) (values : Values V) (url : W → Li
 
   -- a step is taken first
   step : (w : W) (s : ℕ) (next : Plan V S (Term V)) → view.Fits w → ((mid : W) → Later view w 1 mid → Plans w s mid next) → Plans w s w (Asks (act.Step 1) (λ _. next))
-  step w s next f go = ask view values acts lives (Arrives w s) w (act.Step 1) _ (stop w s) f tt (λ r mid l k. go mid l)
+  step w s next f go = ask view values acts lives (Arrives w s) w (act.Step 1) _ (stop w s 0 w (stays view values acts lives f)) f tt (λ r mid l k. go mid l)
 
   prints : (w : W) (s : ℕ) (vs : List V) → 1 < s → view.Fits w → AllKnown (view.Knows w) vs → Plans w s w (printed values vs)
   prints w s vs lt f k =
-      step w s _ f (λ mid l. ask view values acts lives (Arrives w s) mid (act.Print vs) _ (stop w s) l.fits (known_all _ _ l.keeps vs k)
+      step w s _ f (λ mid l. ask view values acts lives (Arrives w s) mid (act.Print vs) _ (stop w s 1 mid l) l.fits (known_all _ _ l.keeps vs k)
       (λ r late m q. goes w s (1 + 0) late (Val values.undefined) (onward view values acts lives l m) (lives.undefined late) lt))
 
   makes_error : (w : W) (s : ℕ) (v : V) → 1 < s → view.Fits w → view.Knows w v → Plans w s w (error_made values v)
@@ -240,7 +240,7 @@ module _ {W V S : Type 0} (view : Views W V) (values : Values V) (url : W → Li
 
   imports : (w : W) (s : ℕ) (v : V) → 1 < s → view.Fits w → view.Knows w v → Plans w s w (import_begun values v)
   imports w s v lt f k =
-      step w s _ f (λ mid l. ask view values acts lives (Arrives w s) mid (act.Import v) _ (stop w s) l.fits (l.keeps v k)
+      step w s _ f (λ mid l. ask view values acts lives (Arrives w s) mid (act.Import v) _ (stop w s 1 mid l) l.fits (l.keeps v k)
       (λ p late m q. goes w s (1 + 0) late (Val p) (onward view values acts lives l m) q lt))
 
   -- ---- calls
@@ -273,7 +273,7 @@ module _ {W V S : Type 0} (view : Views W V) (values : Values V) (url : W → Li
       → Plans w s mid (if b then faults values kinds.RangeError (codes "text length") else Asks (act.Step (length t / BYTES_PER_STEP)) (λ _. Ends (Goes (rest (values.text t)))))
   joins_by w s n mid rest t true r l = throws w s n mid kinds.RangeError (codes "text length") l
   joins_by w s n mid rest t false r l =
-      ask view values acts lives (Arrives w s) mid (act.Step (length t / BYTES_PER_STEP)) _ (stop w s) l.fits tt
+      ask view values acts lives (Arrives w s) mid (act.Step (length t / BYTES_PER_STEP)) _ (stop w s n mid l) l.fits tt
       (λ u late m k.
           let both = onward view values acts lives l m in
           goes w s _ late (rest (values.text t)) both (r.0 late _ (values.text t) both (lives.text late t)) (r.1 (values.text t)))
@@ -285,7 +285,7 @@ module _ {W V S : Type 0} (view : Views W V) (values : Values V) (url : W → Li
   operand_by : (w : W) (s n : ℕ) (mid : W) (v : V) (l : Look) (next : Look → Plan V S (Term V)) → view.Knows mid v → Later view w n mid → ((m : Look) (k : ℕ) (late : W) → Later view w k late → Later view mid 0 late → Plans w s late (next m))
       → Plans w s mid (operand values v l next)
   operand_by w s n mid v look.Error next k l go =
-      ask view values acts lives (Arrives w s) mid (act.Display v) _ (stop w s) l.fits k
+      ask view values acts lives (Arrives w s) mid (act.Display v) _ (stop w s n mid l) l.fits k
       (λ t late m q. go (look.Text t) (n + 0) late (onward view values acts lives l m) m)
   operand_by w s n mid v look.Undefined next k l go = go look.Undefined n mid l (stays view values acts lives l.fits)
   operand_by w s n mid v (look.Truth b) next k l go = go (look.Truth b) n mid l (stays view values acts lives l.fits)
@@ -403,7 +403,7 @@ module _ {W V S : Type 0} (view : Views W V) (values : Values V) (url : W → Li
     member_value x ls v h =
         let s = size (Post (Val v) (member x ls)) in
         planned _ (λ c after f. member_of f)
-        (ask view values acts lives (Arrives w s) w (act.Member v x) _ (stop w s) fits h.0
+        (ask view values acts lives (Arrives w s) w (act.Member v x) _ (stop w s 0 w (stays view values acts lives fits)) fits h.0
         (λ r mid l k. completes w s 0 mid (λ u. Post (Val u) ls) r l k (λ u q. (q, kept_links w mid 0 ⊥ ls l h.1)) (λ u. omega arith)))
 
     member_by : (e : Term V) (x : List ℕ) (ls : Links V) → Ready (Post e (member x ls)) → Here w e → Comes' w (Post e (member x ls))
@@ -441,7 +441,7 @@ module _ {W V S : Type 0} (view : Views W V) (values : Values V) (url : W → Li
     name_comes : (x : List ℕ) → Comes' w (Name x)
     name_comes x =
         planned _ (λ c after f. name f)
-        (ask view values acts lives (Arrives w 2) w (act.Read x) _ (stop w 2) fits tt
+        (ask view values acts lives (Arrives w 2) w (act.Read x) _ (stop w 2 0 w (stays view values acts lives fits)) fits tt
         (λ r mid l k. completes w 2 0 mid (λ v. Val v) r l k (λ v q. q) (λ v. omega arith)))
 
     -- ---- lists

@@ -55,6 +55,8 @@ pub record Views (W V : Type 0) : Type 1 where
   pub Fits : W → Type 0
   pub Knows : W → V → Type 0
   pub Took : W → ℕ → W → Type 0
+  -- what a call that stops leaves
+  pub Halts : W → W → Type 0
 
 module _ {W V : Type 0} (view : Views W V) where
   pub record Later (w : W) (n : ℕ) (after : W) : Type 0 where
@@ -65,7 +67,7 @@ module _ {W V : Type 0} (view : Views W V) where
   module _ {S : Type 0} (acts : Acting W V S) where
     pub data Answered (w : W) (a : Act V) : Type 0 where
       answers : (r : Answer a) (after : W) → acts w a (Ok r) after → Later w (cost a) after → KnowsAnswer (view.Knows after) a r → Answered w a
-      stopped : (why : S) (after : W) → acts w a (Err why) after → Answered w a
+      stopped : (why : S) (after : W) → acts w a (Err why) after → view.Halts w after → Answered w a
 
     -- each call is answered
     pub record Lives (values : Values V) : Type 0 where
@@ -74,6 +76,7 @@ module _ {W V : Type 0} (view : Views W V) where
       pub truth : (w : W) (b : Bool) → view.Knows w (values.truth b)
       pub text : (w : W) (t : List ℕ) → view.Knows w (values.text t)
       pub none : (w : W) → view.Took w 0 w
+      pub halts : {w mid after : W} {n : ℕ} → view.Took w n mid → view.Halts mid after → view.Halts w after
       pub both : {w mid after : W} {n k : ℕ} → view.Took w n mid → view.Took mid k after → view.Took w (n + k) after
 
   -- what remains, in a world: its values are known, and whether a call may be under way
@@ -86,7 +89,7 @@ module _ {W V : Type 0} (view : Views W V) where
   Lands values In size w s (Leaves v) after = (n : ℕ) × (Later w n after × view.Knows after v)
   Lands values In size w s (Calls f vs e) after = (n : ℕ) × (Later w (suc n) after
       × ((values.look f ≡ Func) × (view.Knows after f × (AllKnown (view.Knows after) vs × In after ⊤ e))))
-  Lands values In size w s (Stops why) after = ⊤
+  Lands values In size w s (Stops why) after = view.Halts w after
 
   module _ {S : Type 0} (values : Values V) (acts : Acting W V S) (lives : Lives acts values) where
     pub stays : {w : W} → view.Fits w → Later w 0 w
@@ -105,12 +108,12 @@ module _ {W V : Type 0} (view : Views W V) where
     behind : {A : Type 0} (Goal : Comes V S A → W → Type 0) {w mid : W} {a : Act V} {next : Answer a → Plan V S A} (r : Answer a) → acts w a (Ok r) mid → Followed Goal mid (next r) → Followed Goal w (Asks a next)
     behind Goal r h (followed c after f g) = followed c after (asks r h f) g
 
-    asked : {A : Type 0} (Goal : Comes V S A → W → Type 0) (w : W) (a : Act V) (next : Answer a → Plan V S A) → ((why : S) (after : W) → Goal (Stops why) after) → Answered acts w a
+    asked : {A : Type 0} (Goal : Comes V S A → W → Type 0) (w : W) (a : Act V) (next : Answer a → Plan V S A) → ((why : S) (after : W) → view.Halts w after → Goal (Stops why) after) → Answered acts w a
         → ((r : Answer a) (mid : W) → Later w (cost a) mid → KnowsAnswer (view.Knows mid) a r → Followed Goal mid (next r)) → Followed Goal w (Asks a next)
     asked Goal w a next s (answers r mid h l k) go = behind Goal r h (go r mid l k)
-    asked Goal w a next s (stopped why after h) go = followed (Stops why) after (stops h) (s why after)
+    asked Goal w a next s (stopped why after h q) go = followed (Stops why) after (stops h) (s why after q)
 
-    pub ask : {A : Type 0} (Goal : Comes V S A → W → Type 0) (w : W) (a : Act V) (next : Answer a → Plan V S A) → ((why : S) (after : W) → Goal (Stops why) after) → view.Fits w → KnowsAct (view.Knows w) a
+    pub ask : {A : Type 0} (Goal : Comes V S A → W → Type 0) (w : W) (a : Act V) (next : Answer a → Plan V S A) → ((why : S) (after : W) → view.Halts w after → Goal (Stops why) after) → view.Fits w → KnowsAct (view.Knows w) a
         → ((r : Answer a) (mid : W) → Later w (cost a) mid → KnowsAnswer (view.Knows mid) a r → Followed Goal mid (next r)) → Followed Goal w (Asks a next)
     ask Goal w a next s f k go = asked Goal w a next s (lives.answered w a f k) go
 
@@ -121,4 +124,4 @@ module _ {W V : Type 0} (view : Views W V) where
     lift In In' size size' make s s' w builds smaller (Goes a) after (n, (l, (i, g))) = (n, (l, (builds after n ⊥ a l i, smaller a g)))
     lift In In' size size' make s s' w builds smaller (Leaves v) after h = h
     lift In In' size size' make s s' w builds smaller (Calls f vs a) after (n, (l, (e, (k, (ks, i))))) = (n, (l, (e, (k, (ks, builds after (suc n) ⊤ a l i)))))
-    lift In In' size size' make s s' w builds smaller (Stops why) after h = tt
+    lift In In' size size' make s s' w builds smaller (Stops why) after h = h

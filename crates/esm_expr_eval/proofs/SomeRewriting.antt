@@ -18,7 +18,7 @@ use Rattle.esm_expr_eval.proofs.HasRewriting.{Comes', comes, come, Here, Arrives
 
 -- nothing is asked of worlds and values
 abbrev any : (W : Type 0) → Views W Worth
-any W = record { Fits = λ w. ⊤; Knows = λ w v. ⊤; Took = λ w n after. ⊤ }
+any W = record { Fits = λ w. ⊤; Knows = λ w v. ⊤; Took = λ w n after. ⊤; Halts = λ w after. ⊤ }
 
 completion_any : (c : Completion Worth) → KnowsCompletion (λ v. ⊤) c
 completion_any (Normal v) = tt
@@ -36,7 +36,7 @@ answer_any (act.Import v) r = tt
 module _ {W S : Type 0} (url : W → List ℕ) (acts : Acting W Worth S) (always : ActsAlways acts) where
   answered_by : (w : W) (a : Act Worth) (r : Result (Answer a) S) (after : W) → acts w a r after → Answered (any W) acts w a
   answered_by w a (Ok r) after h = answers r after h (record { fits = tt; keeps = λ v k. tt; took = tt }) (answer_any a r)
-  answered_by w a (Err why) after h = stopped why after h
+  answered_by w a (Err why) after h = stopped why after h tt
 
   lives : Lives (any W) acts numbered
   lives = record {
@@ -45,6 +45,7 @@ module _ {W S : Type 0} (url : W → List ℕ) (acts : Acting W Worth S) (always
     truth = λ w b. tt;
     text = λ w t. tt;
     none = λ w. tt;
+    halts = λ a b. tt;
     both = λ a b. tt;
   }
 
