@@ -8,3 +8,5 @@ pub mod Examples
 pub mod Grown
 pub mod SomeAct
 pub mod SomeMove
+pub mod SomeSegment
+pub mod Outcomes

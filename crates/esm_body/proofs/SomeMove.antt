@@ -272,7 +272,7 @@ module _ {N I : Type 0} (same : N → N → Bool) (modules : I → Modules N) (l
       by (Waits v s) (a, (n, (l, (kv, q)))) = (a, (n, (out l, (kv, ((l.fits.scopes.0, q), kept_rest k ⊤ rest (out l) h)))))
 
   -- the scopes behind a rewriting are as many as before
-  shape : (k : Kind) (w : W) (s : ℕ) (move : Move V Limit) (after : W) → Fits' k w s move after → length after.scopes ≡ length w.scopes
+  pub shape : (k : Kind) (w : W) (s : ℕ) (move : Move V Limit) (after : W) → Fits' k w s move after → length after.scopes ≡ length w.scopes
   shape k w s (On (Goes r)) after (n, (l, q)) = l.scopes
   shape k w s (On (Leaves v)) after (n, (l, q)) = l.scopes
   shape k w s (On (Calls f vs r)) after (n, (l, q)) = l.scopes

@@ -9,7 +9,7 @@ use Rattle.esm_ast.specs.ModuleTree.{stmt_returns, stmts_return}
 use Rattle.esm_resolve.specs.Keys.{AreNamespaceKeysOf}
 use Rattle.esm_values.specs.Value.{Value, Undefined, Truth, Text, Func, Error, Namespace, Promise}
 use Rattle.esm_expr_eval.specs.Ready.{Holds}
-use Rattle.esm_env.specs.Declarations.{FunctionCode}
+use Rattle.esm_env.specs.Declarations.{FunctionCode, body_of}
 use Rattle.esm_env.specs.Modules.{Modules, graph, function_of}
 use Rattle.esm_env.specs.Cells.{Cells, Reading}
 use Rattle.esm_env.specs.Cells.{Reading as reading}
@@ -19,7 +19,7 @@ use Rattle.esm_body.specs.Rest.{Use, Part, Rest, end, more}
 use Rattle.esm_body.specs.Rest.Use.{Drops, Sets, Writes, Throws, Returns, Prints, Chooses, Awaits}
 use Rattle.esm_body.specs.Rest.Part.{Whole, Does, Stands, In, Tries}
 use Rattle.esm_body.specs.State.{State}
-use Rattle.esm_body.specs.Segment.{Active}
+use Rattle.esm_body.specs.Segment.{Active, Ended, Normal, Thrown, Awaiting, Stopped}
 
 -- ---- values and modules
 
@@ -42,7 +42,8 @@ module _ {N : Type 0} (g : Modules N) (linked : N → Bool) where
   abbrev pub AreKnownCells : Cells N → Type 0
   AreKnownCells cells = (m : N) (x : List ℕ) (v : Value N) → cells m x ≡ Some v → IsKnown v
 
-  -- a linked module's names, and the members and keys of its namespace, can be read, and no await stands in its functions
+  -- a linked module's names, and the members and keys of its namespace, can be read; no await stands in its functions, and no
+  -- return in its body
   pub record AreReadable : Type 0 where
     pub names : (cells : Cells N) (m : N) (x : List ℕ) → AreKnownCells cells → linked m ≡ true
         → (read : Reading (Value N)) × IsReadingOf g cells m x read × IsKnownReading read
@@ -51,6 +52,7 @@ module _ {N : Type 0} (g : Modules N) (linked : N → Bool) where
     pub keys : (m : N) → linked m ≡ true → (keys : List (List ℕ)) × AreNamespaceKeysOf (graph g) (g.number m) keys × All IsUtf8 keys
     pub functions : (m : N) (index : ℕ) (f : FunctionCode) → linked m ≡ true → function_of g m index ≡ Some f
         → stmts_await f.body ≡ false
+    pub bodies : (m : N) → linked m ≡ true → stmts_return (body_of (g.tree m)) ≡ false
 
 -- ---- what may stand in a body, and in a function
 
@@ -136,3 +138,16 @@ module _ {N I : Type 0} (modules : I → Modules N) (linked : I → N → Bool) 
     pub home : linked w.outer.imports m ≡ true
     pub holds : HoldsRest (Knows w.outer.imports) ⊥ (kind_by awaits callers) rest
     pub before : FitCallers w.outer.imports awaits callers
+
+  -- the state fits still, and what was known is known still
+  pub record StaysFit (w after : State N I) : Type 0 where
+    pub fits : FitsState after
+    pub keeps : (v : Value N) → Knows w.outer.imports v → Knows after.outer.imports v
+
+  -- how a segment ends: only a body that awaits stands at an await, with a rest that fits. Behind a limit nothing is said
+  abbrev pub FitsEnd : State N I → Bool → Ended N → State N I → Type 0
+  FitsEnd w awaits Normal after = StaysFit w after
+  FitsEnd w awaits (Thrown v) after = StaysFit w after × Knows after.outer.imports v
+  FitsEnd w awaits (Awaiting v rest) after = StaysFit w after × (awaits ≡ true) × Knows after.outer.imports v
+      × HoldsRest (Knows after.outer.imports) ⊤ (of_body awaits) rest
+  FitsEnd w awaits (Stopped why) after = ⊤

@@ -18,7 +18,7 @@ use Rattle.esm_body.specs.State.{State, Importing}
 use Rattle.esm_body.specs.Acts.{Inner, read_answer, throws_new, not_initialized}
 use Rattle.esm_body.specs.Moves.{Move, On, RewritesBody}
 use Rattle.esm_body.specs.Segment.{Active, Ended, Segment}
-use Rattle.esm_body.specs.Fits.{AreReadable, IsKnown, FitsRun}
+use Rattle.esm_body.specs.Fits.{AreReadable, IsKnown, FitsRun, FitsEnd}
 use Rattle.esm_body.specs.Bodies.{StartsBody, RunsBody, ResumesBody}
 
 abbrev pub Around : Type 0
@@ -79,8 +79,9 @@ KeepsModules linked f = (o : Around) (m : ℕ) (text : List ℕ) (p : ℕ) → A
     → AreReadable (f o m text p).1.imports (linked (f o m text p).1.imports)
     × ((v : Value ℕ) → IsKnown o.imports (linked o.imports) v → IsKnown (f o m text p).1.imports (linked (f o m text p).1.imports) v)
 
--- from each state that fits, a segment has an outcome
+-- from each state that fits, a segment has an outcome, and what it leaves fits
 abbrev pub HasSegment : Type 0
 HasSegment = (linked : Modules ℕ → ℕ → Bool) (f : Importer) → KeepsModules linked f → (w : Here) (m : ℕ) (awaits : Bool)
     (r : Rest (Value ℕ)) (callers : List (Active ℕ)) → FitsRun itself linked w m awaits r callers
-    → (how : Ended ℕ) × ((after : Here) × Segment nat_eq itself (imports_by f) w m r callers how after)
+    → (how : Ended ℕ) × ((after : Here) × (Segment nat_eq itself (imports_by f) w m r callers how after
+    × FitsEnd itself linked w awaits how after))

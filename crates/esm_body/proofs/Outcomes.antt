@@ -1,0 +1,13 @@
+-- A segment has an outcome, over modules with numbers.
+use Rattle.std.proofs.Common.{◌≡◌, ℕ, Bool, List}
+use Rattle.std.specs.Prelude.{nat_eq}
+use Rattle.esm_env.specs.Modules.{Modules}
+use Rattle.esm_body.specs.Laws.{Importer, imports_by, itself, KeepsModules, HasSegment}
+use Rattle.esm_body.proofs.SomeAct.{BeginsSome}
+use Rattle.esm_body.proofs.SomeSegment.{some_segment}
+
+begins_some : (linked : Modules ℕ → ℕ → Bool) (f : Importer) → KeepsModules linked f → BeginsSome itself linked (imports_by f)
+begins_some linked f k = record { some = λ o m text p r. let q = k o m text p r in ((f o m text p).0, ((f o m text p).1, (Rattle.std.proofs.Common.refl, (q.0, q.1)))) }
+
+pub has_segment : HasSegment
+has_segment linked f k w m awaits r callers h = some_segment nat_eq itself linked (imports_by f) (begins_some linked f k) awaits w m r callers h
