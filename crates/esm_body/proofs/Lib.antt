@@ -9,4 +9,5 @@ pub mod Grown
 pub mod SomeAct
 pub mod SomeMove
 pub mod SomeSegment
+pub mod SomeBody
 pub mod Outcomes

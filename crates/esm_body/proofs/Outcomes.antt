@@ -1,13 +1,21 @@
--- A segment has an outcome, over modules with numbers.
+-- A segment, and each call for a body, has an outcome, over modules with numbers.
 use Rattle.std.proofs.Common.{◌≡◌, ℕ, Bool, List}
 use Rattle.std.specs.Prelude.{nat_eq}
 use Rattle.esm_env.specs.Modules.{Modules}
-use Rattle.esm_body.specs.Laws.{Importer, imports_by, itself, KeepsModules, HasSegment}
+use Rattle.esm_body.specs.Laws.{Importer, imports_by, itself, KeepsModules, HasSegment, HaveOutcomes}
 use Rattle.esm_body.proofs.SomeAct.{BeginsSome}
 use Rattle.esm_body.proofs.SomeSegment.{some_segment}
+use Rattle.esm_body.proofs.SomeBody.{some_start, some_run, some_resume}
 
 begins_some : (linked : Modules ℕ → ℕ → Bool) (f : Importer) → KeepsModules linked f → BeginsSome itself linked (imports_by f)
 begins_some linked f k = record { some = λ o m text p r. let q = k o m text p r in ((f o m text p).0, ((f o m text p).1, (Rattle.std.proofs.Common.refl, (q.0, q.1)))) }
 
 pub has_segment : HasSegment
 has_segment linked f k w m awaits r callers h = some_segment nat_eq itself linked (imports_by f) (begins_some linked f k) awaits w m r callers h
+
+pub have_outcomes : HaveOutcomes
+have_outcomes = record {
+  start = λ linked f k w m done h home. some_start nat_eq itself linked (imports_by f) (begins_some linked f k) w m done h home;
+  run = λ linked f k w m h home a. some_run nat_eq itself linked (imports_by f) (begins_some linked f k) w m h home a;
+  resume = λ linked f k w m t how h home e r g. some_resume nat_eq itself linked (imports_by f) (begins_some linked f k) w m t how h home e r g;
+}
