@@ -5,6 +5,9 @@ pub mod OneSegment
 pub mod OneOutcome
 pub mod Limits
 pub mod Examples
+pub mod Readable
+pub mod TreesFit
+pub mod Ordered
 pub mod Grown
 pub mod SomeAct
 pub mod SomeMove

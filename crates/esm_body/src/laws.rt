@@ -42,3 +42,8 @@ pub fn has_segment()
 pub fn has_outcomes()
     ensures { HaveOutcomes }
 {}
+
+/// tmp
+pub fn tmp()
+    ensures { HaveOutcomes }
+{}
