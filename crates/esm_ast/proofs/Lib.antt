@@ -6,3 +6,4 @@ pub mod Scalars
 pub mod Forms
 pub mod NamesUtf8
 pub mod SpelledTree
+pub mod NamesExported

@@ -1,5 +1,5 @@
 -- What is known stays known in what remains; an end stands for what was under way; sizes.
-use Rattle.std.proofs.Common.{◌≡◌, ℕ, zero, suc, ◌+◌, ◌<◌, ◌≤◌, Bool, true, false, List, [], ◌∷◌, ◌++◌, Option, Some, None, map, refl, ap, subst, sym, ◌∙◌, arith}
+use Rattle.std.proofs.Common.{◌≡◌, ℕ, suc, ◌+◌, ◌≤◌, Bool, true, false, List, [], ◌∷◌, Option, Some, None, map, refl, ap, sym, ◌∙◌, arith}
 use Rattle.std.specs.Prelude.{⊤}
 use Rattle.std.proofs.lemmas.Bool.{or_parts}
 use Rattle.esm_tree.specs.Syntax as ast
@@ -240,9 +240,10 @@ module _ {V : Type 0} (P : V → Type 0) (values : Values V) (u : P values.undef
     pub new_whole : (ss : Stmts) → FitsStmts k ss → HoldsRest P ⊥ k (whole ss)
     unfolding stmts_return stmts_await
     new_whole nothing h = tt
-    new_whole (first s ss) h =
-        (record { returns = λ e. (or_parts _ _ (h.returns e)).0; awaits = λ e. (or_parts _ _ (h.awaits e)).0 },
-        new_whole ss (record { returns = λ e. (or_parts _ _ (h.returns e)).1; awaits = λ e. (or_parts _ _ (h.awaits e)).1 }))
+    new_whole (first s ss) h = (
+      record { returns = λ e. (or_parts _ _ (h.returns e)).0; awaits = λ e. (or_parts _ _ (h.awaits e)).0 },
+      new_whole ss (record { returns = λ e. (or_parts _ _ (h.returns e)).1; awaits = λ e. (or_parts _ _ (h.awaits e)).1 }),
+    )
 
     new_scope : (ds : List Declaration) → HoldsScope P (map unset ds)
     new_scope [] = tt
@@ -284,7 +285,6 @@ module _ {V : Type 0} (P : V → Type 0) (values : Values V) (u : P values.undef
         by true f = refl
         by false f = absurd (let g : c ≡ false = f refl in let x : true ≡ false = sym e ∙ g in cc)
 
-
     pub new_begin : (st : Statement) (rest : Rest V) → FitsStmt k st → HoldsRest P ⊥ k rest → HoldsRest P ⊥ k (begin values st rest)
     unfolding stmt_returns stmt_awaits
     new_begin stmts.Empty rest h r = r
@@ -294,15 +294,30 @@ module _ {V : Type 0} (P : V → Type 0) (values : Values V) (u : P values.undef
     new_begin (stmts.Default i) rest h r = (new_init (Sets default_local) i tt h.awaits, r)
     new_begin (stmts.Assign x i) rest h r = (new_init (Writes x) i tt h.awaits, r)
     new_begin (stmts.If e ss) rest h r = (((record { returns = h.returns; awaits = h.awaits }, record { returns = λ e. refl; awaits = λ e. refl }), new_term e), r)
-    new_begin (stmts.IfElse e ss others) rest h r =
-        (((record { returns = λ e. (or_parts _ _ (h.returns e)).0; awaits = λ e. (or_parts _ _ (h.awaits e)).0 },
-        record { returns = λ e. (or_parts _ _ (h.returns e)).1; awaits = λ e. (or_parts _ _ (h.awaits e)).1 }), new_term e), r)
-    new_begin (stmts.Try ss handler) rest h r =
-        (((new_block ss (record { returns = λ e. (or_parts _ _ (h.returns e)).0; awaits = λ e. (or_parts _ _ (h.awaits e)).0 }), tt),
-        record { returns = λ e. (or_parts _ _ (h.returns e)).1; awaits = λ e. (or_parts _ _ (h.awaits e)).1 }), r)
-    new_begin (stmts.TryCatch ss x handler) rest h r =
-        (((new_block ss (record { returns = λ e. (or_parts _ _ (h.returns e)).0; awaits = λ e. (or_parts _ _ (h.awaits e)).0 }), tt),
-        record { returns = λ e. (or_parts _ _ (h.returns e)).1; awaits = λ e. (or_parts _ _ (h.awaits e)).1 }), r)
+    new_begin (stmts.IfElse e ss others) rest h r = (
+      (
+        (
+          record { returns = λ e. (or_parts _ _ (h.returns e)).0; awaits = λ e. (or_parts _ _ (h.awaits e)).0 },
+          record { returns = λ e. (or_parts _ _ (h.returns e)).1; awaits = λ e. (or_parts _ _ (h.awaits e)).1 },
+        ),
+        new_term e,
+      ),
+      r,
+    )
+    new_begin (stmts.Try ss handler) rest h r = (
+      (
+        (new_block ss (record { returns = λ e. (or_parts _ _ (h.returns e)).0; awaits = λ e. (or_parts _ _ (h.awaits e)).0 }), tt),
+        record { returns = λ e. (or_parts _ _ (h.returns e)).1; awaits = λ e. (or_parts _ _ (h.awaits e)).1 },
+      ),
+      r,
+    )
+    new_begin (stmts.TryCatch ss x handler) rest h r = (
+      (
+        (new_block ss (record { returns = λ e. (or_parts _ _ (h.returns e)).0; awaits = λ e. (or_parts _ _ (h.awaits e)).0 }), tt),
+        record { returns = λ e. (or_parts _ _ (h.returns e)).1; awaits = λ e. (or_parts _ _ (h.awaits e)).1 },
+      ),
+      r,
+    )
     new_begin (stmts.Throw e) rest h r = ((tt, new_term e), r)
     new_begin stmts.Return rest h r = ((may_return true h.returns refl, u), r)
     new_begin (stmts.ReturnValue e) rest h r = ((may_return true h.returns refl, new_term e), r)

@@ -8,6 +8,10 @@ pub mod Examples
 pub mod Readable
 pub mod TreesFit
 pub mod Ordered
+pub mod Resolved
+pub mod NamesRead
+pub mod KeysThere
+pub mod LinkedRead
 pub mod Grown
 pub mod SomeAct
 pub mod SomeMove

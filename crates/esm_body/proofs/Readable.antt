@@ -10,7 +10,7 @@ use Rattle.esm_env.specs.Declarations.{FunctionCode, body_of}
 use Rattle.esm_env.specs.Modules.{Modules, graph, function_of}
 use Rattle.esm_env.specs.Cells.{Cells, Reading}
 use Rattle.esm_env.specs.Reading.{IsReadingOf, IsMemberOf}
-use Rattle.esm_body.specs.Fits.{IsKnown, IsKnownReading, AreKnownCells}
+use Rattle.esm_body.specs.Fits.{IsKnownReading, AreKnownCells}
 
 module _ {N : Type 0} (g : Modules N) (linked : N → Bool) where
   -- a linked module's names, and the members and keys of its namespace, can be read; no await stands in its functions, and no

@@ -1,35 +1,37 @@
 -- In a state that fits, each call on the world is answered.
-use Rattle.std.proofs.Common.{◌≡◌, ℕ, zero, suc, ◌+◌, ◌<◌, ◌≤◌, Bool, true, false, List, [], ◌∷◌, Option, Some, None, refl, ap, subst, sym, ◌∙◌, arith, length}
+use Rattle.std.proofs.Common.{◌≡◌, ℕ, zero, suc, ◌+◌, ◌≤◌, Bool, true, false, List, [], ◌∷◌, Option, Some, None, refl, ap, subst, sym, ◌∙◌, arith, length}
 use Rattle.std.proofs.lemmas.Bool.Decides.{nat_tests}
-use Rattle.std.specs.Prelude.{⊤, Result, Ok, Err, nat_lt, codes}
+use Rattle.std.specs.Prelude.{Result, Ok, Err, nat_lt, codes}
 use Rattle.esm_base.specs.declared.limits.Limit.{Limit}
 use Rattle.esm_base.specs.declared.limits.Limit.TheVariants.{L3, L5}
 use Rattle.esm_base.specs.declared.limits.TheConstants.{MAX_STEPS, MAX_LOG_BYTES}
 use Rattle.esm_values.specs.Value.{Value, Undefined, Truth, Text, Func, Error, Namespace, Promise}
 use Rattle.esm_values.specs.Display.{namespace_text, printed_line}
 use Rattle.esm_values.specs.Operators.{values, text_of}
-use Rattle.esm_values.specs.Completion.{Completion, Normal, Throw}
+use Rattle.esm_values.specs.Completion.{Normal, Throw}
 use Rattle.esm_values.specs.Acts.{Act, Answer}
 use Rattle.esm_values.specs.Acts.{Act as act}
 use Rattle.esm_values.specs.declared.errors.FaultKind.{FaultKind}
 use Rattle.esm_values.specs.declared.errors.FaultKind.TheVariants as kinds
-use Rattle.esm_expr_eval.proofs.Lands.{AllKnown, KnowsAct, KnowsAnswer, cost, Views, Later, Answered, answers, stopped, Lives}
+use Rattle.esm_expr_eval.proofs.Lands.{AllKnown, KnowsAct, Views, Later, Answered, answers, stopped, Lives}
 use Rattle.esm_promise.specs.Promises.{next_promise}
 use Rattle.esm_promise.specs.Outer.{Outer}
 use Rattle.esm_env.specs.Modules.{Modules}
-use Rattle.esm_env.specs.Cells.{Cell, Cells, Reading, read_cell, read_value}
+use Rattle.esm_env.specs.Cells.{Cell, Reading, read_cell, read_value}
 use Rattle.esm_env.specs.Cells.{Reading as reading}
 use Rattle.esm_body.specs.Scopes.{Scope, in_scope, in_scopes, cell_by, or_cell}
-use Rattle.esm_body.specs.State.{State, Importing, Told, new_error, take_steps, steps_by, add_line, line_by, with_error}
-use Rattle.esm_body.specs.Acts.{Inner, Acts, Tells, Displays, DisplaysAll, ReadsBy, ReadsName, BeginsBy, read_answer, over_scopes, with_state, with_new, with_outer, import_answer, not_initialized, not_defined, error_member, member_by, refuse_import, with_promise}
-use Rattle.esm_body.specs.Fits.{IsKnown, IsKnownReading, AreKnownCells, AreReadable, HoldsValue, HoldsScope, HoldScopes, FitsState, Knows}
+use Rattle.esm_body.specs.State.{State, Importing, new_error, steps_by, line_by}
+use Rattle.esm_body.specs.Acts.{Inner, Acts, Displays, DisplaysAll, ReadsBy, ReadsName, BeginsBy, over_scopes, with_state, with_new, with_outer, not_initialized, not_defined, error_member, member_by, refuse_import, with_promise}
+use Rattle.esm_body.specs.Fits.{IsKnown, IsKnownReading, AreLinked, HoldsValue, HoldsScope, HoldScopes, FitsState, Knows}
+use Rattle.esm_body.proofs.Readable.{AreReadable}
 use Rattle.esm_body.proofs.Grown.{held_scopes}
 
 -- import() has an outcome, and leaves linked modules as they can be read
 pub record BeginsSome {N I : Type 0} (modules : I → Modules N) (linked : I → N → Bool) (begins : Importing N I) : Type 0 where
-  pub some : (o : Outer N I) (m : N) (text : List ℕ) (p : ℕ) → AreReadable (modules o.imports) (linked o.imports)
+  pub readable : (i : I) → AreLinked (modules i) (linked i) → AreReadable (modules i) (linked i)
+  pub some : (o : Outer N I) (m : N) (text : List ℕ) (p : ℕ) → AreLinked (modules o.imports) (linked o.imports)
       → (r : Result (Unit {0}) Limit) × ((after : Outer N I) × (begins o m text p r after
-      × (AreReadable (modules after.imports) (linked after.imports) × ((v : Value N) → Knows modules linked o.imports v → Knows modules linked after.imports v))))
+      × (AreLinked (modules after.imports) (linked after.imports) × ((v : Value N) → Knows modules linked o.imports v → Knows modules linked after.imports v))))
 
 -- steps are taken, no more than may be
 pub record Took {N I : Type 0} (w : State N I) (n : ℕ) (after : State N I) : Type 0 where
@@ -76,7 +78,7 @@ module _ {N I : Type 0} (same : N → N → Bool) (modules : I → Modules N) (l
 
     new_later : (w : Inner N I) (kind : FaultKind) (message : List ℕ) → FitsInner m w → Later (view m) w 0 (with_new w kind message)
     new_later w kind message f = record {
-      fits = record { state = record { readable = f.state.readable; cells = f.state.cells }; scopes = f.scopes; home = f.home };
+      fits = record { state = record { whole = f.state.whole; cells = f.state.cells }; scopes = f.scopes; home = f.home };
       keeps = λ v k. k;
       took = record { scopes = refl; took = record { steps = omega arith; bound = λ l. absurd (omega (arith, l)) } };
     }
@@ -111,7 +113,7 @@ module _ {N I : Type 0} (same : N → N → Bool) (modules : I → Modules N) (l
     reads_by : (w : Inner N I) (x : List ℕ) → FitsInner m w → (o : Option (Cell (Value N))) → in_scopes w.scopes x ≡ o
         → (read : Reading (Value N)) × (ReadsBy same modules begins m w.state x o read × IsKnownReading (modules w.state.outer.imports) (linked w.state.outer.imports) read)
     reads_by w x f (Some c) e = (read_cell (Some c), (refl, value_read (modules w.state.outer.imports) (linked w.state.outer.imports) c.value (scopes_known (Known w.state) w.scopes x f.scopes c e)))
-    reads_by w x f None e = let r = f.state.readable.names w.state.cells m x f.state.cells f.home in (r.0, (r.1, r.2))
+    reads_by w x f None e = let r = (some.readable w.state.outer.imports f.state.whole).names w.state.cells m x f.state.cells f.home in (r.0, (r.1, r.2))
 
     reads : (w : Inner N I) (x : List ℕ) → FitsInner m w → Reads w x
     reads w x f = reads_by w x f (in_scopes w.scopes x) refl
@@ -141,7 +143,7 @@ module _ {N I : Type 0} (same : N → N → Bool) (modules : I → Modules N) (l
     member_answered w (Text t) x f k = no_member w (Text t) x f refl
     member_answered w (Func n i) x f k = no_member w (Func n i) x f refl
     member_answered w (Error id) x f k = answers (Normal (error_member w.state.outer.errors id x)) w refl (same_later w f) (error_known (Known w.state) (λ t. tt) tt _ _ _ id)
-    member_answered w (Namespace n) x f k = let r = f.state.readable.members w.state.cells n x f.state.cells k in member_read w n x f r.0 r.1 r.2
+    member_answered w (Namespace n) x f k = let r = (some.readable w.state.outer.imports f.state.whole).members w.state.cells n x f.state.cells k in member_read w n x f r.0 r.1 r.2
     member_answered w (Promise id) x f k = no_member w (Promise id) x f refl
 
     -- ---- texts
@@ -152,7 +154,7 @@ module _ {N I : Type 0} (same : N → N → Bool) (modules : I → Modules N) (l
     shows w (Text t) f k = (_, refl)
     shows w (Func n i) f k = (_, refl)
     shows w (Error id) f k = (_, refl)
-    shows w (Namespace n) f k = let r = f.state.readable.keys n k in (namespace_text r.0, (r.0, r.1, r.2, refl))
+    shows w (Namespace n) f k = let r = (some.readable w.state.outer.imports f.state.whole).keys n k in (namespace_text r.0, (r.0, r.1, r.2, refl))
     shows w (Promise id) f k = (_, refl)
 
     shows_all : (w : Inner N I) (vs : List (Value N)) → FitsInner m w → AllKnown (Known w.state) vs → (texts : List (List ℕ)) × DisplaysAll modules w.state vs texts
@@ -168,7 +170,7 @@ module _ {N I : Type 0} (same : N → N → Bool) (modules : I → Modules N) (l
     prints_by w vs f texts d false e =
         answers tt (over_scopes w (line_by false w.state (printed_line texts))).1 (texts, d, ap (λ b. over_scopes w (line_by b w.state (printed_line texts))) (sym e))
         (record {
-          fits = record { state = record { readable = f.state.readable; cells = f.state.cells }; scopes = f.scopes; home = f.home };
+          fits = record { state = record { whole = f.state.whole; cells = f.state.cells }; scopes = f.scopes; home = f.home };
           keeps = λ v k. k;
           took = record { scopes = refl; took = record { steps = omega arith; bound = λ l. absurd (omega (arith, l)) } };
         }) tt
@@ -183,7 +185,7 @@ module _ {N I : Type 0} (same : N → N → Bool) (modules : I → Modules N) (l
     step_by w n f false e =
         answers tt (over_scopes w (steps_by false w.state n)).1 (ap (λ b. over_scopes w (steps_by b w.state n)) (sym e))
         (record {
-          fits = record { state = record { readable = f.state.readable; cells = f.state.cells }; scopes = f.scopes; home = f.home };
+          fits = record { state = record { whole = f.state.whole; cells = f.state.cells }; scopes = f.scopes; home = f.home };
           keeps = λ v k. k;
           took = record { scopes = refl; took = record { steps = refl; bound = λ l. grind (arith, nat_tests) } };
         }) tt
@@ -194,13 +196,13 @@ module _ {N I : Type 0} (same : N → N → Bool) (modules : I → Modules N) (l
     refused w v f e =
         answers (Promise (next_promise w.state.outer.promises)) (with_state w (refuse_import w.state)) (subst (λ t. BeginsBy same modules begins m w t (Ok (Promise (next_promise w.state.outer.promises)), with_state w (refuse_import w.state))) (sym e) refl)
         (record {
-          fits = record { state = record { readable = f.state.readable; cells = f.state.cells }; scopes = f.scopes; home = f.home };
+          fits = record { state = record { whole = f.state.whole; cells = f.state.cells }; scopes = f.scopes; home = f.home };
           keeps = λ v k. k;
           took = record { scopes = refl; took = record { steps = omega arith; bound = λ l. absurd (omega (arith, l)) } };
         }) tt
 
     begun_by : (w : Inner N I) (v : Value N) (text : List ℕ) → FitsInner m w → text_of w.state.outer.errors v ≡ Some text → (r : Result (Unit {0}) Limit) (after : Outer N I)
-        → begins (with_promise w.state).outer m text (next_promise w.state.outer.promises) r after → AreReadable (modules after.imports) (linked after.imports)
+        → begins (with_promise w.state).outer m text (next_promise w.state.outer.promises) r after → AreLinked (modules after.imports) (linked after.imports)
         → ((v : Value N) → Knows modules linked w.state.outer.imports v → Knows modules linked after.imports v) → Answer' w (act.Import v)
     begun_by w v text f e (Err why) after h a k =
         stopped why (with_state w (with_outer w.state after)) (subst (λ t. BeginsBy same modules begins m w t (Err why, with_state w (with_outer w.state after))) (sym e) (Err why, after, h, refl)) refl
@@ -209,7 +211,7 @@ module _ {N I : Type 0} (same : N → N → Bool) (modules : I → Modules N) (l
         (subst (λ t. BeginsBy same modules begins m w t (Ok (Promise (next_promise w.state.outer.promises)), with_state w (with_outer w.state after))) (sym e) (Ok done, after, h, refl))
         (record {
           fits = record {
-            state = record { readable = a; cells = λ n x v e. k v (f.state.cells n x v e) };
+            state = record { whole = a; cells = λ n x v e. k v (f.state.cells n x v e) };
             scopes = held_scopes _ _ k w.scopes f.scopes;
             home = k (Namespace m) f.home;
           };
@@ -220,7 +222,7 @@ module _ {N I : Type 0} (same : N → N → Bool) (modules : I → Modules N) (l
     imports_by : (w : Inner N I) (v : Value N) → FitsInner m w → (o : Option (List ℕ)) → text_of w.state.outer.errors v ≡ o → Answer' w (act.Import v)
     imports_by w v f None e = refused w v f e
     imports_by w v f (Some text) e =
-        let b = some.some (with_promise w.state).outer m text (next_promise w.state.outer.promises) f.state.readable in
+        let b = some.some (with_promise w.state).outer m text (next_promise w.state.outer.promises) f.state.whole in
         begun_by w v text f e b.0 b.1.0 b.1.1.0 b.1.1.1.0 b.1.1.1.1
 
     -- ---- each call

@@ -1,9 +1,8 @@
 -- Each call for a body has an outcome, in a state that fits.
-use Rattle.std.proofs.Common.{◌≡◌, ℕ, Bool, true, false, ◌||◌, List, [], ◌∷◌, Option, Some, None, refl, ap, subst, sym, ◌∙◌, arith, length}
-use Rattle.std.specs.Prelude.{⊤, Result, Ok, Err, nat_lt}
+use Rattle.std.proofs.Common.{◌≡◌, ℕ, Bool, true, false, ◌||◌, List, [], ◌∷◌, Some, refl, ap, sym, ◌∙◌}
+use Rattle.std.specs.Prelude.{⊤, Result, Ok, Err}
 use Rattle.std.specs.List.{list_any}
 use Rattle.esm_base.specs.declared.limits.Limit.{Limit}
-use Rattle.esm_base.specs.declared.limits.TheConstants.{MAX_LOG_BYTES}
 use Rattle.esm_tree.specs.Syntax.{Item, ImportEffect, ImportFrom, ExportAll, ExportAllAs, ExportFrom, ExportList, ExportStatement, ExportFunction, ExportDefaultFunction, Function, Statement}
 use Rattle.esm_ast.specs.Entries.{item_awaits, stmts_await, entries_of, entries_with}
 use Rattle.esm_values.specs.Value.{Value}
@@ -15,9 +14,9 @@ use Rattle.esm_env.specs.Modules.{Modules, entries}
 use Rattle.esm_expr_eval.specs.Ready.{Holds}
 use Rattle.esm_body.specs.Rest.{Rest, fill_rest}
 use Rattle.esm_body.specs.State.{State, Importing, Told, Event, Begins, Ends, Throws, note, note_by, event_behind, event_line, line_by}
-use Rattle.esm_body.specs.Segment.{Ended, Normal, Thrown, Awaiting, Stopped, Segment}
+use Rattle.esm_body.specs.Segment.{Ended, Normal, Thrown, Awaiting, Stopped}
 use Rattle.esm_body.specs.Bodies.{StartsBody, RunsBody, ResumesBody, Taken, take_standing, given_by, url_in, whole_body, segment_end, body_end, ran_by, without_standing}
-use Rattle.esm_body.specs.Fits.{of_body, FitsState, FitsRun, FitsEnd, FitsStmts, HoldsRest, Knows, kind_by}
+use Rattle.esm_body.specs.Fits.{of_body, FitsState, FitsRun, FitsEnd, HoldsRest, Knows}
 use Rattle.esm_body.proofs.Grown.{new_whole, filled_rest}
 use Rattle.esm_body.proofs.SomeAct.{BeginsSome}
 use Rattle.esm_body.proofs.SomeSegment.{some_segment}
@@ -52,19 +51,19 @@ module _ {N I : Type 0} (same : N → N → Bool) (modules : I → Modules N) (l
   -- ---- a start is noted
 
   line_fits : (w : W) (m : N) (awaits : Bool) (r : Rest (Value N)) (event : Event N) (text : List ℕ) (b : Bool) → Run w m awaits r → Run (event_behind event (line_by b w text)).1 m awaits r
-  line_fits w m awaits r event text true f = record { state = record { readable = f.state.readable; cells = f.state.cells }; home = f.home; holds = f.holds; before = tt }
-  line_fits w m awaits r event text false f = record { state = record { readable = f.state.readable; cells = f.state.cells }; home = f.home; holds = f.holds; before = tt }
+  line_fits w m awaits r event text true f = record { state = record { whole = f.state.whole; cells = f.state.cells }; home = f.home; holds = f.holds; before = tt }
+  line_fits w m awaits r event text false f = record { state = record { whole = f.state.whole; cells = f.state.cells }; home = f.home; holds = f.holds; before = tt }
 
   note_fits : (url : N → List ℕ) (w : W) (m : N) (awaits : Bool) (r : Rest (Value N)) (event : Event N) (b : Bool) → Run w m awaits r → Run (note_by b url w event).1 m awaits r
   note_fits url w m awaits r event true f = line_fits w m awaits r event (event_line url event) _ f
-  note_fits url w m awaits r event false f = record { state = record { readable = f.state.readable; cells = f.state.cells }; home = f.home; holds = f.holds; before = tt }
+  note_fits url w m awaits r event false f = record { state = record { whole = f.state.whole; cells = f.state.cells }; home = f.home; holds = f.holds; before = tt }
 
   whole_fits : (w : W) (m : N) (awaits : Bool) → FitsState modules linked w → linked w.outer.imports m ≡ true → (awaits ≡ false → stmts_await (body_of ((modules w.outer.imports).tree m)) ≡ false)
       → Run w m awaits (whole_body same modules begins w m)
   whole_fits w m awaits f home a = record {
     state = f;
     home = home;
-    holds = new_whole (Knows modules linked w.outer.imports) (Rattle.esm_values.specs.Operators.values same) tt (λ b. tt) (λ t. tt) (of_body awaits) _ (record { returns = λ e. f.readable.bodies m home; awaits = a });
+    holds = new_whole (Knows modules linked w.outer.imports) (Rattle.esm_values.specs.Operators.values same) tt (λ b. tt) (λ t. tt) (of_body awaits) _ (record { returns = λ e. (some.readable w.outer.imports f.whole).bodies m home; awaits = a });
     before = tt;
   }
 
@@ -120,7 +119,7 @@ module _ {N I : Type 0} (same : N → N → Bool) (modules : I → Modules N) (l
   some_resume w m t how f home e h g =
       let mid = without_standing same modules begins w t.others in
       let s = some_segment same modules linked begins some true mid m (fill_rest (given_by how) t.standing.rest) [] (record {
-        state = record { readable = f.readable; cells = f.cells };
+        state = record { whole = f.whole; cells = f.cells };
         home = home;
         holds = filled_rest (Knows modules linked w.outer.imports) (given_by how) g (of_body true) t.standing.rest h;
         before = tt;

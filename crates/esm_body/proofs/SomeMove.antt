@@ -1,9 +1,8 @@
 -- What remains of a body has a rewriting, in a state that fits.
-use Rattle.std.proofs.Common.{◌≡◌, ℕ, zero, suc, ◌+◌, ◌<◌, ◌≤◌, ◌⊎◌, inl, inr, Bool, true, false, List, [], ◌∷◌, Option, Some, None, refl, ap, subst, sym, ◌∙◌, arith, length}
-use Rattle.std.specs.Prelude.{⊤, is_some, cond, ◌&&◌}
+use Rattle.std.proofs.Common.{◌≡◌, ℕ, suc, ◌+◌, ◌<◌, inl, inr, Bool, true, false, List, [], ◌∷◌, Option, Some, None, refl, ap, subst, sym, ◌∙◌, arith, length}
+use Rattle.std.specs.Prelude.{⊤, cond, ◌&&◌}
 use Rattle.std.specs.Str.{bytes_eq}
 use Rattle.esm_base.specs.declared.limits.Limit.{Limit}
-use Rattle.esm_base.specs.declared.limits.TheConstants.{MAX_STEPS}
 use Rattle.esm_tree.specs.Syntax.{Stmts}
 use Rattle.esm_tree.specs.Syntax.{Stmt as Statement}
 use Rattle.esm_values.specs.Value.{Value}
@@ -11,31 +10,28 @@ use Rattle.esm_values.specs.Acts.{Act as act}
 use Rattle.esm_values.specs.Plans.{Comes, inside, Plan, Follows}
 use Rattle.esm_values.specs.Plans.Comes.{Goes, Leaves, Calls, Stops}
 use Rattle.esm_values.specs.Plans.Plan.{Ends, Asks}
-use Rattle.esm_values.specs.Operators.{Look, values, look_of, is_true}
+use Rattle.esm_values.specs.Operators.{values, look_of, is_true}
 use Rattle.esm_values.specs.Operators.Look.{Func}
 use Rattle.esm_values.specs.declared.errors.FaultKind.{FaultKind}
 use Rattle.esm_expr_eval.specs.Terms.{Term}
 use Rattle.esm_expr_eval.specs.Terms.Term.{Val}
-use Rattle.esm_expr_eval.specs.Rewriting.{Rewrites}
 use Rattle.esm_expr_eval.specs.Ready.{Holds}
 use Rattle.esm_expr_eval.proofs.Lands.{AllKnown, Later, Followed, followed, stays, onward, ask}
 use Rattle.esm_expr_eval.proofs.HasRewriting.{size, Comes', comes, come, Here, Arrives}
 use Rattle.esm_env.specs.Modules.{Modules}
-use Rattle.esm_env.specs.Cells.{Cell, Cells, cell_at, write_cell}
-use Rattle.esm_env.specs.Bindings.{import_as}
-use Rattle.esm_env.specs.Writing.{Writing, write_at, write_by, constant_by}
-use Rattle.esm_env.specs.Writing.{Writing as writing}
-use Rattle.esm_body.specs.Scopes.{Scope, Slot, scope_of, handler_scope, caught_name, set_in, set_by, set_in_scopes, set_where, in_scope, in_scopes}
-use Rattle.esm_body.specs.Rest.{Use, Part, Rest, end, more, whole, begin, branch}
+use Rattle.esm_env.specs.Cells.{Cell, Cells, write_cell}
+use Rattle.esm_env.specs.Writing.{write_at, write_by, constant_by}
+use Rattle.esm_body.specs.Scopes.{Scope, scope_of, handler_scope, set_in, set_by, set_in_scopes, set_where, in_scope, in_scopes}
+use Rattle.esm_body.specs.Rest.{Use, Part, Rest, end, more, begin, branch}
 use Rattle.esm_body.specs.Rest.Part.{Whole, Does, Stands, In, Tries}
 use Rattle.esm_body.specs.Rest.Use.{Drops, Sets, Writes, Throws, Returns, Prints, Chooses, Awaits}
-use Rattle.esm_body.specs.State.{State, Importing, new_error}
-use Rattle.esm_body.specs.Acts.{Inner, with_state, with_new, set_at, set_name, write_name, write_in, scope_write, module_write, throws_unset, throws_constant}
+use Rattle.esm_body.specs.State.{State, Importing}
+use Rattle.esm_body.specs.Acts.{Inner, with_state, with_new, set_at, set_name, write_in, scope_write, module_write}
 use Rattle.esm_body.specs.Moves.{Move, On, Gives, Waits, RewritesBody, own_url, within, caught, wrote}
 use Rattle.esm_body.specs.Moves.RewritesBody.{begins_at, does, drops, sets, writes, throws, returns, prints, chooses, awaits, inner, inner_end, tries, tries_end}
-use Rattle.esm_body.specs.Fits.{Kind, FitsStmt, FitsStmts, FitsUse, HoldsValue, HoldsScope, HoldScopes, HoldsPart, HoldsRest, FitsState, Knows, AreKnownCells}
-use Rattle.esm_body.proofs.Grown.{held_scope, held_scopes, held_part, held_rest, opened_part, opened_rest, count, size_use, size_part, size_rest, size_positive, size_whole, new_whole, new_scope_of, new_branch, new_begin}
-use Rattle.esm_body.proofs.SomeAct.{BeginsSome, Took, took_none, took_both, Known, FitsInner, TookIn, view, acts, lives}
+use Rattle.esm_body.specs.Fits.{Kind, FitsStmt, FitsStmts, FitsUse, HoldsScope, HoldScopes, HoldsPart, HoldsRest}
+use Rattle.esm_body.proofs.Grown.{held_scope, held_rest, opened_rest, count, size_part, size_rest, size_whole, new_whole, new_scope_of, new_branch, new_begin}
+use Rattle.esm_body.proofs.SomeAct.{BeginsSome, Took, took_none, Known, FitsInner, view, acts, lives}
 
 module _ {N I : Type 0} (same : N → N → Bool) (modules : I → Modules N) (linked : I → N → Bool) (begins : Importing N I) (some : BeginsSome modules linked begins) (m : N) where
   abbrev W : Type 0
@@ -112,7 +108,7 @@ module _ {N I : Type 0} (same : N → N → Bool) (modules : I → Modules N) (l
   written : (w : W) (x : List ℕ) (v : V) → F w → K w v → Left w 0 (with_state w (record w.state { cells = write_cell same w.state.cells m x v }))
   written w x v f k = record {
     fits = record {
-      state = record { readable = f.state.readable; cells = set_cells same w w.state.cells m x v k f.state.cells };
+      state = record { whole = f.state.whole; cells = set_cells same w w.state.cells m x v k f.state.cells };
       scopes = f.scopes;
       home = f.home;
     };
@@ -147,7 +143,7 @@ module _ {N I : Type 0} (same : N → N → Bool) (modules : I → Modules N) (l
 
   new_left : (w : W) (kind : FaultKind) (message : List ℕ) → F w → Left w 0 (with_new w kind message)
   new_left w kind message f = record {
-    fits = record { state = record { readable = f.state.readable; cells = f.state.cells }; scopes = f.scopes; home = f.home };
+    fits = record { state = record { whole = f.state.whole; cells = f.state.cells }; scopes = f.scopes; home = f.home };
     keeps = λ v k. k;
     scopes = refl;
     took = record { steps = omega arith; bound = λ l. absurd (omega (arith, l)) };
@@ -212,8 +208,8 @@ module _ {N I : Type 0} (same : N → N → Bool) (modules : I → Modules N) (l
       ask view' (values same) (acts same modules linked begins some m) (lives same modules linked begins some m) (Goal k w (size_rest (more (Does Prints (Val v)) rest))) w (act.Step 1) _ (stop k w w (size_rest (more (Does Prints (Val v)) rest)) refl) f tt
       (λ t mid l q'. ask view' (values same) (acts same modules linked begins some m) (lives same modules linked begins some m) (Goal k w (size_rest (more (Does Prints (Val v)) rest))) mid (act.Print (v ∷ [])) _ (stop k w mid (size_rest (more (Does Prints (Val v)) rest)) l.took.scopes) l.fits (l.keeps v q, tt)
       (λ t late l' q''.
-          let both = onward view' (values same) (acts same modules linked begins some m) (lives same modules linked begins some m) l l' in
-          followed _ late Follows.ends (1, (left_by both, (held_rest (K w) (K late) both.keeps ⊥ k rest r, λ e. absurd (omega (arith, e)))))))
+      let both = onward view' (values same) (acts same modules linked begins some m) (lives same modules linked begins some m) l l' in
+      followed _ late Follows.ends (1, (left_by both, (held_rest (K w) (K late) both.keeps ⊥ k rest r, λ e. absurd (omega (arith, e)))))))
 
   planned : (k : Kind) {w : W} {r : Rest V} {p : Plan V Limit (Rest V)} → ((c : Comes V Limit (Rest V)) (after : W) → Follows (acts same modules linked begins some m) w p c after → RewritesBody same modules begins m w r (On c) after)
       → Followed view' (values same) (acts same modules linked begins some m) (lives same modules linked begins some m) (Goal k w (size_rest r)) w p → Moves k w r

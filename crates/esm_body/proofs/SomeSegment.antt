@@ -1,6 +1,6 @@
 -- A segment has an outcome, in a state that fits: each rewriting counts a step, of which there are no more than may be, or makes
 -- smaller what remains of what runs and of its callers.
-use Rattle.std.proofs.Common.{◌≡◌, ℕ, zero, suc, ◌+◌, ◌<◌, ◌≤◌, Bool, true, false, List, [], ◌∷◌, ◌++◌, Option, Some, None, refl, ap, subst, sym, ◌∙◌, arith, length}
+use Rattle.std.proofs.Common.{◌≡◌, ℕ, zero, suc, ◌+◌, ◌<◌, ◌≤◌, Bool, true, false, List, [], ◌∷◌, ◌++◌, Some, refl, ap, subst, arith, length}
 use Rattle.std.specs.Prelude.{⊤, nat_lt}
 use Rattle.esm_base.specs.declared.limits.Limit.{Limit}
 use Rattle.esm_base.specs.declared.limits.TheConstants.{MAX_STEPS, MAX_CALL_DEPTH}
@@ -12,20 +12,19 @@ use Rattle.esm_expr_eval.specs.Terms.{Term}
 use Rattle.esm_expr_eval.specs.Terms.Term.{Val, Fails}
 use Rattle.esm_expr_eval.specs.Ready.{Holds}
 use Rattle.esm_expr_eval.proofs.Lands.{AllKnown}
-use Rattle.esm_expr_eval.proofs.HasRewriting.{size, held}
+use Rattle.esm_expr_eval.proofs.HasRewriting.{size}
 use Rattle.esm_env.specs.Declarations.{FunctionCode}
 use Rattle.esm_env.specs.Modules.{Modules, function_of}
-use Rattle.esm_body.specs.Scopes.{Scope, call_scope, parameters, scope_of}
+use Rattle.esm_body.specs.Scopes.{Scope, call_scope, parameters}
 use Rattle.esm_body.specs.Rest.{Rest, end, more, whole, fill_rest}
 use Rattle.esm_body.specs.Rest.Part.{In}
 use Rattle.esm_body.specs.State.{State, Importing, new_error}
-use Rattle.esm_body.specs.Acts.{Inner, modules_of}
 use Rattle.esm_body.specs.Moves.{Move, On, Gives, Waits, RewritesBody}
-use Rattle.esm_body.specs.Segment.{Active, active, Ended, Normal, Thrown, Awaiting, Stopped, Next, Goes, Over, Segment, MovesAt, next_by, called, called_by, call_by, too_deep}
+use Rattle.esm_body.specs.Segment.{Active, active, Ended, Normal, Thrown, Awaiting, Stopped, Goes, Segment, MovesAt, next_by, called, called_by, call_by, too_deep}
 use Rattle.esm_body.specs.Segment.Segment.{ends, returns, goes, over}
-use Rattle.esm_body.specs.Fits.{Kind, of_function, of_body, FitsStmts, HoldsScope, HoldsRest, FitsState, Knows, kind_by, FitCallers, FitsRun, StaysFit, FitsEnd}
-use Rattle.esm_body.proofs.Grown.{held_rest, held_scope, filled_rest, same_rest, size_rest, new_whole, new_scope_of}
-use Rattle.esm_body.proofs.SomeAct.{BeginsSome, Took, FitsInner}
+use Rattle.esm_body.specs.Fits.{Kind, of_function, FitsStmts, HoldsScope, HoldsRest, FitsState, Knows, kind_by, FitCallers, FitsRun, StaysFit, FitsEnd}
+use Rattle.esm_body.proofs.Grown.{held_rest, filled_rest, same_rest, size_rest, new_whole, new_scope_of}
+use Rattle.esm_body.proofs.SomeAct.{BeginsSome, Took}
 use Rattle.esm_body.proofs.SomeMove.{Left, Fits', Moves, moves, shape, some_move}
 
 abbrev weight : {N : Type 0} → List (Active N) → ℕ
@@ -117,7 +116,7 @@ module _ {N I : Type 0} (same : N → N → Bool) (modules : I → Modules N) (l
       known_both P (x ∷ s) t h g = (h.0, known_both P s t h.1 g)
 
       function_fits : (mid : W) (g : N) (index : ℕ) (code : FunctionCode) → FitsState modules linked mid → linked mid.outer.imports g ≡ true → function_of (modules mid.outer.imports) g index ≡ Some code → FitsStmts of_function code.body
-      function_fits mid g index code s l e = record { returns = λ q. absurd cc; awaits = λ q. s.readable.functions g index code l e }
+      function_fits mid g index code s l e = record { returns = λ q. absurd cc; awaits = λ q. (some.readable mid.outer.imports s.whole).functions g index code l e }
 
       callee : (mid : W) (g : N) (index : ℕ) (vs : List V) (code : FunctionCode) → function_of (modules mid.outer.imports) g index ≡ Some code
           → called (modules mid.outer.imports) (Func g index) vs ≡ Some (active g (more (In (call_scope Undefined code vs) (whole code.body)) end))
@@ -133,8 +132,13 @@ module _ {N I : Type 0} (same : N → N → Bool) (modules : I → Modules N) (l
           (proceed (suc steps) w mid g rest (active m s ∷ cs) l.took enough (λ z. absurd (omega (arith, z))) (record {
             state = l.fits.state;
             home = home;
-            holds = ((known_both (K mid) _ _ (known_parameters (K mid) tt code.parameters vs kvs) (new_scope_of (K mid) (values same) tt (λ b. tt) (λ t. tt) of_function code.body),
-                new_whole (K mid) (values same) tt (λ b. tt) (λ t. tt) of_function code.body (function_fits mid g index code l.fits.state home e)), tt);
+            holds = (
+              (
+                known_both (K mid) _ _ (known_parameters (K mid) tt code.parameters vs kvs) (new_scope_of (K mid) (values same) tt (λ b. tt) (λ t. tt) of_function code.body),
+                new_whole (K mid) (values same) tt (λ b. tt) (λ t. tt) of_function code.body (function_fits mid g index code l.fits.state home e),
+              ),
+              tt,
+            );
             before = (l.fits.home, hs, kept_callers w mid l.keeps cs f.before);
           }))
       calls mid steps g index vs s d l home code e kvs hs false b =
@@ -143,7 +147,7 @@ module _ {N I : Type 0} (same : N → N → Bool) (modules : I → Modules N) (l
           on (On (comes.Calls (Func g index) vs s)) mid late m (fill_rest given s) cs d
           (λ i. call_by same modules begins (b i) m s cs mid (called (modules mid.outer.imports) (Func g index) vs)) l.keeps
           (proceed (suc steps) w late m (fill_rest given s) cs (record { steps = l.took.steps; bound = l.took.bound }) enough (λ z. absurd (omega (arith, z))) (record {
-            state = record { readable = l.fits.state.readable; cells = l.fits.state.cells };
+            state = record { whole = l.fits.state.whole; cells = l.fits.state.cells };
             home = l.fits.home;
             holds = filled_rest (K mid) given tt (kind_by modules linked awaits cs) s hs;
             before = kept_callers w mid l.keeps cs f.before;

@@ -1,10 +1,10 @@
 -- What a module's tree says of its functions and of its body.
-use Rattle.std.proofs.Common.{◌≡◌, ℕ, zero, suc, ◌+◌, Bool, true, false, ◌||◌, List, [], ◌∷◌, ◌++◌, Option, Some, None, refl, ap, subst, sym, ◌∙◌, arith}
+use Rattle.std.proofs.Common.{◌≡◌, ℕ, zero, suc, ◌+◌, Bool, true, false, List, [], ◌∷◌, Option, Some, refl, subst, arith}
 use Rattle.std.proofs.lemmas.Bool.{or_parts, or_from}
 use Rattle.std.specs.Prelude.{slice_get}
 use Rattle.std.specs.List.{list_any, AllByRecursion}
 use Rattle.std.specs.Str.{bytes_eq}
-use Rattle.esm_tree.specs.Syntax.{Stmt, Stmts, Item, ImportEffect, ImportFrom, ExportAll, ExportAllAs, ExportFrom, ExportList, ExportStatement, ExportFunction, ExportDefaultFunction, Function, Statement}
+use Rattle.esm_tree.specs.Syntax.{Item, ImportEffect, ImportFrom, ExportAll, ExportAllAs, ExportFrom, ExportList, ExportStatement, ExportFunction, ExportDefaultFunction, Function, Statement}
 use Rattle.esm_ast.specs.Entries.{stmts_await}
 use Rattle.esm_ast.specs.ModuleTree.{stmt_returns, stmts_return, returns_outside, awaits_inside}
 use Rattle.esm_env.specs.Declarations.{FunctionCode, Declaration, Initial, Unset, FunctionAt, body_of, declared_in, functions_of, function_at, function_named, declared_named, initial, initial_by}

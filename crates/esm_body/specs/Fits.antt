@@ -1,19 +1,15 @@
 -- Which states and rests bodies run in: values that were made there, and statements that stand where they may. A state that no
 -- segment reaches, and a rest that no module text has, are left out by these words.
-use Rattle.std.specs.Prelude.{◌≡◌, ℕ, Bool, true, false, List, [], ◌∷◌, Option, Some, None, ⊤}
-use Rattle.std.specs.Str.{IsUtf8}
-use Rattle.std.specs.List.{All}
+use Rattle.std.specs.Prelude.{◌≡◌, ◌<◌, ℕ, Bool, true, false, List, [], ◌∷◌, length, Option, Some, None, ⊤}
 use Rattle.esm_tree.specs.Syntax.{Stmt, Stmts}
 use Rattle.esm_ast.specs.Entries.{stmt_awaits, stmts_await}
-use Rattle.esm_ast.specs.ModuleTree.{stmt_returns, stmts_return}
-use Rattle.esm_resolve.specs.Keys.{AreNamespaceKeysOf}
+use Rattle.esm_ast.specs.ModuleTree.{IsModuleTree, stmt_returns, stmts_return}
 use Rattle.esm_values.specs.Value.{Value, Undefined, Truth, Text, Func, Error, Namespace, Promise}
 use Rattle.esm_expr_eval.specs.Ready.{Holds}
-use Rattle.esm_env.specs.Declarations.{FunctionCode, body_of}
-use Rattle.esm_env.specs.Modules.{Modules, graph, function_of}
+use Rattle.esm_env.specs.Declarations.{FunctionCode}
+use Rattle.esm_env.specs.Modules.{Modules, entries, function_of}
 use Rattle.esm_env.specs.Cells.{Cells, Reading}
 use Rattle.esm_env.specs.Cells.{Reading as reading}
-use Rattle.esm_env.specs.Reading.{IsReadingOf, IsMemberOf}
 use Rattle.esm_body.specs.Scopes.{Scope}
 use Rattle.esm_body.specs.Rest.{Use, Part, Rest, end, more}
 use Rattle.esm_body.specs.Rest.Use.{Drops, Sets, Writes, Throws, Returns, Prints, Chooses, Awaits}
@@ -42,17 +38,13 @@ module _ {N : Type 0} (g : Modules N) (linked : N → Bool) where
   abbrev pub AreKnownCells : Cells N → Type 0
   AreKnownCells cells = (m : N) (x : List ℕ) (v : Value N) → cells m x ≡ Some v → IsKnown v
 
-  -- a linked module's names, and the members and keys of its namespace, can be read; no await stands in its functions, and no
-  -- return in its body
-  pub record AreReadable : Type 0 where
-    pub names : (cells : Cells N) (m : N) (x : List ℕ) → AreKnownCells cells → linked m ≡ true
-        → (read : Reading (Value N)) × IsReadingOf g cells m x read × IsKnownReading read
-    pub members : (cells : Cells N) (m : N) (x : List ℕ) → AreKnownCells cells → linked m ≡ true
-        → (read : Reading (Value N)) × IsMemberOf g cells m x read × IsKnownReading read
-    pub keys : (m : N) → linked m ≡ true → (keys : List (List ℕ)) × AreNamespaceKeysOf (graph g) (g.number m) keys × All IsUtf8 keys
-    pub functions : (m : N) (index : ℕ) (f : FunctionCode) → linked m ≡ true → function_of g m index ≡ Some f
-        → stmts_await f.body ≡ false
-    pub bodies : (m : N) → linked m ≡ true → stmts_return (body_of (g.tree m)) ≡ false
+  -- a linked module is there, its tree is a module's, and its requests lead to linked modules
+  pub record AreLinked : Type 0 where
+    pub trees : (m : N) → linked m ≡ true → IsModuleTree (g.tree m)
+    pub targets : (m : N) (request : ℕ) → linked m ≡ true → request < length (entries g m).requests
+        → linked (g.target m request) ≡ true
+    pub below : (m : N) → linked m ≡ true → g.number m < g.size
+    pub named : (m : N) → linked m ≡ true → g.named (g.number m) ≡ m
 
 -- ---- what may stand in a body, and in a function
 
@@ -120,7 +112,7 @@ module _ {N I : Type 0} (modules : I → Modules N) (linked : I → N → Bool) 
   Knows i v = IsKnown (modules i) (linked i) v
 
   pub record FitsState (w : State N I) : Type 0 where
-    pub readable : AreReadable (modules w.outer.imports) (linked w.outer.imports)
+    pub whole : AreLinked (modules w.outer.imports) (linked w.outer.imports)
     pub cells : AreKnownCells (modules w.outer.imports) (linked w.outer.imports) w.cells
 
   -- the callers of what runs, the last of them a body, which awaits or doesn't

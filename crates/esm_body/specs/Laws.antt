@@ -18,7 +18,7 @@ use Rattle.esm_body.specs.State.{State, Importing}
 use Rattle.esm_body.specs.Acts.{Inner, read_answer, throws_new, not_initialized}
 use Rattle.esm_body.specs.Moves.{Move, On, RewritesBody}
 use Rattle.esm_body.specs.Segment.{Active, Ended, Segment}
-use Rattle.esm_body.specs.Fits.{AreReadable, IsKnown, FitsState, FitsRun, FitsEnd, HoldsRest, of_body}
+use Rattle.esm_body.specs.Fits.{AreLinked, IsKnown, FitsState, FitsRun, FitsEnd, HoldsRest, of_body}
 use Rattle.esm_expr_eval.specs.Ready.{Holds}
 use Rattle.esm_body.specs.Bodies.{StartsBody, RunsBody, ResumesBody, Taken, take_standing, given_by}
 
@@ -74,10 +74,10 @@ abbrev pub UnsetThrows : Type 0
 UnsetThrows = (w : Inner ℕ (Modules ℕ)) (x : List ℕ)
     → read_answer w x reading.Unset ≡ throws_new w kinds.ReferenceError (not_initialized x)
 
--- import() leaves linked modules as they can be read, and what is known of them
+-- import() leaves what is linked so, and what is known
 abbrev pub KeepsModules : (Modules ℕ → ℕ → Bool) → Importer → Type 0
-KeepsModules linked f = (o : Around) (m : ℕ) (text : List ℕ) (p : ℕ) → AreReadable o.imports (linked o.imports)
-    → AreReadable (f o m text p).1.imports (linked (f o m text p).1.imports)
+KeepsModules linked f = (o : Around) (m : ℕ) (text : List ℕ) (p : ℕ) → AreLinked o.imports (linked o.imports)
+    → AreLinked (f o m text p).1.imports (linked (f o m text p).1.imports)
     × ((v : Value ℕ) → IsKnown o.imports (linked o.imports) v → IsKnown (f o m text p).1.imports (linked (f o m text p).1.imports) v)
 
 -- from each state that fits, a segment has an outcome, and what it leaves fits

@@ -36,14 +36,13 @@ pub fn await_divides()
 /// From each state that fits, a segment has an outcome, and what it leaves fits.
 pub fn has_segment()
     ensures { HasSegment }
-{}
+{
+    esm_resolve::laws::shared_set()
+}
 
 /// From each state that fits, each call for a body has an outcome: a body starts, runs, or goes on behind its await.
 pub fn has_outcomes()
     ensures { HaveOutcomes }
-{}
-
-/// tmp
-pub fn tmp()
-    ensures { HaveOutcomes }
-{}
+{
+    esm_resolve::laws::shared_set()
+}

@@ -1,9 +1,8 @@
 -- What remains of an expression is a value, or has a rewriting.
-use Rattle.std.proofs.Common.{◌≡◌, ℕ, zero, suc, ◌+◌, ◌<◌, ◌⊎◌, inl, inr, Bool, true, false, List, [], ◌∷◌, refl, ap, subst, sym, ◌∙◌, arith, length}
+use Rattle.std.proofs.Common.{◌≡◌, ℕ, suc, ◌+◌, ◌<◌, ◌⊎◌, inl, inr, Bool, true, false, List, [], ◌∷◌, refl, subst, sym, arith, length}
 use Rattle.std.specs.Prelude.{⊤, Option, Some, None, codes, if◌then◌else◌, not, nat_lt, ◌/◌}
 use Rattle.esm_values.specs.declared.limits.TheConstants.{BYTES_PER_STEP}
 use Rattle.esm_base.specs.declared.limits.TheConstants.{MAX_TEXT_BYTES}
-use Rattle.esm_values.specs.Acts.{Act, Answer}
 use Rattle.esm_values.specs.Acts.{Act as act}
 use Rattle.esm_values.specs.Completion.{Completion, Normal, Throw}
 use Rattle.esm_values.specs.Plans.{Acting, Comes, inside, Plan, Follows}
@@ -20,7 +19,7 @@ use Rattle.esm_expr_eval.specs.Terms.Terms.{none, more}
 use Rattle.esm_expr_eval.specs.Terms.Compared.{last, compared}
 use Rattle.esm_expr_eval.specs.Terms.Links.{ends, member, call}
 use Rattle.esm_expr_eval.specs.Ready.{Holds, HoldAll, HoldCompared, HoldLinks}
-use Rattle.esm_expr_eval.specs.Rewriting.{AreValues, Rewrites, RewritesIn, or_on, and_on, enters, called, printed, error_made, import_begun}
+use Rattle.esm_expr_eval.specs.Rewriting.{AreValues, Rewrites, RewritesIn, enters, called, printed, error_made, import_begun}
 use Rattle.esm_expr_eval.specs.Rewriting.AreValues.{nil, cons}
 use Rattle.esm_expr_eval.specs.Rewriting.Rewrites.{fails, name, or_in, or, and_in, and, equal_in, equal_right, equal, equal_end, sum_in, sum_right, joins, sum_end, not_in, not_of, post_in, member_of, arguments, call_of, post_end, print_in, print, error_in, error, import_in, begins, own_url}
 use Rattle.esm_expr_eval.specs.Rewriting.RewritesIn.{first, later}
@@ -275,8 +274,8 @@ module _ {W V S : Type 0} (view : Views W V) (values : Values V) (url : W → Li
   joins_by w s n mid rest t false r l =
       ask view values acts lives (Arrives w s) mid (act.Step (length t / BYTES_PER_STEP)) _ (stop w s n mid l) l.fits tt
       (λ u late m k.
-          let both = onward view values acts lives l m in
-          goes w s _ late (rest (values.text t)) both (r.0 late _ (values.text t) both (lives.text late t)) (r.1 (values.text t)))
+      let both = onward view values acts lives l m in
+      goes w s _ late (rest (values.text t)) both (r.0 late _ (values.text t) both (lives.text late t)) (r.1 (values.text t)))
 
   sums_by : (w : W) (s n : ℕ) (mid : W) (rest : V → Term V) (o : Option (List ℕ)) → Rests w s rest → Later view w n mid → Plans w s mid (made values rest o)
   sums_by w s n mid rest None r l = throws w s n mid kinds.TypeError (codes "bad operands") l

@@ -1,7 +1,7 @@
 -- What a rewriting comes to, in a world in which each call is answered: each value is known, and what remains gets
 -- smaller.
-use Rattle.std.proofs.Common.{◌≡◌, ℕ, zero, suc, ◌+◌, ◌<◌, Bool, true, false, List, [], ◌∷◌, refl, ap, subst, sym, ◌∙◌, arith}
-use Rattle.std.specs.Prelude.{Result, Ok, Err, ⊤}
+use Rattle.std.proofs.Common.{◌≡◌, ℕ, suc, ◌+◌, ◌<◌, Bool, List, [], ◌∷◌}
+use Rattle.std.specs.Prelude.{Ok, Err, ⊤}
 use Rattle.esm_values.specs.Acts.{Act, Answer}
 use Rattle.esm_values.specs.Acts.{Act as act}
 use Rattle.esm_values.specs.Completion.{Completion, Normal, Throw}
@@ -9,7 +9,7 @@ use Rattle.esm_values.specs.Plans.{Acting, Comes, inside, Plan, Follows}
 use Rattle.esm_values.specs.Plans.Comes.{Goes, Leaves, Calls, Stops}
 use Rattle.esm_values.specs.Plans.Plan.{Ends, Asks}
 use Rattle.esm_values.specs.Plans.Follows.{ends, asks, stops}
-use Rattle.esm_values.specs.Operators.{Look, Values}
+use Rattle.esm_values.specs.Operators.{Values}
 use Rattle.esm_values.specs.Operators.Look.{Func}
 
 abbrev pub AllKnown : {V : Type 0} → (V → Type 0) → List V → Type 0

@@ -1,5 +1,5 @@
 -- Over a world in which each call has an outcome, what remains of an expression is a value or has a rewriting.
-use Rattle.std.proofs.Common.{◌≡◌, ℕ, zero, suc, ◌<◌, ◌⊎◌, inl, inr, List, [], ◌∷◌, arith, subst, sym}
+use Rattle.std.proofs.Common.{◌≡◌, ℕ, zero, suc, ◌<◌, ◌⊎◌, inl, inr, List, arith, subst, sym}
 use Rattle.std.specs.Prelude.{Result, Ok, Err, ⊤}
 use Rattle.esm_values.specs.Acts.{Act, Answer}
 use Rattle.esm_values.specs.Acts.{Act as act}
@@ -13,7 +13,7 @@ use Rattle.esm_expr_eval.specs.Terms.Term.{Val}
 use Rattle.esm_expr_eval.specs.Ready.{IsAtWork}
 use Rattle.esm_expr_eval.specs.Rewriting.{Rewrites}
 use Rattle.esm_expr_eval.specs.Laws.{ActsAlways, HasRewriting}
-use Rattle.esm_expr_eval.proofs.Lands.{Views, Later, Answered, answers, stopped, Lives, KnowsAnswer, KnowsCompletion, cost}
+use Rattle.esm_expr_eval.proofs.Lands.{Views, Answered, answers, stopped, Lives, KnowsAnswer, KnowsCompletion}
 use Rattle.esm_expr_eval.proofs.HasRewriting.{Comes', comes, come, Here, Arrives, size}
 
 -- nothing is asked of worlds and values
