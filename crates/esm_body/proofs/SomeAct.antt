@@ -13,7 +13,7 @@ use Rattle.esm_values.specs.Acts.{Act, Answer}
 use Rattle.esm_values.specs.Acts.{Act as act}
 use Rattle.esm_values.specs.declared.errors.FaultKind.{FaultKind}
 use Rattle.esm_values.specs.declared.errors.FaultKind.TheVariants as kinds
-use Rattle.esm_expr_eval.proofs.Lands.{AllKnown, KnowsAct, Views, Later, Answered, answers, stopped, Lives}
+use Rattle.esm_expr_eval.proofs.Lands.{AllKnown, KnowsAct, Views, Later, HasAnswer, answers, stopped, Lives}
 use Rattle.esm_promise.specs.Promises.{next_promise}
 use Rattle.esm_promise.specs.Outer.{Outer}
 use Rattle.esm_env.specs.Modules.{Modules}
@@ -67,7 +67,7 @@ module _ {N I : Type 0} (same : N → N → Bool) (modules : I → Modules N) (l
     acts = Acts same modules begins m
 
     abbrev Answer' : Inner N I → Act (Value N) → Type 0
-    Answer' w a = Answered (view m) acts w a
+    Answer' w a = HasAnswer (view m) acts w a
 
     -- nothing but the log, errors and promises changed
     abbrev Alike : Inner N I → Inner N I → Type 0

@@ -65,13 +65,13 @@ module _ {W V : Type 0} (view : Views W V) where
     pub took : view.Took w n after
 
   module _ {S : Type 0} (acts : Acting W V S) where
-    pub data Answered (w : W) (a : Act V) : Type 0 where
-      answers : (r : Answer a) (after : W) → acts w a (Ok r) after → Later w (cost a) after → KnowsAnswer (view.Knows after) a r → Answered w a
-      stopped : (why : S) (after : W) → acts w a (Err why) after → view.Halts w after → Answered w a
+    pub data HasAnswer (w : W) (a : Act V) : Type 0 where
+      answers : (r : Answer a) (after : W) → acts w a (Ok r) after → Later w (cost a) after → KnowsAnswer (view.Knows after) a r → HasAnswer w a
+      stopped : (why : S) (after : W) → acts w a (Err why) after → view.Halts w after → HasAnswer w a
 
     -- each call is answered
     pub record Lives (values : Values V) : Type 0 where
-      pub answered : (w : W) (a : Act V) → view.Fits w → KnowsAct (view.Knows w) a → Answered w a
+      pub answered : (w : W) (a : Act V) → view.Fits w → KnowsAct (view.Knows w) a → HasAnswer w a
       pub undefined : (w : W) → view.Knows w values.undefined
       pub truth : (w : W) (b : Bool) → view.Knows w (values.truth b)
       pub text : (w : W) (t : List ℕ) → view.Knows w (values.text t)
@@ -108,7 +108,7 @@ module _ {W V : Type 0} (view : Views W V) where
     behind : {A : Type 0} (Goal : Comes V S A → W → Type 0) {w mid : W} {a : Act V} {next : Answer a → Plan V S A} (r : Answer a) → acts w a (Ok r) mid → Followed Goal mid (next r) → Followed Goal w (Asks a next)
     behind Goal r h (followed c after f g) = followed c after (asks r h f) g
 
-    asked : {A : Type 0} (Goal : Comes V S A → W → Type 0) (w : W) (a : Act V) (next : Answer a → Plan V S A) → ((why : S) (after : W) → view.Halts w after → Goal (Stops why) after) → Answered acts w a
+    asked : {A : Type 0} (Goal : Comes V S A → W → Type 0) (w : W) (a : Act V) (next : Answer a → Plan V S A) → ((why : S) (after : W) → view.Halts w after → Goal (Stops why) after) → HasAnswer acts w a
         → ((r : Answer a) (mid : W) → Later w (cost a) mid → KnowsAnswer (view.Knows mid) a r → Followed Goal mid (next r)) → Followed Goal w (Asks a next)
     asked Goal w a next s (answers r mid h l k) go = behind Goal r h (go r mid l k)
     asked Goal w a next s (stopped why after h q) go = followed (Stops why) after (stops h) (s why after q)

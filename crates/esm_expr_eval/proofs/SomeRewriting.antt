@@ -13,7 +13,7 @@ use Rattle.esm_expr_eval.specs.Terms.Term.{Val}
 use Rattle.esm_expr_eval.specs.Ready.{IsAtWork}
 use Rattle.esm_expr_eval.specs.Rewriting.{Rewrites}
 use Rattle.esm_expr_eval.specs.Laws.{ActsAlways, HasRewriting}
-use Rattle.esm_expr_eval.proofs.Lands.{Views, Answered, answers, stopped, Lives, KnowsAnswer, KnowsCompletion}
+use Rattle.esm_expr_eval.proofs.Lands.{Views, HasAnswer, answers, stopped, Lives, KnowsAnswer, KnowsCompletion}
 use Rattle.esm_expr_eval.proofs.HasRewriting.{Comes', comes, come, Here, Arrives, size}
 
 -- nothing is asked of worlds and values
@@ -34,7 +34,7 @@ answer_any (act.Step n) r = tt
 answer_any (act.Import v) r = tt
 
 module _ {W S : Type 0} (url : W → List ℕ) (acts : Acting W Worth S) (always : ActsAlways acts) where
-  answered_by : (w : W) (a : Act Worth) (r : Result (Answer a) S) (after : W) → acts w a r after → Answered (any W) acts w a
+  answered_by : (w : W) (a : Act Worth) (r : Result (Answer a) S) (after : W) → acts w a r after → HasAnswer (any W) acts w a
   answered_by w a (Ok r) after h = answers r after h (record { fits = tt; keeps = λ v k. tt; took = tt }) (answer_any a r)
   answered_by w a (Err why) after h = stopped why after h tt
 
