@@ -9,7 +9,7 @@ use Rattle.esm_tree.specs.Syntax.{Stmt as stmts}
 use Rattle.esm_ast.specs.Entries.{init_awaits, bindings_await, stmt_awaits, stmts_await}
 use Rattle.esm_ast.specs.ModuleTree.{stmt_returns, stmts_return}
 use Rattle.esm_values.specs.Operators.{Values}
-use Rattle.esm_values.specs.Display.{default_local}
+use Rattle.esm_base.specs.DefaultExport.{star_default}
 use Rattle.esm_env.specs.Declarations.{Declaration, declared_in}
 use Rattle.esm_expr_eval.specs.Terms.{Term, Terms, Compared, Links, term, terms, compared_terms, links, fill, fill_all, fill_compared, fill_links}
 use Rattle.esm_expr_eval.specs.Terms.Term.{Val, Waits, Fails, Name, Or, And, Equal, Sum, Not, Post, Print, NewError, Import, OwnUrl}

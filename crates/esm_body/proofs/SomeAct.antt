@@ -9,7 +9,7 @@ use Rattle.esm_values.specs.Value.{Value, Undefined, Truth, Text, Func, Error, N
 use Rattle.esm_values.specs.Display.{namespace_text, printed_line}
 use Rattle.esm_values.specs.Operators.{values, text_of}
 use Rattle.esm_values.specs.Completion.{Normal, Throw}
-use Rattle.esm_values.specs.Acts.{Act, Answer}
+use Rattle.esm_values.specs.Acts.{Act, AnswerTo}
 use Rattle.esm_values.specs.Acts.{Act as act}
 use Rattle.esm_values.specs.declared.errors.FaultKind.{FaultKind}
 use Rattle.esm_values.specs.declared.errors.FaultKind.TheVariants as kinds
@@ -21,7 +21,7 @@ use Rattle.esm_env.specs.Cells.{Cell, Reading, read_cell, read_value}
 use Rattle.esm_env.specs.Cells.{Reading as reading}
 use Rattle.esm_body.specs.Scopes.{Scope, in_scope, in_scopes, cell_by, or_cell}
 use Rattle.esm_body.specs.State.{State, Importing, new_error, steps_by, line_by}
-use Rattle.esm_body.specs.Acts.{Inner, Acts, Displays, DisplaysAll, ReadsBy, ReadsName, BeginsBy, over_scopes, with_state, with_new, with_outer, not_initialized, not_defined, error_member, member_by, refuse_import, with_promise}
+use Rattle.esm_body.specs.Acts.{Inner, Performs, Displays, DisplaysAll, ReadsBy, ReadsName, BeginsBy, over_scopes, with_state, with_new, with_outer, not_initialized, not_defined, error_member, member_by, refuse_import, with_promise}
 use Rattle.esm_body.specs.Fits.{IsKnown, IsKnownReading, AreLinked, HoldsValue, HoldsScope, HoldScopes, FitsState, Knows}
 use Rattle.esm_body.proofs.Readable.{AreReadable}
 use Rattle.esm_body.proofs.Grown.{held_scopes}
@@ -63,8 +63,8 @@ module _ {N I : Type 0} (same : N → N → Bool) (modules : I → Modules N) (l
   view m = record { Fits = FitsInner m; Knows = λ w v. Known w.state v; Took = TookIn; Halts = λ w after. after.scopes ≡ w.scopes }
 
   module _ (m : N) where
-    abbrev pub acts : Inner N I → (a : Act (Value N)) → Result (Answer a) Limit → Inner N I → Type 0
-    acts = Acts same modules begins m
+    abbrev pub acts : Inner N I → (a : Act (Value N)) → Result (AnswerTo a) Limit → Inner N I → Type 0
+    acts = Performs same modules begins m
 
     abbrev Answer' : Inner N I → Act (Value N) → Type 0
     Answer' w a = HasAnswer (view m) acts w a

@@ -13,7 +13,7 @@ use Rattle.esm_env.specs.Declarations.{body_of}
 use Rattle.esm_env.specs.Modules.{Modules, entries}
 use Rattle.esm_expr_eval.specs.Ready.{Holds}
 use Rattle.esm_body.specs.Rest.{Rest, fill_rest}
-use Rattle.esm_body.specs.State.{State, Importing, Told, Event, Begins, Ends, Throws, note, note_by, event_behind, event_line, line_by}
+use Rattle.esm_body.specs.State.{State, Importing, Answered, Event, Begins, Ends, Throws, note, note_by, event_behind, event_line, line_by}
 use Rattle.esm_body.specs.Segment.{Ended, Normal, Thrown, Awaiting, Stopped}
 use Rattle.esm_body.specs.Bodies.{StartsBody, RunsBody, ResumesBody, Taken, take_standing, given_by, url_in, whole_body, segment_end, body_end, ran_by, without_standing}
 use Rattle.esm_body.specs.Fits.{of_body, FitsState, FitsRun, FitsEnd, HoldsRest, Knows}
@@ -89,11 +89,11 @@ module _ {N I : Type 0} (same : N → N → Bool) (modules : I → Modules N) (l
   abbrev Runs : W → N → Type 0
   Runs w m = (end : Result (Ran (Value N)) Limit) × ((after : W) × RunsBody same modules begins w m end after)
 
-  ran_some : (how : Ran (Value N)) (t : Told (Unit {0}) W) → (x : Told (Ran (Value N)) W) × (ran_by how t ≡ Some x)
+  ran_some : (how : Ran (Value N)) (t : Answered (Unit {0}) W) → (x : Answered (Ran (Value N)) W) × (ran_by how t ≡ Some x)
   ran_some how (Ok done, w) = ((Ok how, w), refl)
   ran_some how (Err why, w) = ((Err why, w), refl)
 
-  body_some : (url : N → List ℕ) (m : N) (w late : W) (how : Ended N) → FitsEnd modules linked w false how late → (x : Told (Ran (Value N)) W) × (body_end url m how late ≡ Some x)
+  body_some : (url : N → List ℕ) (m : N) (w late : W) (how : Ended N) → FitsEnd modules linked w false how late → (x : Answered (Ran (Value N)) W) × (body_end url m how late ≡ Some x)
   body_some url m w late Normal h = ran_some ran.Normal (note url late (Ends m))
   body_some url m w late (Thrown v) h = ran_some (ran.Thrown v) (note url late (Throws m))
   body_some url m w late (Awaiting v rest) h = absurd (let e = h.1 in cc)

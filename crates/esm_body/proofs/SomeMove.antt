@@ -7,8 +7,8 @@ use Rattle.esm_tree.specs.Syntax.{Stmts}
 use Rattle.esm_tree.specs.Syntax.{Stmt as Statement}
 use Rattle.esm_values.specs.Value.{Value}
 use Rattle.esm_values.specs.Acts.{Act as act}
-use Rattle.esm_values.specs.Plans.{Comes, inside, Plan, Follows}
-use Rattle.esm_values.specs.Plans.Comes.{Goes, Leaves, Calls, Stops}
+use Rattle.esm_values.specs.Plans.{Rewritten, inside, Plan, Follows}
+use Rattle.esm_values.specs.Plans.Rewritten.{Goes, Leaves, Calls, Stops}
 use Rattle.esm_values.specs.Plans.Plan.{Ends, Asks}
 use Rattle.esm_values.specs.Operators.{values, look_of, is_true}
 use Rattle.esm_values.specs.Operators.Look.{Func}
@@ -27,8 +27,8 @@ use Rattle.esm_body.specs.Rest.Part.{Whole, Does, Stands, In, Tries}
 use Rattle.esm_body.specs.Rest.Use.{Drops, Sets, Writes, Throws, Returns, Prints, Chooses, Awaits}
 use Rattle.esm_body.specs.State.{State, Importing}
 use Rattle.esm_body.specs.Acts.{Inner, with_state, with_new, set_at, set_name, write_in, scope_write, module_write}
-use Rattle.esm_body.specs.Moves.{Move, On, Gives, Waits, RewritesBody, own_url, within, caught, wrote}
-use Rattle.esm_body.specs.Moves.RewritesBody.{begins_at, does, drops, sets, writes, throws, returns, prints, chooses, awaits, inner, inner_end, tries, tries_end}
+use Rattle.esm_body.specs.BodyRewriting.{RewrittenBody, On, Gives, Waits, RewritesBody, own_url, within, caught, wrote}
+use Rattle.esm_body.specs.BodyRewriting.RewritesBody.{begins_at, does, drops, sets, writes, throws, returns, prints, chooses, awaits, inner, inner_end, tries, tries_end}
 use Rattle.esm_body.specs.Fits.{Kind, FitsStmt, FitsStmts, FitsUse, HoldsScope, HoldScopes, HoldsPart, HoldsRest}
 use Rattle.esm_body.proofs.Grown.{held_scope, held_rest, opened_rest, count, size_part, size_rest, size_whole, new_whole, new_scope_of, new_branch, new_begin}
 use Rattle.esm_body.proofs.SomeAct.{BeginsSome, Took, took_none, Known, FitsInner, view, acts, lives}
@@ -63,7 +63,7 @@ module _ {N I : Type 0} (same : N → N → Bool) (modules : I → Modules N) (l
   RestIn w gap k r = HoldsRest (K w) gap k r
 
   -- what a rewriting comes to, of what remains with this size
-  abbrev pub Fits' : Kind → W → ℕ → Move V Limit → W → Type 0
+  abbrev pub Fits' : Kind → W → ℕ → RewrittenBody V Limit → W → Type 0
   Fits' k w s (On (Goes r)) after = (n : ℕ) × (Left w n after × (RestIn after ⊥ k r × (n ≡ 0 → size_rest r < s)))
   Fits' k w s (On (Leaves v)) after = (n : ℕ) × (Left w n after × K after v)
   Fits' k w s (On (Calls f vs r)) after = (n : ℕ) × (Left w (suc n) after × ((look_of f ≡ Func) × (K after f × (AllKnown (K after) vs × RestIn after ⊤ k r))))
@@ -72,7 +72,7 @@ module _ {N I : Type 0} (same : N → N → Bool) (modules : I → Modules N) (l
   Fits' k w s (Waits v r) after = (k.awaits ≡ true) × ((n : ℕ) × (Left w n after × (K after v × RestIn after ⊤ k r)))
 
   pub data Moves (k : Kind) (w : W) (r : Rest V) : Type 0 where
-    moves : (move : Move V Limit) (after : W) → RewritesBody same modules begins m w r move after → Fits' k w (size_rest r) move after → Moves k w r
+    moves : (move : RewrittenBody V Limit) (after : W) → RewritesBody same modules begins m w r move after → Fits' k w (size_rest r) move after → Moves k w r
 
   -- ---- what is kept
 
@@ -190,7 +190,7 @@ module _ {N I : Type 0} (same : N → N → Bool) (modules : I → Modules N) (l
   abbrev view' : Rattle.esm_expr_eval.proofs.Lands.Views W V
   view' = view same modules linked begins some m
 
-  abbrev Goal : Kind → W → ℕ → Comes V Limit (Rest V) → W → Type 0
+  abbrev Goal : Kind → W → ℕ → Rewritten V Limit (Rest V) → W → Type 0
   Goal k w s c after = Fits' k w s (On c) after
 
   stop : (k : Kind) (w mid : W) (s : ℕ) → mid.scopes ≡ w.scopes → (why : Limit) (after : W) → after.scopes ≡ mid.scopes → Goal k w s (Stops why) after
@@ -211,13 +211,13 @@ module _ {N I : Type 0} (same : N → N → Bool) (modules : I → Modules N) (l
       let both = onward view' (values same) (acts same modules linked begins some m) (lives same modules linked begins some m) l l' in
       followed _ late Follows.ends (1, (left_by both, (held_rest (K w) (K late) both.keeps ⊥ k rest r, λ e. absurd (omega (arith, e)))))))
 
-  planned : (k : Kind) {w : W} {r : Rest V} {p : Plan V Limit (Rest V)} → ((c : Comes V Limit (Rest V)) (after : W) → Follows (acts same modules linked begins some m) w p c after → RewritesBody same modules begins m w r (On c) after)
+  planned : (k : Kind) {w : W} {r : Rest V} {p : Plan V Limit (Rest V)} → ((c : Rewritten V Limit (Rest V)) (after : W) → Follows (acts same modules linked begins some m) w p c after → RewritesBody same modules begins m w r (On c) after)
       → Followed view' (values same) (acts same modules linked begins some m) (lives same modules linked begins some m) (Goal k w (size_rest r)) w p → Moves k w r
   planned k rule (followed c after f g) = moves (On c) after (rule c after f) g
 
   -- ---- the expression of a statement
 
-  arrives_fits : (k : Kind) (w : W) (u : Use) (e : Term V) (rest : Rest V) → FitsUse k u → RestIn w ⊥ k rest → (c : Comes V Limit (Term V)) (after : W)
+  arrives_fits : (k : Kind) (w : W) (u : Use) (e : Term V) (rest : Rest V) → FitsUse k u → RestIn w ⊥ k rest → (c : Rewritten V Limit (Term V)) (after : W)
       → Arrives view' (values same) (own_url same modules begins m) (acts same modules linked begins some m) (lives same modules linked begins some m) w (size e) c after
       → Fits' k w (size_rest (more (Does u e) rest)) (On (inside (λ e. more (Does u e) rest) c)) after
   arrives_fits k w u e rest f r (Goes t) after (n, (l, (h, lt))) = (n, (left_by l, (((f, h), kept_rest k ⊥ rest (left_by l) r), λ q. omega (arith, lt))))
@@ -250,7 +250,7 @@ module _ {N I : Type 0} (same : N → N → Bool) (modules : I → Modules N) (l
 
   -- ---- blocks
 
-  within_fits : (k : Kind) (w : W) (scope scope' : Scope V) (r rest : Rest V) (ss : List (Scope V)) (state : State N I) → length ss ≡ length w.scopes → RestIn w ⊥ k rest → (move : Move V Limit)
+  within_fits : (k : Kind) (w : W) (scope scope' : Scope V) (r rest : Rest V) (ss : List (Scope V)) (state : State N I) → length ss ≡ length w.scopes → RestIn w ⊥ k rest → (move : RewrittenBody V Limit)
       → Fits' k (record w { scopes = scope ∷ w.scopes }) (size_rest r) move (record { scopes = scope' ∷ ss; state = state })
       → Fits' k w (size_rest (more (In scope r) rest)) (within (λ r. more (In scope' r) rest) move) (record { scopes = ss; state = state })
   within_fits k w scope scope' r rest ss state len h move = by move
@@ -258,7 +258,7 @@ module _ {N I : Type 0} (same : N → N → Bool) (modules : I → Modules N) (l
       out : {n : ℕ} → Left (record w { scopes = scope ∷ w.scopes }) n (record { scopes = scope' ∷ ss; state = state }) → Left w n (record { scopes = ss; state = state })
       out l = record { fits = record { state = l.fits.state; scopes = l.fits.scopes.1; home = l.fits.home }; keeps = l.keeps; scopes = len; took = l.took }
 
-      by : (move : Move V Limit) → Fits' k (record w { scopes = scope ∷ w.scopes }) (size_rest r) move (record { scopes = scope' ∷ ss; state = state })
+      by : (move : RewrittenBody V Limit) → Fits' k (record w { scopes = scope ∷ w.scopes }) (size_rest r) move (record { scopes = scope' ∷ ss; state = state })
           → Fits' k w (size_rest (more (In scope r) rest)) (within (λ r. more (In scope' r) rest) move) (record { scopes = ss; state = state })
       by (On (Goes s)) (n, (l, (q, lt))) = (n, (out l, (((l.fits.scopes.0, q), kept_rest k ⊥ rest (out l) h), λ e. let x = lt e in omega (arith, x))))
       by (On (Leaves v)) (n, (l, q)) = (n, (out l, q))
@@ -268,7 +268,7 @@ module _ {N I : Type 0} (same : N → N → Bool) (modules : I → Modules N) (l
       by (Waits v s) (a, (n, (l, (kv, q)))) = (a, (n, (out l, (kv, ((l.fits.scopes.0, q), kept_rest k ⊤ rest (out l) h)))))
 
   -- the scopes behind a rewriting are as many as before
-  pub shape : (k : Kind) (w : W) (s : ℕ) (move : Move V Limit) (after : W) → Fits' k w s move after → length after.scopes ≡ length w.scopes
+  pub shape : (k : Kind) (w : W) (s : ℕ) (move : RewrittenBody V Limit) (after : W) → Fits' k w s move after → length after.scopes ≡ length w.scopes
   shape k w s (On (Goes r)) after (n, (l, q)) = l.scopes
   shape k w s (On (Leaves v)) after (n, (l, q)) = l.scopes
   shape k w s (On (Calls f vs r)) after (n, (l, q)) = l.scopes
@@ -276,7 +276,7 @@ module _ {N I : Type 0} (same : N → N → Bool) (modules : I → Modules N) (l
   shape k w s (Gives v) after (a, (n, (l, q))) = l.scopes
   shape k w s (Waits v r) after (a, (n, (l, q))) = l.scopes
 
-  inner_by : (k : Kind) (w : W) (scope : Scope V) (r rest : Rest V) → RestIn w ⊥ k rest → (move : Move V Limit) (ss : List (Scope V)) (state : State N I)
+  inner_by : (k : Kind) (w : W) (scope : Scope V) (r rest : Rest V) → RestIn w ⊥ k rest → (move : RewrittenBody V Limit) (ss : List (Scope V)) (state : State N I)
       → RewritesBody same modules begins m (record w { scopes = scope ∷ w.scopes }) r move (record { scopes = ss; state = state })
       → length ss ≡ suc (length w.scopes) → Fits' k (record w { scopes = scope ∷ w.scopes }) (size_rest r) move (record { scopes = ss; state = state }) → Moves k w (more (In scope r) rest)
   inner_by k w scope r rest h move [] state d len q = absurd (omega (arith, len))
@@ -293,7 +293,7 @@ module _ {N I : Type 0} (same : N → N → Bool) (modules : I → Modules N) (l
   handler_known P None v handler k h = h
   handler_known P (Some x) v handler k h = (k, h)
 
-  tries_fits : (k : Kind) (w : W) (r rest : Rest V) (x : Option (List ℕ)) (handler : Stmts) → RestIn w ⊥ k rest → FitsStmts k handler → (move : Move V Limit) (after : W) → Fits' k w (size_rest r) move after
+  tries_fits : (k : Kind) (w : W) (r rest : Rest V) (x : Option (List ℕ)) (handler : Stmts) → RestIn w ⊥ k rest → FitsStmts k handler → (move : RewrittenBody V Limit) (after : W) → Fits' k w (size_rest r) move after
       → Fits' k w (size_rest (more (Tries r x handler) rest)) (caught x handler rest move) after
   tries_fits k w r rest x handler h g (On (Goes s)) after (n, (l, (q, lt))) = (n, (l, (((q, g), kept_rest k ⊥ rest l h), λ e. let y = lt e in omega (arith, y))))
   tries_fits k w r rest x handler h g (On (Leaves v)) after (n, (l, q)) =

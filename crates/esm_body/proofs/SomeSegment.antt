@@ -5,7 +5,7 @@ use Rattle.std.specs.Prelude.{⊤, nat_lt}
 use Rattle.esm_base.specs.declared.limits.Limit.{Limit}
 use Rattle.esm_base.specs.declared.limits.TheConstants.{MAX_STEPS, MAX_CALL_DEPTH}
 use Rattle.esm_values.specs.Value.{Value, Undefined, Truth, Text, Func, Error, Namespace, Promise}
-use Rattle.esm_values.specs.Plans.{Comes as comes}
+use Rattle.esm_values.specs.Plans.{Rewritten as comes}
 use Rattle.esm_values.specs.Operators.{values, look_of}
 use Rattle.esm_values.specs.Operators.{Look as look}
 use Rattle.esm_expr_eval.specs.Terms.{Term}
@@ -19,8 +19,8 @@ use Rattle.esm_body.specs.Scopes.{Scope, call_scope, parameters}
 use Rattle.esm_body.specs.Rest.{Rest, end, more, whole, fill_rest}
 use Rattle.esm_body.specs.Rest.Part.{In}
 use Rattle.esm_body.specs.State.{State, Importing, new_error}
-use Rattle.esm_body.specs.Moves.{Move, On, Gives, Waits, RewritesBody}
-use Rattle.esm_body.specs.Segment.{Active, active, Ended, Normal, Thrown, Awaiting, Stopped, Goes, Segment, MovesAt, next_by, called, called_by, call_by, too_deep}
+use Rattle.esm_body.specs.BodyRewriting.{RewrittenBody, On, Gives, Waits, RewritesBody}
+use Rattle.esm_body.specs.Segment.{Active, active, Ended, Normal, Thrown, Awaiting, Stopped, Goes, Segment, RewritesOutermost, next_by, called, called_by, call_by, too_deep}
 use Rattle.esm_body.specs.Segment.Segment.{ends, returns, goes, over}
 use Rattle.esm_body.specs.Fits.{Kind, of_function, FitsStmts, HoldsScope, HoldsRest, FitsState, Knows, kind_by, FitCallers, FitsRun, StaysFit, FitsEnd}
 use Rattle.esm_body.proofs.Grown.{held_rest, filled_rest, same_rest, size_rest, new_whole, new_scope_of}
@@ -83,7 +83,7 @@ module _ {N I : Type 0} (same : N → N → Bool) (modules : I → Modules N) (l
       K' : Kind
       K' = kind_by modules linked awaits cs
 
-      on : (move : Move V Limit) (mid late : W) (m' : N) (r' : Rest V) (cs' : List (Active N)) → MovesAt same modules begins m w r move mid → next_by same modules begins m cs move mid ≡ Some (Goes m' r' cs' late) → Keeps w late
+      on : (move : RewrittenBody V Limit) (mid late : W) (m' : N) (r' : Rest V) (cs' : List (Active N)) → RewritesOutermost same modules begins m w r move mid → next_by same modules begins m cs move mid ≡ Some (Goes m' r' cs' late) → Keeps w late
           → Result late m' r' cs' → Result w m r cs
       on move mid late m' r' cs' d e keeps x = (x.0, (x.1.0, (goes move d e x.1.1.0, kept_end w late x.1.0 x.0 keeps x.1.1.1)))
 
@@ -91,7 +91,7 @@ module _ {N I : Type 0} (same : N → N → Bool) (modules : I → Modules N) (l
       Left' steps mid = Left same modules linked begins some m (record { scopes = []; state = w }) steps (record { scopes = []; state = mid })
 
       -- the caller goes on
-      back : (move : Move V Limit) (given : Term V) (steps : ℕ) (mid : W) (c : Active N) (cs' : List (Active N)) → cs ≡ c ∷ cs' → MovesAt same modules begins m w r move mid
+      back : (move : RewrittenBody V Limit) (given : Term V) (steps : ℕ) (mid : W) (c : Active N) (cs' : List (Active N)) → cs ≡ c ∷ cs' → RewritesOutermost same modules begins m w r move mid
           → next_by same modules begins m cs move mid ≡ Some (Goes c.at (fill_rest given c.rest) cs' mid) → Holds (K mid) ⊥ given → size given ≡ 1 → measure r cs < suc n → Left' steps mid → Result w m r cs
       back move given steps mid c cs' e d next h one lt l =
           let before = kept_callers w mid l.keeps (c ∷ cs') (subst (λ cs. FitCallers modules linked w.outer.imports awaits cs) e f.before) in
@@ -122,7 +122,7 @@ module _ {N I : Type 0} (same : N → N → Bool) (modules : I → Modules N) (l
           → called (modules mid.outer.imports) (Func g index) vs ≡ Some (active g (more (In (call_scope Undefined code vs) (whole code.body)) end))
       callee mid g index vs code e = ap (called_by g vs) e
 
-      calls : (mid : W) (steps : ℕ) (g : N) (index : ℕ) (vs : List V) (s : Rest V) → MovesAt same modules begins m w r (On (comes.Calls (Func g index) vs s)) mid → Left' (suc steps) mid → linked mid.outer.imports g ≡ true
+      calls : (mid : W) (steps : ℕ) (g : N) (index : ℕ) (vs : List V) (s : Rest V) → RewritesOutermost same modules begins m w r (On (comes.Calls (Func g index) vs s)) mid → Left' (suc steps) mid → linked mid.outer.imports g ≡ true
           → (code : FunctionCode) → function_of (modules mid.outer.imports) g index ≡ Some code → AllKnown (K mid) vs → HoldsRest (K mid) ⊤ K' s → (b : Bool) → nat_lt (length cs) MAX_CALL_DEPTH ≡ b → Result w m r cs
       unfolding K'
       calls mid steps g index vs s d l home code e kvs hs true b =
@@ -153,7 +153,7 @@ module _ {N I : Type 0} (same : N → N → Bool) (modules : I → Modules N) (l
             before = kept_callers w mid l.keeps cs f.before;
           }))
 
-      calls_known : (mid : W) (steps : ℕ) (v : V) (vs : List V) (s : Rest V) → MovesAt same modules begins m w r (On (comes.Calls v vs s)) mid → Left' (suc steps) mid → look_of v ≡ look.Func → K mid v → AllKnown (K mid) vs
+      calls_known : (mid : W) (steps : ℕ) (v : V) (vs : List V) (s : Rest V) → RewritesOutermost same modules begins m w r (On (comes.Calls v vs s)) mid → Left' (suc steps) mid → look_of v ≡ look.Func → K mid v → AllKnown (K mid) vs
           → HoldsRest (K mid) ⊤ K' s → Result w m r cs
       calls_known mid steps Undefined vs s d l e kv kvs hs = absurd cc
       calls_known mid steps (Truth b) vs s d l e kv kvs hs = absurd cc
@@ -168,7 +168,7 @@ module _ {N I : Type 0} (same : N → N → Bool) (modules : I → Modules N) (l
     stays : (w mid : W) (m : N) (steps : ℕ) → Left same modules linked begins some m (record { scopes = []; state = w }) steps (record { scopes = []; state = mid }) → StaysFit modules linked w mid
     stays w mid m steps l = record { fits = l.fits.state; keeps = l.keeps }
 
-    goes_on : (w : W) (m : N) (p : Rest V) (cs : List (Active N)) → Run w m p cs → MAX_STEPS < w.engine.steps + k → measure p cs < suc n → (move : Move V Limit) (mid : W) → MovesAt same modules begins m w p move mid
+    goes_on : (w : W) (m : N) (p : Rest V) (cs : List (Active N)) → Run w m p cs → MAX_STEPS < w.engine.steps + k → measure p cs < suc n → (move : RewrittenBody V Limit) (mid : W) → RewritesOutermost same modules begins m w p move mid
         → Fits' same modules linked begins some m (kind_by modules linked awaits cs) (record { scopes = []; state = w }) (size_rest p) move (record { scopes = []; state = mid }) → Result w m p cs
     unfolding K'
     goes_on w m p cs f enough lt (On (comes.Goes s)) mid d (steps, (l, (h, less))) =
@@ -183,7 +183,7 @@ module _ {N I : Type 0} (same : N → N → Bool) (modules : I → Modules N) (l
     goes_on w m p [] f enough lt (Waits v s) mid d (a, (steps, (l, (kv, h)))) = (Awaiting v s, (mid, (over (Waits v s) d refl, (stays w mid m steps l, a, kv, h))))
     goes_on w m p (c ∷ cs) f enough lt (Waits v s) mid d (a, q) = absurd cc
 
-    goes_shaped : (w : W) (m : N) (p : Rest V) (cs : List (Active N)) → Run w m p cs → MAX_STEPS < w.engine.steps + k → measure p cs < suc n → (move : Move V Limit) (ss : List (Scope V)) (mid : W) → length ss ≡ 0
+    goes_shaped : (w : W) (m : N) (p : Rest V) (cs : List (Active N)) → Run w m p cs → MAX_STEPS < w.engine.steps + k → measure p cs < suc n → (move : RewrittenBody V Limit) (ss : List (Scope V)) (mid : W) → length ss ≡ 0
         → RewritesBody same modules begins m (record { scopes = []; state = w }) p move (record { scopes = ss; state = mid })
         → Fits' same modules linked begins some m (kind_by modules linked awaits cs) (record { scopes = []; state = w }) (size_rest p) move (record { scopes = ss; state = mid }) → Result w m p cs
     goes_shaped w m p cs f enough lt move [] mid e d q = goes_on w m p cs f enough lt move mid d q

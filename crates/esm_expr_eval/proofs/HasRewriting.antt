@@ -5,19 +5,19 @@ use Rattle.esm_values.specs.declared.limits.TheConstants.{BYTES_PER_STEP}
 use Rattle.esm_base.specs.declared.limits.TheConstants.{MAX_TEXT_BYTES}
 use Rattle.esm_values.specs.Acts.{Act as act}
 use Rattle.esm_values.specs.Completion.{Completion, Normal, Throw}
-use Rattle.esm_values.specs.Plans.{Acting, Comes, inside, Plan, Follows}
-use Rattle.esm_values.specs.Plans.Comes.{Goes, Leaves, Calls, Stops}
+use Rattle.esm_values.specs.Plans.{Acting, Rewritten, inside, Plan, Follows}
+use Rattle.esm_values.specs.Plans.Rewritten.{Goes, Leaves, Calls, Stops}
 use Rattle.esm_values.specs.Plans.Plan.{Ends, Asks}
 use Rattle.esm_values.specs.Operators.{Values, Textual, Known, Displayed, Refused, is_true, compare, sum, operand, made, joined, faults, complete, to_text_by, textual, new_error, error_of}
 use Rattle.esm_values.specs.Operators.{Look}
 use Rattle.esm_values.specs.Operators.{Look as look}
 use Rattle.esm_values.specs.declared.errors.FaultKind.{FaultKind}
 use Rattle.esm_values.specs.declared.errors.FaultKind.TheVariants as kinds
-use Rattle.esm_expr_eval.specs.Terms.{Term, Terms, Compared, Links}
+use Rattle.esm_expr_eval.specs.Terms.{Term, Terms, Compared, LinkTerms}
 use Rattle.esm_expr_eval.specs.Terms.Term.{Val, Waits, Fails, Name, Or, And, Equal, Sum, Not, Post, Print, NewError, Import, OwnUrl}
 use Rattle.esm_expr_eval.specs.Terms.Terms.{none, more}
 use Rattle.esm_expr_eval.specs.Terms.Compared.{last, compared}
-use Rattle.esm_expr_eval.specs.Terms.Links.{ends, member, call}
+use Rattle.esm_expr_eval.specs.Terms.LinkTerms.{ends, member, call}
 use Rattle.esm_expr_eval.specs.Ready.{Holds, HoldAll, HoldCompared, HoldLinks}
 use Rattle.esm_expr_eval.specs.Rewriting.{AreValues, Rewrites, RewritesIn, enters, called, printed, error_made, import_begun}
 use Rattle.esm_expr_eval.specs.Rewriting.AreValues.{nil, cons}
@@ -52,7 +52,7 @@ abbrev mutual
   size_compared last = 0
   size_compared (compared b e cs) = suc (size e + size_compared cs)
 
-  pub size_links : {V : Type 0} → Links V → ℕ
+  pub size_links : {V : Type 0} → LinkTerms V → ℕ
   size_links ends = 0
   size_links (member x ls) = suc (size_links ls)
   size_links (call es ls) = suc (size_all es + size_links ls)
@@ -85,7 +85,7 @@ module _ {V : Type 0} (P Q : V → Type 0) (k : (v : V) → P v → Q v) (gap : 
     held_compared last h = tt
     held_compared (compared b e cs) h = (held e h.0, held_compared cs h.1)
 
-    pub held_links : (ls : Links V) → HoldLinks P gap ls → HoldLinks Q gap ls
+    pub held_links : (ls : LinkTerms V) → HoldLinks P gap ls → HoldLinks Q gap ls
     held_links ends h = tt
     held_links (member x ls) h = held_links ls h
     held_links (call es ls) h = (held_all es h.0, held_links ls h.1)
@@ -121,7 +121,7 @@ module _ {V : Type 0} (P : V → Type 0) (gap : Type 0) where
     opened_compared last h = tt
     opened_compared (compared b e cs) h = (opened e h.0, opened_compared cs h.1)
 
-    pub opened_links : (ls : Links V) → HoldLinks P ⊥ ls → HoldLinks P gap ls
+    pub opened_links : (ls : LinkTerms V) → HoldLinks P ⊥ ls → HoldLinks P gap ls
     opened_links ends h = tt
     opened_links (member x ls) h = opened_links ls h
     opened_links (call es ls) h = (opened_all es h.0, opened_links ls h.1)
@@ -134,14 +134,14 @@ module _ {W V S : Type 0} (view : Views W V) (values : Values V) (url : W → Li
   abbrev pub InAll : Inside view (Terms V)
   InAll w gap es = HoldAll (view.Knows w) gap es
 
-  abbrev pub Arrives : W → ℕ → Comes V S (Term V) → W → Type 0
+  abbrev pub Arrives : W → ℕ → Rewritten V S (Term V) → W → Type 0
   Arrives w s c after = Lands view values In size w s c after
 
   pub data Comes' (w : W) (e : Term V) : Type 0 where
-    comes : (c : Comes V S (Term V)) (after : W) → Rewrites values url acts w e c after → Arrives w (size e) c after → Comes' w e
+    comes : (c : Rewritten V S (Term V)) (after : W) → Rewrites values url acts w e c after → Arrives w (size e) c after → Comes' w e
 
   pub data ComesAll (w : W) (es : Terms V) : Type 0 where
-    comes_all : (c : Comes V S (Terms V)) (after : W) → RewritesIn values url acts w es c after → Lands view values InAll size_all w (size_all es) c after → ComesAll w es
+    comes_all : (c : Rewritten V S (Terms V)) (after : W) → RewritesIn values url acts w es c after → Lands view values InAll size_all w (size_all es) c after → ComesAll w es
 
   -- it is a value, or has a rewriting
   abbrev pub Here : W → Term V → Type 0
@@ -154,7 +154,7 @@ module _ {W V S : Type 0} (view : Views W V) (values : Values V) (url : W → Li
 
   -- what is put round a part
   module _ (w : W) (e : Term V) (make : Term V → Term V)
-      (rule : (c : Comes V S (Term V)) (after : W) → Rewrites values url acts w e c after → Rewrites values url acts w (make e) (inside make c) after)
+      (rule : (c : Rewritten V S (Term V)) (after : W) → Rewrites values url acts w e c after → Rewrites values url acts w (make e) (inside make c) after)
       (builds : (after : W) (n : ℕ) (gap : Type 0) (a : Term V) → Later view w n after → In after gap a → In after gap (make a))
       (smaller : (a : Term V) → size a < size e → size (make a) < size (make e)) where
     part_in : Comes' w e → Comes' w (make e)
@@ -162,7 +162,7 @@ module _ {W V S : Type 0} (view : Views W V) (values : Values V) (url : W → Li
 
   -- what is put round a list
   module _ (w : W) (es : Terms V) (make : Terms V → Term V)
-      (rule : (c : Comes V S (Terms V)) (after : W) → RewritesIn values url acts w es c after → Rewrites values url acts w (make es) (inside make c) after)
+      (rule : (c : Rewritten V S (Terms V)) (after : W) → RewritesIn values url acts w es c after → Rewrites values url acts w (make es) (inside make c) after)
       (builds : (after : W) (n : ℕ) (gap : Type 0) (a : Terms V) → Later view w n after → InAll after gap a → In after gap (make a))
       (smaller : (a : Terms V) → size_all a < size_all es → size (make a) < size (make es)) where
     list_in : ComesAll w es → Comes' w (make es)
@@ -174,7 +174,7 @@ module _ {W V S : Type 0} (view : Views W V) (values : Values V) (url : W → Li
   here {w} f fits r h lt = comes (Goes f) w r (0, (stays view values acts lives fits, (h, lt)))
 
   -- a plan is followed
-  planned : {w : W} {e : Term V} (p : Plan V S (Term V)) → ((c : Comes V S (Term V)) (after : W) → Follows acts w p c after → Rewrites values url acts w e c after) → Followed view values acts lives (Arrives w (size e)) w p → Comes' w e
+  planned : {w : W} {e : Term V} (p : Plan V S (Term V)) → ((c : Rewritten V S (Term V)) (after : W) → Follows acts w p c after → Rewrites values url acts w e c after) → Followed view values acts lives (Arrives w (size e)) w p → Comes' w e
   planned p rule (followed c after f g) = comes c after (rule c after f) g
 
   -- ---- plans: from w to mid so many steps were taken
@@ -244,7 +244,7 @@ module _ {W V S : Type 0} (view : Views W V) (values : Values V) (url : W → Li
 
   -- ---- calls
 
-  kept_links : (w after : W) (n : ℕ) (gap : Type 0) (ls : Links V) → Later view w n after → HoldLinks (view.Knows w) ⊥ ls → HoldLinks (view.Knows after) gap ls
+  kept_links : (w after : W) (n : ℕ) (gap : Type 0) (ls : LinkTerms V) → Later view w n after → HoldLinks (view.Knows w) ⊥ ls → HoldLinks (view.Knows after) gap ls
   kept_links w after n gap ls l h = opened_links (view.Knows after) gap ls (held_links (view.Knows w) (view.Knows after) l.keeps ⊥ ls h)
 
   kept_all : (w after : W) (n : ℕ) (gap : Type 0) (es : Terms V) → Later view w n after → HoldAll (view.Knows w) ⊥ es → HoldAll (view.Knows after) gap es
@@ -253,7 +253,7 @@ module _ {W V S : Type 0} (view : Views W V) (values : Values V) (url : W → Li
   kept_compared : (w after : W) (n : ℕ) (gap : Type 0) (cs : Compared V) → Later view w n after → HoldCompared (view.Knows w) ⊥ cs → HoldCompared (view.Knows after) gap cs
   kept_compared w after n gap cs l h = opened_compared (view.Knows after) gap cs (held_compared (view.Knows w) (view.Knows after) l.keeps ⊥ cs h)
 
-  enters_by : (w : W) (s : ℕ) (mid : W) (f : V) (vs : List V) (ls : Links V) (l : Look) → values.look f ≡ l → Later view w 1 mid → view.Knows w f → AllKnown (view.Knows w) vs → HoldLinks (view.Knows w) ⊥ ls
+  enters_by : (w : W) (s : ℕ) (mid : W) (f : V) (vs : List V) (ls : LinkTerms V) (l : Look) → values.look f ≡ l → Later view w 1 mid → view.Knows w f → AllKnown (view.Knows w) vs → HoldLinks (view.Knows w) ⊥ ls
       → Plans w s mid (enters values f vs ls l)
   enters_by w s mid f vs ls look.Func e l k ks h =
       followed (Calls f vs (Post Waits ls)) mid Follows.ends (0, (l, (e, (l.keeps f k, (known_all _ _ l.keeps vs ks, (tt, kept_links w mid 1 ⊤ ls l h))))))
@@ -263,7 +263,7 @@ module _ {W V S : Type 0} (view : Views W V) (values : Values V) (url : W → Li
   enters_by w s mid f vs ls look.Error e l k ks h = throws w s 1 mid kinds.TypeError (codes "not a function") l
   enters_by w s mid f vs ls look.Other e l k ks h = throws w s 1 mid kinds.TypeError (codes "not a function") l
 
-  calls : (w : W) (s : ℕ) (f : V) (vs : List V) (ls : Links V) → view.Fits w → view.Knows w f → AllKnown (view.Knows w) vs → HoldLinks (view.Knows w) ⊥ ls → Plans w s w (called values f vs ls)
+  calls : (w : W) (s : ℕ) (f : V) (vs : List V) (ls : LinkTerms V) → view.Fits w → view.Knows w f → AllKnown (view.Knows w) vs → HoldLinks (view.Knows w) ⊥ ls → Plans w s w (called values f vs ls)
   calls w s f vs ls fits k ks h = step w s _ fits (λ mid l. enters_by w s mid f vs ls (values.look f) refl l k ks h)
 
   -- ---- sums
@@ -388,7 +388,7 @@ module _ {W V S : Type 0} (view : Views W V) (values : Values V) (url : W → Li
     not_by e h (inl x) = by_value (λ e. Not e) not_value e h x
     not_by e h (inr c) = part_in w e (λ e. Not e) (λ c a r. not_in r) (λ after n gap a l i. i) (λ a lt. omega (arith, lt)) c
 
-    post_in_by : (e : Term V) (ls : Links V) → Ready (Post e ls) → Comes' w e → Comes' w (Post e ls)
+    post_in_by : (e : Term V) (ls : LinkTerms V) → Ready (Post e ls) → Comes' w e → Comes' w (Post e ls)
     post_in_by e ls h c = part_in w e (λ e. Post e ls) (λ c a r. post_in r) (λ after n gap a l i. (i, kept_links w after n gap ls l h.1)) (λ a lt. omega (arith, lt)) c
 
     post_last : (v : V) → Ready (Post (Val v) ends) → Comes' w (Post (Val v) ends)
@@ -398,24 +398,24 @@ module _ {W V S : Type 0} (view : Views W V) (values : Values V) (url : W → Li
     post_last_by e h (inl x) = by_value (λ e. Post e ends) post_last e h x
     post_last_by e h (inr c) = post_in_by e ends h c
 
-    member_value : (x : List ℕ) (ls : Links V) (v : V) → Ready (Post (Val v) (member x ls)) → Comes' w (Post (Val v) (member x ls))
+    member_value : (x : List ℕ) (ls : LinkTerms V) (v : V) → Ready (Post (Val v) (member x ls)) → Comes' w (Post (Val v) (member x ls))
     member_value x ls v h =
         let s = size (Post (Val v) (member x ls)) in
         planned _ (λ c after f. member_of f)
         (ask view values acts lives (Arrives w s) w (act.Member v x) _ (stop w s 0 w (stays view values acts lives fits)) fits h.0
         (λ r mid l k. completes w s 0 mid (λ u. Post (Val u) ls) r l k (λ u q. (q, kept_links w mid 0 ⊥ ls l h.1)) (λ u. omega arith)))
 
-    member_by : (e : Term V) (x : List ℕ) (ls : Links V) → Ready (Post e (member x ls)) → Here w e → Comes' w (Post e (member x ls))
+    member_by : (e : Term V) (x : List ℕ) (ls : LinkTerms V) → Ready (Post e (member x ls)) → Here w e → Comes' w (Post e (member x ls))
     member_by e x ls h (inl y) = by_value (λ e. Post e (member x ls)) (member_value x ls) e h y
     member_by e x ls h (inr c) = post_in_by e (member x ls) h c
 
-    call_value : (es : Terms V) (ls : Links V) → HereAll w es → (v : V) → Ready (Post (Val v) (call es ls)) → Comes' w (Post (Val v) (call es ls))
+    call_value : (es : Terms V) (ls : LinkTerms V) → HereAll w es → (v : V) → Ready (Post (Val v) (call es ls)) → Comes' w (Post (Val v) (call es ls))
     call_value es ls (inl (vs, (a, k))) v h = planned (called values v vs ls) (λ c after f. call_of a f) (calls w _ v vs ls fits h.0 k h.1.1)
     call_value es ls (inr c) v h =
         list_in w es (λ es. Post (Val v) (call es ls)) (λ c a r. arguments r)
         (λ after n gap a l i. (l.keeps v h.0, (i, kept_links w after n gap ls l h.1.1))) (λ a lt. omega (arith, lt)) c
 
-    call_by : (e : Term V) (es : Terms V) (ls : Links V) → Ready (Post e (call es ls)) → Here w e → HereAll w es → Comes' w (Post e (call es ls))
+    call_by : (e : Term V) (es : Terms V) (ls : LinkTerms V) → Ready (Post e (call es ls)) → Here w e → HereAll w es → Comes' w (Post e (call es ls))
     call_by e es ls h (inl x) k = by_value (λ e. Post e (call es ls)) (call_value es ls k) e h x
     call_by e es ls h (inr c) k = post_in_by e (call es ls) h c
 

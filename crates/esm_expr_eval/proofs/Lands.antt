@@ -2,11 +2,11 @@
 -- smaller.
 use Rattle.std.proofs.Common.{◌≡◌, ℕ, suc, ◌+◌, ◌<◌, Bool, List, [], ◌∷◌}
 use Rattle.std.specs.Prelude.{Ok, Err, ⊤}
-use Rattle.esm_values.specs.Acts.{Act, Answer}
+use Rattle.esm_values.specs.Acts.{Act, AnswerTo}
 use Rattle.esm_values.specs.Acts.{Act as act}
 use Rattle.esm_values.specs.Completion.{Completion, Normal, Throw}
-use Rattle.esm_values.specs.Plans.{Acting, Comes, inside, Plan, Follows}
-use Rattle.esm_values.specs.Plans.Comes.{Goes, Leaves, Calls, Stops}
+use Rattle.esm_values.specs.Plans.{Acting, Rewritten, inside, Plan, Follows}
+use Rattle.esm_values.specs.Plans.Rewritten.{Goes, Leaves, Calls, Stops}
 use Rattle.esm_values.specs.Plans.Plan.{Ends, Asks}
 use Rattle.esm_values.specs.Plans.Follows.{ends, asks, stops}
 use Rattle.esm_values.specs.Operators.{Values}
@@ -31,7 +31,7 @@ KnowsAct P (act.Step n) = ⊤
 KnowsAct P (act.Import v) = P v
 
 -- the values that it answers
-abbrev pub KnowsAnswer : {V : Type 0} → (V → Type 0) → (a : Act V) → Answer a → Type 0
+abbrev pub KnowsAnswer : {V : Type 0} → (V → Type 0) → (a : Act V) → AnswerTo a → Type 0
 KnowsAnswer P (act.Read x) r = KnowsCompletion P r
 KnowsAnswer P (act.Member v x) r = KnowsCompletion P r
 KnowsAnswer P (act.Display v) r = ⊤
@@ -66,7 +66,7 @@ module _ {W V : Type 0} (view : Views W V) where
 
   module _ {S : Type 0} (acts : Acting W V S) where
     pub data HasAnswer (w : W) (a : Act V) : Type 0 where
-      answers : (r : Answer a) (after : W) → acts w a (Ok r) after → Later w (cost a) after → KnowsAnswer (view.Knows after) a r → HasAnswer w a
+      answers : (r : AnswerTo a) (after : W) → acts w a (Ok r) after → Later w (cost a) after → KnowsAnswer (view.Knows after) a r → HasAnswer w a
       stopped : (why : S) (after : W) → acts w a (Err why) after → view.Halts w after → HasAnswer w a
 
     -- each call is answered
@@ -84,7 +84,7 @@ module _ {W V : Type 0} (view : Views W V) where
   Inside A = W → Type 0 → A → Type 0
 
   -- from the world w, and from what remains of this size
-  abbrev pub Lands : {S A : Type 0} (values : Values V) → Inside A → (A → ℕ) → W → ℕ → Comes V S A → W → Type 0
+  abbrev pub Lands : {S A : Type 0} (values : Values V) → Inside A → (A → ℕ) → W → ℕ → Rewritten V S A → W → Type 0
   Lands values In size w s (Goes e) after = (n : ℕ) × (Later w n after × (In after ⊥ e × (size e < s)))
   Lands values In size w s (Leaves v) after = (n : ℕ) × (Later w n after × view.Knows after v)
   Lands values In size w s (Calls f vs e) after = (n : ℕ) × (Later w (suc n) after
@@ -99,28 +99,28 @@ module _ {W V : Type 0} (view : Views W V) where
     onward a b = record { fits = b.fits; keeps = λ v k. b.keeps v (a.keeps v k); took = lives.both a.took b.took }
 
     -- a plan is followed, behind n steps that were taken from w
-    pub data Followed {A : Type 0} (Goal : Comes V S A → W → Type 0) (w : W) (p : Plan V S A) : Type 0 where
-      followed : (c : Comes V S A) (after : W) → Follows acts w p c after → Goal c after → Followed Goal w p
+    pub data Followed {A : Type 0} (Goal : Rewritten V S A → W → Type 0) (w : W) (p : Plan V S A) : Type 0 where
+      followed : (c : Rewritten V S A) (after : W) → Follows acts w p c after → Goal c after → Followed Goal w p
 
-    ends_so : {A : Type 0} (Goal : Comes V S A → W → Type 0) (w : W) (c : Comes V S A) → Goal c w → Followed Goal w (Ends c)
+    ends_so : {A : Type 0} (Goal : Rewritten V S A → W → Type 0) (w : W) (c : Rewritten V S A) → Goal c w → Followed Goal w (Ends c)
     ends_so Goal w c g = followed c w ends g
 
-    behind : {A : Type 0} (Goal : Comes V S A → W → Type 0) {w mid : W} {a : Act V} {next : Answer a → Plan V S A} (r : Answer a) → acts w a (Ok r) mid → Followed Goal mid (next r) → Followed Goal w (Asks a next)
+    behind : {A : Type 0} (Goal : Rewritten V S A → W → Type 0) {w mid : W} {a : Act V} {next : AnswerTo a → Plan V S A} (r : AnswerTo a) → acts w a (Ok r) mid → Followed Goal mid (next r) → Followed Goal w (Asks a next)
     behind Goal r h (followed c after f g) = followed c after (asks r h f) g
 
-    asked : {A : Type 0} (Goal : Comes V S A → W → Type 0) (w : W) (a : Act V) (next : Answer a → Plan V S A) → ((why : S) (after : W) → view.Halts w after → Goal (Stops why) after) → HasAnswer acts w a
-        → ((r : Answer a) (mid : W) → Later w (cost a) mid → KnowsAnswer (view.Knows mid) a r → Followed Goal mid (next r)) → Followed Goal w (Asks a next)
+    asked : {A : Type 0} (Goal : Rewritten V S A → W → Type 0) (w : W) (a : Act V) (next : AnswerTo a → Plan V S A) → ((why : S) (after : W) → view.Halts w after → Goal (Stops why) after) → HasAnswer acts w a
+        → ((r : AnswerTo a) (mid : W) → Later w (cost a) mid → KnowsAnswer (view.Knows mid) a r → Followed Goal mid (next r)) → Followed Goal w (Asks a next)
     asked Goal w a next s (answers r mid h l k) go = behind Goal r h (go r mid l k)
     asked Goal w a next s (stopped why after h q) go = followed (Stops why) after (stops h) (s why after q)
 
-    pub ask : {A : Type 0} (Goal : Comes V S A → W → Type 0) (w : W) (a : Act V) (next : Answer a → Plan V S A) → ((why : S) (after : W) → view.Halts w after → Goal (Stops why) after) → view.Fits w → KnowsAct (view.Knows w) a
-        → ((r : Answer a) (mid : W) → Later w (cost a) mid → KnowsAnswer (view.Knows mid) a r → Followed Goal mid (next r)) → Followed Goal w (Asks a next)
+    pub ask : {A : Type 0} (Goal : Rewritten V S A → W → Type 0) (w : W) (a : Act V) (next : AnswerTo a → Plan V S A) → ((why : S) (after : W) → view.Halts w after → Goal (Stops why) after) → view.Fits w → KnowsAct (view.Knows w) a
+        → ((r : AnswerTo a) (mid : W) → Later w (cost a) mid → KnowsAnswer (view.Knows mid) a r → Followed Goal mid (next r)) → Followed Goal w (Asks a next)
     ask Goal w a next s f k go = asked Goal w a next s (lives.answered w a f k) go
 
     -- what stands inside something else comes to the same there
     pub lift : {A B : Type 0} (In : Inside A) (In' : Inside B) (size : A → ℕ) (size' : B → ℕ) (make : A → B) (s s' : ℕ) (w : W)
         → ((after : W) (n : ℕ) (gap : Type 0) (a : A) → Later w n after → In after gap a → In' after gap (make a)) → ((a : A) → size a < s → size' (make a) < s')
-        → (c : Comes V S A) (after : W) → Lands values In size w s c after → Lands values In' size' w s' (inside make c) after
+        → (c : Rewritten V S A) (after : W) → Lands values In size w s c after → Lands values In' size' w s' (inside make c) after
     lift In In' size size' make s s' w builds smaller (Goes a) after (n, (l, (i, g))) = (n, (l, (builds after n ⊥ a l i, smaller a g)))
     lift In In' size size' make s s' w builds smaller (Leaves v) after h = h
     lift In In' size size' make s s' w builds smaller (Calls f vs a) after (n, (l, (e, (k, (ks, i))))) = (n, (l, (e, (k, (ks, builds after (suc n) ⊤ a l i)))))

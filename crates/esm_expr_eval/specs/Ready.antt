@@ -1,10 +1,10 @@
 -- Which values stand in what remains of an expression, and whether a call is under way in it.
 use Rattle.std.specs.Prelude.{⊤}
-use Rattle.esm_expr_eval.specs.Terms.{Term, Terms, Compared, Links}
+use Rattle.esm_expr_eval.specs.Terms.{Term, Terms, Compared, LinkTerms}
 use Rattle.esm_expr_eval.specs.Terms.Term.{Val, Waits, Fails, Name, Or, And, Equal, Sum, Not, Post, Print, NewError, Import, OwnUrl}
 use Rattle.esm_expr_eval.specs.Terms.Terms.{none, more}
 use Rattle.esm_expr_eval.specs.Terms.Compared.{last, compared}
-use Rattle.esm_expr_eval.specs.Terms.Links.{ends, member, call}
+use Rattle.esm_expr_eval.specs.Terms.LinkTerms.{ends, member, call}
 
 -- each value in it is known; waits says whether a call may be under way
 module _ {V : Type 0} (Knows : V → Type 0) (waits : Type 0) where
@@ -33,7 +33,7 @@ module _ {V : Type 0} (Knows : V → Type 0) (waits : Type 0) where
     HoldCompared last = ⊤
     HoldCompared (compared alike e cs) = Holds e × HoldCompared cs
 
-    pub HoldLinks : Links V → Type 0
+    pub HoldLinks : LinkTerms V → Type 0
     HoldLinks ends = ⊤
     HoldLinks (member x ls) = HoldLinks ls
     HoldLinks (call es ls) = HoldAll es × HoldLinks ls
