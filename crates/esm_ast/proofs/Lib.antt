@@ -6,4 +6,3 @@ pub mod Scalars
 pub mod Forms
 pub mod NamesUtf8
 pub mod SpelledTree
-pub mod NamesExported

@@ -18,7 +18,7 @@ use Rattle.esm_resolve.specs.Keys.KeepsResolved.{none, kept, dropped}
 use Rattle.esm_env.specs.Modules.{Modules, graph}
 use Rattle.esm_body.specs.Fits.{AreLinked}
 use Rattle.esm_body.proofs.Ordered.{in_order}
-use Rattle.esm_ast.proofs.NamesExported.{texts_both, names_exported}
+use Rattle.esm_body.proofs.NamesExported.{texts_both, names_exported}
 use Rattle.esm_body.proofs.Resolved.{Good, good, good_target, resolved}
 
 -- ---- modules that were not reached yet

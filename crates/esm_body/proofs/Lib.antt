@@ -10,6 +10,7 @@ pub mod TreesFit
 pub mod Ordered
 pub mod Resolved
 pub mod NamesRead
+pub mod NamesExported
 pub mod KeysThere
 pub mod LinkedRead
 pub mod Grown
