@@ -1,0 +1,12 @@
+pub mod ExprKeeps
+pub mod EvalKeeps
+pub mod BodyKeeps
+pub mod Distinct
+pub mod Grows
+pub mod OneRun
+pub mod AsksOnce
+pub mod Plain
+pub mod ExprStops
+pub mod BodyStops
+pub mod EvalStops
+pub mod StartsOnce

@@ -1,0 +1,4 @@
+//! The world of a run, whole: definitions with their laws.
+#![tactic(auto)]
+
+pub mod laws;
