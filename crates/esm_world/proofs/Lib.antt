@@ -10,3 +10,4 @@ pub mod ExprStops
 pub mod BodyStops
 pub mod EvalStops
 pub mod StartsOnce
+pub mod runs

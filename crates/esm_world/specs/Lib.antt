@@ -9,3 +9,4 @@ pub mod Laws
 pub mod ImportCalls
 pub mod Direct
 pub mod Unproved
+pub mod Examples
