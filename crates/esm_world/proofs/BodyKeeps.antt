@@ -7,9 +7,9 @@ use Rattle.esm_values.specs.Value.{Value, Undefined, Truth, Text, Func, Error, N
 use Rattle.esm_values.specs.Ran.{Ran}
 use Rattle.esm_values.specs.Display.{printed_line}
 use Rattle.esm_values.specs.Completion.{Completion}
-use Rattle.esm_values.specs.Acts.{Act, Answer}
+use Rattle.esm_values.specs.Acts.{Act, AnswerTo}
 use Rattle.esm_values.specs.Acts.{Act as act}
-use Rattle.esm_values.specs.Plans.{Comes as comes}
+use Rattle.esm_values.specs.Plans.{Rewritten as comes}
 use Rattle.esm_values.specs.Operators.{values, text_of}
 use Rattle.esm_promise.specs.Promises.{Settled}
 use Rattle.esm_promise.specs.Outer.{Outer}
@@ -20,10 +20,10 @@ use Rattle.esm_env.specs.Writing.{Writing, writing_of}
 use Rattle.esm_env.specs.Writing.{Writing as writing}
 use Rattle.esm_body.specs.Scopes.{Scope, in_scopes}
 use Rattle.esm_body.specs.Rest.{Rest}
-use Rattle.esm_body.specs.State.{Event, Begins, Ends, Throws, State, Importing, Told, take_steps, steps_by, add_line, line_by, note, note_by, event_behind, event_line, add_event}
-use Rattle.esm_body.specs.Acts.{Inner, Acts, Tells, ReadsMemberOf, BeginsBy, read_answer, set_at, write_in, scope_write, module_write, modules_of}
-use Rattle.esm_body.specs.Moves.{Move, On, Gives, Waits, RewritesBody, own_url}
-use Rattle.esm_body.specs.Moves.RewritesBody.{begins_at, does, drops, sets, writes, throws, returns, prints, chooses, awaits, inner, inner_end, tries, tries_end}
+use Rattle.esm_body.specs.State.{Event, Begins, Ends, Throws, State, Importing, Answered, take_steps, steps_by, add_line, line_by, note, note_by, event_behind, event_line, add_event}
+use Rattle.esm_body.specs.Acts.{Inner, Performs, AnswersAct, ReadsMemberOf, BeginsBy, read_answer, set_at, write_in, scope_write, module_write, modules_of}
+use Rattle.esm_body.specs.BodyRewriting.{RewrittenBody, On, Gives, Waits, RewritesBody, own_url}
+use Rattle.esm_body.specs.BodyRewriting.RewritesBody.{begins_at, does, drops, sets, writes, throws, returns, prints, chooses, awaits, inner, inner_end, tries, tries_end}
 use Rattle.esm_body.specs.Segment.{Active, Ended, Normal, Thrown, Awaiting, Stopped, Next, Goes, Over, Segment, next_by, call_by, called}
 use Rattle.esm_body.specs.Segment.{Segment as segment}
 use Rattle.esm_body.specs.Bodies.{StartsBody, RunsBody, ResumesBody, segment_end, settle_done, body_end, ran_by, url_in}
@@ -57,10 +57,10 @@ module _ {N I : Type 0} where
   abbrev pub seen : State N I → Seen N I
   seen w = (w.outer.imports, started w.engine.events)
 
-  abbrev told_seen : {A : Type 0} → Told A (State N I) → Seen N I
+  abbrev told_seen : {A : Type 0} → Answered A (State N I) → Seen N I
   told_seen t = seen t.1
 
-  abbrev inner_seen : {A : Type 0} → Told A (Inner N I) → Seen N I
+  abbrev inner_seen : {A : Type 0} → Answered A (Inner N I) → Seen N I
   inner_seen t = seen t.1.state
 
   by_steps : (w : State N I) (n : ℕ) (b : Bool) → told_seen (steps_by b w n) ≡ seen w
@@ -104,7 +104,7 @@ module _ {N I : Type 0} where
   segment_keeps url m p (Stopped why) w = refl
 
   -- where a body that doesn't await has ended, if it has
-  abbrev IsRan : Option (Told (Ran (Value N)) (State N I)) → State N I → Type 0
+  abbrev IsRan : Option (Answered (Ran (Value N)) (State N I)) → State N I → Type 0
   IsRan None w = Unit {0}
   IsRan (Some t) w = told_seen t ≡ seen w
 
@@ -118,7 +118,7 @@ module _ {N I : Type 0} where
   body_keeps url m (Awaiting v rest) w = tt
   body_keeps url m (Stopped why) w = refl
 
-  ran_is : (w : State N I) {o : Option (Told (Ran (Value N)) (State N I))} {t : Told (Ran (Value N)) (State N I)} → o ≡ Some t → IsRan o w → told_seen t ≡ seen w
+  ran_is : (w : State N I) {o : Option (Answered (Ran (Value N)) (State N I))} {t : Answered (Ran (Value N)) (State N I)} → o ≡ Some t → IsRan o w → told_seen t ≡ seen w
   ran_is w e h = subst (λ o. IsRan o w) e h
 
 -- a relation that stays, goes on, and holds of each import()
@@ -146,10 +146,10 @@ module _ {N I : Type 0} (same : N → N → Bool) (modules : I → Modules N) (b
   KeepInner v w = K (seen v.state) (seen w.state)
 
   module _ (m : N) where
-    by_told : {A : Type 0} (w : Inner N I) {t u : Told A (Inner N I)} → t ≡ u → inner_seen u ≡ seen w.state → K (seen w.state) (inner_seen t)
+    by_told : {A : Type 0} (w : Inner N I) {t u : Answered A (Inner N I)} → t ≡ u → inner_seen u ≡ seen w.state → K (seen w.state) (inner_seen t)
     by_told w e f = kept (ap (λ t. inner_seen t) e ∙ f)
 
-    member_keeps : (w : Inner N I) (v : Value N) (x : List ℕ) (t : Told (Completion (Value N)) (Inner N I)) → ReadsMemberOf same modules begins m w v x t → K (seen w.state) (inner_seen t)
+    member_keeps : (w : Inner N I) (v : Value N) (x : List ℕ) (t : Answered (Completion (Value N)) (Inner N I)) → ReadsMemberOf same modules begins m w v x t → K (seen w.state) (inner_seen t)
     member_keeps w Undefined x t p = by_told w p refl
     member_keeps w (Truth b) x t p = by_told w p refl
     member_keeps w (Text s) x t p = by_told w p refl
@@ -158,11 +158,11 @@ module _ {N I : Type 0} (same : N → N → Bool) (modules : I → Modules N) (b
     member_keeps w (Namespace n) x t p = by_told w p.2 (read_keeps w x p.0)
     member_keeps w (Promise i) x t p = by_told w p refl
 
-    begin_keeps : (w : Inner N I) (text : Option (List ℕ)) (t : Told (Value N) (Inner N I)) → BeginsBy same modules begins m w text t → K (seen w.state) (inner_seen t)
+    begin_keeps : (w : Inner N I) (text : Option (List ℕ)) (t : Answered (Value N) (Inner N I)) → BeginsBy same modules begins m w text t → K (seen w.state) (inner_seen t)
     begin_keeps w None t p = by_told w p refl
     begin_keeps w (Some text) t p = on (record { imports = k.call p.2; starts = refl }) (kept (ap (λ t. inner_seen t) p.3))
 
-    tells_keeps : (w : Inner N I) (a : Act (Value N)) (t : Told (Answer a) (Inner N I)) → Tells same modules begins m w a t → K (seen w.state) (inner_seen t)
+    tells_keeps : (w : Inner N I) (a : Act (Value N)) (t : Answered (AnswerTo a) (Inner N I)) → AnswersAct same modules begins m w a t → K (seen w.state) (inner_seen t)
     tells_keeps w (act.Read x) t p = by_told w p.2 (read_keeps w x p.0)
     tells_keeps w (act.Member of x) t p = member_keeps w of x t p
     tells_keeps w (act.Display of) t p = by_told w p.2 refl
@@ -171,7 +171,7 @@ module _ {N I : Type 0} (same : N → N → Bool) (modules : I → Modules N) (b
     tells_keeps w (act.Step steps) t p = by_told w p (take_keeps w.state steps)
     tells_keeps w (act.Import of) t p = begin_keeps w (text_of w.state.outer.errors of) t p
 
-    acts_stay : Stays (Acts same modules begins m) KeepInner
+    acts_stay : Stays (Performs same modules begins m) KeepInner
     acts_stay = record { same = λ w. kept refl; on = λ p q. on p q; call = λ {v} {w} {a} {r} p. tells_keeps v a (r, w) p }
 
     set_keeps : (ss : List (Scope (Value N))) (w : State N I) (x : List ℕ) (v : Value N) → seen (set_at same modules begins m ss w x v).state ≡ seen w
@@ -193,15 +193,15 @@ module _ {N I : Type 0} (same : N → N → Bool) (modules : I → Modules N) (b
     by_write w x v (Some c) = by_scope w x v c.constant c.value
     by_write w x v None = by_module w x (writing_of same (modules_of modules w.state) w.state.cells m x v)
 
-    moves_keep : {v : Inner N I} {r : Rest (Value N)} {move : Move (Value N) Limit} {w : Inner N I} → RewritesBody same modules begins m v r move w → KeepInner v w
-    moves_keep (begins_at p) = follows_keeps (Acts same modules begins m) KeepInner acts_stay p
-    moves_keep (does s) = step_keeps (Acts same modules begins m) KeepInner acts_stay (values same) (own_url same modules begins m) s
+    moves_keep : {v : Inner N I} {r : Rest (Value N)} {move : RewrittenBody (Value N) Limit} {w : Inner N I} → RewritesBody same modules begins m v r move w → KeepInner v w
+    moves_keep (begins_at p) = follows_keeps (Performs same modules begins m) KeepInner acts_stay p
+    moves_keep (does s) = step_keeps (Performs same modules begins m) KeepInner acts_stay (values same) (own_url same modules begins m) s
     moves_keep drops = kept refl
     moves_keep {v} (sets {x = x} {v = u}) = kept (set_keeps v.scopes v.state x u)
     moves_keep {v} (writes {x = x} {v = u}) = kept (by_write v x u (in_scopes v.scopes x))
     moves_keep throws = kept refl
     moves_keep returns = kept refl
-    moves_keep (prints p) = follows_keeps (Acts same modules begins m) KeepInner acts_stay p
+    moves_keep (prints p) = follows_keeps (Performs same modules begins m) KeepInner acts_stay p
     moves_keep chooses = kept refl
     moves_keep awaits = kept refl
     moves_keep (inner p) = moves_keep p
@@ -222,7 +222,7 @@ module _ {N I : Type 0} (same : N → N → Bool) (modules : I → Modules N) (b
   by_call true m s cs w None = tt
   by_call false m s cs w callee = refl
 
-  next_keeps : (m : N) (cs : List (Active N)) (move : Move (Value N) Limit) (w : State N I) → IsKept w (next_by same modules begins m cs move w)
+  next_keeps : (m : N) (cs : List (Active N)) (move : RewrittenBody (Value N) Limit) (w : State N I) → IsKept w (next_by same modules begins m cs move w)
   next_keeps m cs (On (comes.Goes s)) w = refl
   next_keeps m [] (On (comes.Leaves v)) w = refl
   next_keeps m (c ∷ cs) (On (comes.Leaves v)) w = refl
@@ -266,7 +266,7 @@ module _ {N I : Type 0} (same : N → N → Bool) (modules : I → Modules N) (b
   begun_on m Begun.not q = record { imports = q.imports; starts = inl q.starts }
   begun_on m Begun.begun q = record { imports = q.imports; starts = inr q.starts }
 
-  noted : (url : N → List ℕ) (w : State N I) (m : N) {t : Told (Unit {0}) (State N I)} → note url w (Begins m) ≡ t → Begun m (seen w) (told_seen t)
+  noted : (url : N → List ℕ) (w : State N I) (m : N) {t : Answered (Unit {0}) (State N I)} → note url w (Begins m) ≡ t → Begun m (seen w) (told_seen t)
   noted url w m e = subst (λ t. Begun m (seen w) (told_seen t)) e (note_begins url w m w.engine.trace)
 
   pub starts_body_keeps : {v : State N I} {m : N} {done : ℕ} {a : Result (Unit {0}) Limit} {w : State N I} → StartsBody same modules begins v m done a w → Called m (seen v) (seen w)

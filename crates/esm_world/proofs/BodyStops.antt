@@ -7,9 +7,9 @@ use Rattle.esm_values.specs.Value.{Value, Undefined, Truth, Text, Func, Error, N
 use Rattle.esm_values.specs.Ran.{Ran}
 use Rattle.esm_values.specs.Display.{printed_line}
 use Rattle.esm_values.specs.Completion.{Completion}
-use Rattle.esm_values.specs.Acts.{Act, Answer}
+use Rattle.esm_values.specs.Acts.{Act, AnswerTo}
 use Rattle.esm_values.specs.Acts.{Act as act}
-use Rattle.esm_values.specs.Plans.{Comes as comes}
+use Rattle.esm_values.specs.Plans.{Rewritten as comes}
 use Rattle.esm_values.specs.Operators.{values, text_of}
 use Rattle.esm_promise.specs.Promises.{Settled, next_promise}
 use Rattle.esm_promise.specs.Outer.{Outer}
@@ -18,10 +18,10 @@ use Rattle.esm_env.specs.Cells.{Reading}
 use Rattle.esm_env.specs.Cells.{Reading as reading}
 use Rattle.esm_body.specs.Rest.{Rest}
 use Rattle.esm_tree.specs.Syntax.{Stmts}
-use Rattle.esm_body.specs.State.{Event, Begins, Ends, Throws, State, Importing, Told, stop, steps_by, add_line, line_by, note, note_by, event_behind, event_line}
-use Rattle.esm_body.specs.Acts.{Inner, Acts, Tells, ReadsMemberOf, BeginsBy, read_answer, import_answer, with_outer, with_promise, modules_of}
-use Rattle.esm_body.specs.Moves.{Move, On, Gives, Waits, RewritesBody, own_url, within, caught, wrote}
-use Rattle.esm_body.specs.Moves.RewritesBody.{begins_at, does, drops, sets, writes, throws, returns, prints, chooses, awaits, inner, inner_end, tries, tries_end}
+use Rattle.esm_body.specs.State.{Event, Begins, Ends, Throws, State, Importing, Answered, stop, steps_by, add_line, line_by, note, note_by, event_behind, event_line}
+use Rattle.esm_body.specs.Acts.{Inner, Performs, AnswersAct, ReadsMemberOf, BeginsBy, read_answer, import_answer, with_outer, with_promise, modules_of}
+use Rattle.esm_body.specs.BodyRewriting.{RewrittenBody, On, Gives, Waits, RewritesBody, own_url, within, caught, wrote}
+use Rattle.esm_body.specs.BodyRewriting.RewritesBody.{begins_at, does, drops, sets, writes, throws, returns, prints, chooses, awaits, inner, inner_end, tries, tries_end}
 use Rattle.esm_body.specs.Segment.{Active, Ended, Normal, Thrown, Awaiting, Stopped, Next, Goes, Over, Segment, next_by, call_by, called}
 use Rattle.esm_body.specs.Segment.{Segment as segment}
 use Rattle.esm_body.specs.Bodies.{StartsBody, RunsBody, ResumesBody, segment_end, settle_done, body_end, ran_by, url_in}
@@ -38,10 +38,10 @@ module _ {N I : Type 0} (P : State N I → Type 0) where
   StopsTold (Ok a) w = Unit {0}
   StopsTold (Err limit) w = P w
 
-  abbrev OfTold : {A : Type 0} → Told A (State N I) → Type 0
+  abbrev OfTold : {A : Type 0} → Answered A (State N I) → Type 0
   OfTold t = StopsTold t.0 t.1
 
-  abbrev OfInner : {A : Type 0} → Told A (Inner N I) → Type 0
+  abbrev OfInner : {A : Type 0} → Answered A (Inner N I) → Type 0
   OfInner t = StopsTold t.0 t.1.state
 
 module _ {N I : Type 0} (begins : Importing N I) (P : State N I → Type 0) (k : StopsState begins P) where
@@ -83,7 +83,7 @@ module _ {N I : Type 0} (begins : Importing N I) (P : State N I → Type 0) (k :
   segment_stop url m p (Awaiting v rest) w h = tt
   segment_stop url m p (Stopped why) w h = h
 
-  abbrev OfRan : Option (Told (Ran (Value N)) (State N I)) → Type 0
+  abbrev OfRan : Option (Answered (Ran (Value N)) (State N I)) → Type 0
   OfRan None = Unit {0}
   OfRan (Some t) = OfTold P t
 
@@ -99,7 +99,7 @@ module _ {N I : Type 0} (begins : Importing N I) (P : State N I → Type 0) (k :
 
   module _ (same : N → N → Bool) (modules : I → Modules N) where
     module _ (m : N) where
-      of_told : {A : Type 0} {t u : Told A (Inner N I)} → t ≡ u → OfInner P u → OfInner P t
+      of_told : {A : Type 0} {t u : Answered A (Inner N I)} → t ≡ u → OfInner P u → OfInner P t
       of_told e h = subst (λ t. OfInner P t) (sym e) h
 
       read_stop : (w : Inner N I) (x : List ℕ) (r : Reading (Value N)) → OfInner P (read_answer w x r)
@@ -107,7 +107,7 @@ module _ {N I : Type 0} (begins : Importing N I) (P : State N I → Type 0) (k :
       read_stop w x reading.Unset = tt
       read_stop w x reading.Undeclared = tt
 
-      member_stop : (w : Inner N I) (v : Value N) (x : List ℕ) (t : Told (Completion (Value N)) (Inner N I)) → ReadsMemberOf same modules begins m w v x t → OfInner P t
+      member_stop : (w : Inner N I) (v : Value N) (x : List ℕ) (t : Answered (Completion (Value N)) (Inner N I)) → ReadsMemberOf same modules begins m w v x t → OfInner P t
       member_stop w Undefined x t p = of_told p tt
       member_stop w (Truth b) x t p = of_told p tt
       member_stop w (Text s) x t p = of_told p tt
@@ -120,11 +120,11 @@ module _ {N I : Type 0} (begins : Importing N I) (P : State N I → Type 0) (k :
       import_stop w text p (Ok done) after b = tt
       import_stop w text p (Err limit) after b = k.begin b w.state
 
-      begin_stop : (w : Inner N I) (text : Option (List ℕ)) (t : Told (Value N) (Inner N I)) → BeginsBy same modules begins m w text t → OfInner P t
+      begin_stop : (w : Inner N I) (text : Option (List ℕ)) (t : Answered (Value N) (Inner N I)) → BeginsBy same modules begins m w text t → OfInner P t
       begin_stop w None t p = of_told p tt
       begin_stop w (Some text) t p = of_told p.3 (import_stop w text (next_promise w.state.outer.promises) p.0 p.1 p.2)
 
-      tells_stop : (w : Inner N I) (a : Act (Value N)) (t : Told (Answer a) (Inner N I)) → Tells same modules begins m w a t → OfInner P t
+      tells_stop : (w : Inner N I) (a : Act (Value N)) (t : Answered (AnswerTo a) (Inner N I)) → AnswersAct same modules begins m w a t → OfInner P t
       tells_stop w (act.Read x) t p = of_told p.2 (read_stop w x p.0)
       tells_stop w (act.Member of x) t p = member_stop w of x t p
       tells_stop w (act.Display of) t p = of_told p.2 tt
@@ -136,10 +136,10 @@ module _ {N I : Type 0} (begins : Importing N I) (P : State N I → Type 0) (k :
       abbrev PInner : Limit → Inner N I → Type 0
       PInner limit w = P w.state
 
-      acts_stop : StopsBy (Acts same modules begins m) PInner
+      acts_stop : StopsBy (Performs same modules begins m) PInner
       acts_stop = record { call = λ {v} {w} {a} {why} p. tells_stop v a (Err why, w) p }
 
-      abbrev OfMove : Move (Value N) Limit → State N I → Type 0
+      abbrev OfMove : RewrittenBody (Value N) Limit → State N I → Type 0
       OfMove (On (comes.Goes r)) w = Unit {0}
       OfMove (On (comes.Leaves v)) w = Unit {0}
       OfMove (On (comes.Calls f vs r)) w = Unit {0}
@@ -153,7 +153,7 @@ module _ {N I : Type 0} (begins : Importing N I) (P : State N I → Type 0) (k :
       move_of (comes.Calls f vs r) w h = tt
       move_of (comes.Stops why) w h = h
 
-      within_stop : (f : Rest (Value N) → Rest (Value N)) (move : Move (Value N) Limit) (w : State N I) → OfMove move w → OfMove (within f move) w
+      within_stop : (f : Rest (Value N) → Rest (Value N)) (move : RewrittenBody (Value N) Limit) (w : State N I) → OfMove move w → OfMove (within f move) w
       within_stop f (On (comes.Goes r)) w h = tt
       within_stop f (On (comes.Leaves v)) w h = tt
       within_stop f (On (comes.Calls g vs r)) w h = tt
@@ -161,7 +161,7 @@ module _ {N I : Type 0} (begins : Importing N I) (P : State N I → Type 0) (k :
       within_stop f (Gives v) w h = tt
       within_stop f (Waits v r) w h = tt
 
-      caught_stop : (x : Option (List ℕ)) (handler : Stmts) (rest : Rest (Value N)) (move : Move (Value N) Limit) (w : State N I) → OfMove move w → OfMove (caught x handler rest move) w
+      caught_stop : (x : Option (List ℕ)) (handler : Stmts) (rest : Rest (Value N)) (move : RewrittenBody (Value N) Limit) (w : State N I) → OfMove move w → OfMove (caught x handler rest move) w
       caught_stop x handler rest (On (comes.Goes r)) w h = tt
       caught_stop x handler rest (On (comes.Leaves v)) w h = tt
       caught_stop x handler rest (On (comes.Calls g vs r)) w h = tt
@@ -173,15 +173,15 @@ module _ {N I : Type 0} (begins : Importing N I) (P : State N I → Type 0) (k :
       wrote_stop rest None w = tt
       wrote_stop rest (Some v) w = tt
 
-      moves_stop : {v : Inner N I} {r : Rest (Value N)} {move : Move (Value N) Limit} {w : Inner N I} → RewritesBody same modules begins m v r move w → OfMove move w.state
-      moves_stop {w = w} (begins_at {c = c} p) = move_of c w (follows_stop (Acts same modules begins m) PInner acts_stop (Never.asks (λ r. Never.ends tt)) p)
-      moves_stop {w = w} (does {c = c} s) = move_of _ w (inside_stop (Acts same modules begins m) PInner acts_stop _ w c (rewrites_stop (Acts same modules begins m) PInner acts_stop (values same) (own_url same modules begins m) s))
+      moves_stop : {v : Inner N I} {r : Rest (Value N)} {move : RewrittenBody (Value N) Limit} {w : Inner N I} → RewritesBody same modules begins m v r move w → OfMove move w.state
+      moves_stop {w = w} (begins_at {c = c} p) = move_of c w (follows_stop (Performs same modules begins m) PInner acts_stop (Never.asks (λ r. Never.ends tt)) p)
+      moves_stop {w = w} (does {c = c} s) = move_of _ w (inside_stop (Performs same modules begins m) PInner acts_stop _ w c (rewrites_stop (Performs same modules begins m) PInner acts_stop (values same) (own_url same modules begins m) s))
       moves_stop drops = tt
       moves_stop sets = tt
       moves_stop {w = w} (writes {rest = rest}) = wrote_stop rest _ w.state
       moves_stop throws = tt
       moves_stop returns = tt
-      moves_stop {w = w} (prints {c = c} p) = move_of c w (follows_stop (Acts same modules begins m) PInner acts_stop (Never.asks (λ r. Never.asks (λ r. Never.ends tt))) p)
+      moves_stop {w = w} (prints {c = c} p) = move_of c w (follows_stop (Performs same modules begins m) PInner acts_stop (Never.asks (λ r. Never.asks (λ r. Never.ends tt))) p)
       moves_stop chooses = tt
       moves_stop awaits = tt
       moves_stop {w = w} (inner {move = move} p) = within_stop _ move w.state (moves_stop p)
@@ -199,7 +199,7 @@ module _ {N I : Type 0} (begins : Importing N I) (P : State N I → Type 0) (k :
     by_call true m s cs w None = tt
     by_call false m s cs w callee = tt
 
-    next_stop : (m : N) (cs : List (Active N)) (move : Move (Value N) Limit) (w : State N I) → OfMove m move w → OfNext (next_by same modules begins m cs move w)
+    next_stop : (m : N) (cs : List (Active N)) (move : RewrittenBody (Value N) Limit) (w : State N I) → OfMove m move w → OfNext (next_by same modules begins m cs move w)
     next_stop m cs (On (comes.Goes s)) w h = tt
     next_stop m [] (On (comes.Leaves v)) w h = tt
     next_stop m (c ∷ cs) (On (comes.Leaves v)) w h = tt
@@ -219,10 +219,10 @@ module _ {N I : Type 0} (begins : Importing N I) (P : State N I → Type 0) (k :
     runs_stop (segment.goes move p e q) = runs_stop q
     runs_stop {m = m} {cs = cs} (segment.over {mid = mid} move p e) = next_is e (next_stop m cs move mid (moves_stop m p))
 
-    told_is : {A : Type 0} {t u : Told A (State N I)} → t ≡ u → OfTold P t → OfTold P u
+    told_is : {A : Type 0} {t u : Answered A (State N I)} → t ≡ u → OfTold P t → OfTold P u
     told_is e h = subst (λ t. OfTold P t) e h
 
-    ran_is : {o : Option (Told (Ran (Value N)) (State N I))} {t : Told (Ran (Value N)) (State N I)} → o ≡ Some t → OfRan o → OfTold P t
+    ran_is : {o : Option (Answered (Ran (Value N)) (State N I))} {t : Answered (Ran (Value N)) (State N I)} → o ≡ Some t → OfRan o → OfTold P t
     ran_is e h = subst (λ o. OfRan o) e h
 
     pub starts_body_stop : {v : State N I} {m : N} {done : ℕ} {a : Result (Unit {0}) Limit} {w : State N I} → StartsBody same modules begins v m done a w → StopsTold P a w

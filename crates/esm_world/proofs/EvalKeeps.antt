@@ -5,7 +5,7 @@ use Rattle.esm_realm.specs.Walk.{Mark}
 use Rattle.esm_realm.specs.Components.{opened_from}
 use Rattle.esm_eval.specs.Nodes.{Phase, NotEntered, Evaluating, EvaluatingAsync, Evaluated, Node, Call, CallAnswer, BodyCalls}
 use Rattle.esm_eval.specs.Evaluation.{Evaluation, fulfill_kept, reject_kept, add_wait, put_wait, is_stamped}
-use Rattle.esm_eval.specs.Evaluate.{End, ExecutesAsync, Executes, Leaves, Marks, EvaluatesRoot, Evaluates, close, fail, keep, fulfill_by, closed_phase}
+use Rattle.esm_eval.specs.Evaluate.{WalkEnd, ExecutesAsync, Executes, Leaves, Marks, EvaluatesRoot, Evaluates, close, fail, keep, fulfill_by, closed_phase}
 use Rattle.esm_eval.specs.Evaluate.Marks.{done, enters, passes, pass_throws, stays, component, leave_throws, leave_stops}
 use Rattle.esm_eval.specs.BodyEnd.{Rejects, RejectsAll, GoOn, Fulfills, finish, refuse}
 
@@ -22,16 +22,16 @@ pub record Lasts {N V W S : Type 0} (E : Evaluation N V W) (acts : BodyCalls N V
   pub call : {v w : W} {c : Call N} {r : Result (CallAnswer V c) S} → acts v c r w → Keep v w
 
 module _ {N V W S : Type 0} (E : Evaluation N V W) (acts : BodyCalls N V W S) (Keep : W → W → Type 0) (k : Lasts E acts Keep) where
-  starts_keeps : {v w : W} {m : N} {end : End V S} → ExecutesAsync E acts v m end w → Keep v w
+  starts_keeps : {v w : W} {m : N} {end : WalkEnd V S} → ExecutesAsync E acts v m end w → Keep v w
   starts_keeps (ExecutesAsync.starts p) = k.on (k.make_body _ _) (k.call p)
   starts_keeps (ExecutesAsync.stops why p) = k.on (k.make_body _ _) (k.call p)
 
-  runs_keeps : {v w : W} {m : N} {end : End V S} → Executes E acts v m end w → Keep v w
+  runs_keeps : {v w : W} {m : N} {end : WalkEnd V S} → Executes E acts v m end w → Keep v w
   runs_keeps (Executes.ends p) = k.call p
   runs_keeps (Executes.throws v p) = k.call p
   runs_keeps (Executes.stops why p) = k.call p
 
-  leaves_keeps : {v : W} {m : N} {end : End V S} {w : W} → Leaves E acts v m end w → Keep v w
+  leaves_keeps : {v : W} {m : N} {end : WalkEnd V S} {w : W} → Leaves E acts v m end w → Keep v w
   leaves_keeps (Leaves.runs n o p) = runs_keeps p
   leaves_keeps (Leaves.starts n o p) = k.on (k.stamp _ _) (starts_keeps p)
   leaves_keeps (Leaves.waiting n) = k.stamp _ _
@@ -51,7 +51,7 @@ module _ {N V W S : Type 0} (E : Evaluation N V W) (acts : BodyCalls N V W S) (K
   wait_keeps w x None = k.same w
   wait_keeps w x (Some y) = k.on (k.put w x (record (E.node w x) { waits = (E.node w x).waits ++ y ∷ [] })) (k.put (put_wait E w x y) y _)
 
-  marks_keeps : {to : N → List N} {v : W} {opened : List N} {ms : List (Mark N)} {end : End V S} {w : W} → Marks E acts to v opened ms end w → Keep v w
+  marks_keeps : {to : N → List N} {v : W} {opened : List N} {ms : List (Mark N)} {end : WalkEnd V S} {w : W} → Marks E acts to v opened ms end w → Keep v w
   marks_keeps {v = v} done = k.same v
   marks_keeps (enters p) = k.on (k.put _ _ _) (marks_keeps p)
   marks_keeps {v = v} (passes {x = x} t n p) = k.on (wait_keeps v x _) (marks_keeps p)

@@ -4,7 +4,7 @@ use Rattle.std.specs.Prelude.{Result, Ok, Err}
 use Rattle.esm_realm.specs.Walk.{Mark}
 use Rattle.esm_eval.specs.Nodes.{Call, BodyCalls}
 use Rattle.esm_eval.specs.Evaluation.{Evaluation}
-use Rattle.esm_eval.specs.Evaluate.{End, Ends, Throws, Stops, ExecutesAsync, Executes, Leaves, Marks, EvaluatesRoot, Evaluates}
+use Rattle.esm_eval.specs.Evaluate.{WalkEnd, Ends, Throws, Stops, ExecutesAsync, Executes, Leaves, Marks, EvaluatesRoot, Evaluates}
 use Rattle.esm_eval.specs.Evaluate.Marks.{done, enters, passes, pass_throws, stays, component, leave_throws, leave_stops}
 use Rattle.esm_eval.specs.BodyEnd.{GoOn, Fulfills}
 
@@ -12,7 +12,7 @@ module _ {N V W S : Type 0} (E : Evaluation N V W) (acts : BodyCalls N V W S) (P
   pub record StopsCall : Type 0 where
     pub call : {v w : W} {c : Call N} {why : S} → acts v c (Err why) w → P w
 
-  abbrev OfEnd : End V S → W → Type 0
+  abbrev OfEnd : WalkEnd V S → W → Type 0
   OfEnd Ends w = Unit {0}
   OfEnd (Throws v) w = Unit {0}
   OfEnd (Stops why) w = P w
@@ -23,21 +23,21 @@ module _ {N V W S : Type 0} (E : Evaluation N V W) (acts : BodyCalls N V W S) (P
   OfAnswer (Err why) w = P w
 
   module _ (k : StopsCall) where
-    starts_stop : {v w : W} {m : N} {end : End V S} → ExecutesAsync E acts v m end w → OfEnd end w
+    starts_stop : {v w : W} {m : N} {end : WalkEnd V S} → ExecutesAsync E acts v m end w → OfEnd end w
     starts_stop (ExecutesAsync.starts p) = tt
     starts_stop (ExecutesAsync.stops why p) = k.call p
 
-    runs_stop : {v w : W} {m : N} {end : End V S} → Executes E acts v m end w → OfEnd end w
+    runs_stop : {v w : W} {m : N} {end : WalkEnd V S} → Executes E acts v m end w → OfEnd end w
     runs_stop (Executes.ends p) = tt
     runs_stop (Executes.throws v p) = tt
     runs_stop (Executes.stops why p) = k.call p
 
-    leaves_stop : {v : W} {m : N} {end : End V S} {w : W} → Leaves E acts v m end w → OfEnd end w
+    leaves_stop : {v : W} {m : N} {end : WalkEnd V S} {w : W} → Leaves E acts v m end w → OfEnd end w
     leaves_stop (Leaves.runs n o p) = runs_stop p
     leaves_stop (Leaves.starts n o p) = starts_stop p
     leaves_stop (Leaves.waiting n) = tt
 
-    marks_stop : {to : N → List N} {v : W} {opened : List N} {ms : List (Mark N)} {end : End V S} {w : W} → Marks E acts to v opened ms end w → OfEnd end w
+    marks_stop : {to : N → List N} {v : W} {opened : List N} {ms : List (Mark N)} {end : WalkEnd V S} {w : W} → Marks E acts to v opened ms end w → OfEnd end w
     marks_stop done = tt
     marks_stop (enters p) = marks_stop p
     marks_stop (passes t n p) = marks_stop p

@@ -1,8 +1,8 @@
 -- What each call on the world keeps, a rewriting of an expression keeps.
 use Rattle.std.proofs.Common.{ℕ, List}
 use Rattle.std.specs.Prelude.{Result}
-use Rattle.esm_values.specs.Acts.{Act, Answer}
-use Rattle.esm_values.specs.Plans.{Acting, Comes, Plan, Follows}
+use Rattle.esm_values.specs.Acts.{Act, AnswerTo}
+use Rattle.esm_values.specs.Plans.{Acting, Rewritten, Plan, Follows}
 use Rattle.esm_values.specs.Plans.{Follows as follow}
 use Rattle.esm_values.specs.Operators.{Values}
 use Rattle.esm_expr_eval.specs.Terms.{Term, Terms}
@@ -14,17 +14,17 @@ use Rattle.esm_expr_eval.specs.Rewriting.RewritesIn.{first, later}
 pub record Stays {W V S : Type 0} (acts : Acting W V S) (Keep : W → W → Type 0) : Type 0 where
   pub same : (w : W) → Keep w w
   pub on : {u v w : W} → Keep u v → Keep v w → Keep u w
-  pub call : {v w : W} {a : Act V} {r : Result (Answer a) S} → acts v a r w → Keep v w
+  pub call : {v w : W} {a : Act V} {r : Result (AnswerTo a) S} → acts v a r w → Keep v w
 
 module _ {W V S : Type 0} (acts : Acting W V S) (Keep : W → W → Type 0) (k : Stays acts Keep) where
-  pub follows_keeps : {A : Type 0} {v w : W} {p : Plan V S A} {c : Comes V S A} → Follows acts v p c w → Keep v w
+  pub follows_keeps : {A : Type 0} {v w : W} {p : Plan V S A} {c : Rewritten V S A} → Follows acts v p c w → Keep v w
   follows_keeps {v = v} follow.ends = k.same v
   follows_keeps (follow.asks r a f) = k.on (k.call a) (follows_keeps f)
   follows_keeps (follow.stops a) = k.call a
 
   module _ (values : Values V) (url : W → List ℕ) where
     mutual
-      pub step_keeps : {v w : W} {t : Term V} {c : Comes V S (Term V)} → Rewrites values url acts v t c w → Keep v w
+      pub step_keeps : {v w : W} {t : Term V} {c : Rewritten V S (Term V)} → Rewrites values url acts v t c w → Keep v w
       step_keeps {v} fails = k.same v
       step_keeps (name a) = follows_keeps a
       step_keeps (or_in s) = step_keeps s
@@ -54,6 +54,6 @@ module _ {W V S : Type 0} (acts : Acting W V S) (Keep : W → W → Type 0) (k :
       step_keeps (begins a) = follows_keeps a
       step_keeps {v} own_url = k.same v
 
-      steps_keeps : {v w : W} {es : Terms V} {c : Comes V S (Terms V)} → RewritesIn values url acts v es c w → Keep v w
+      steps_keeps : {v w : W} {es : Terms V} {c : Rewritten V S (Terms V)} → RewritesIn values url acts v es c w → Keep v w
       steps_keeps (first s) = step_keeps s
       steps_keeps (later s) = steps_keeps s

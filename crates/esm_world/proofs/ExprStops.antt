@@ -2,21 +2,21 @@
 use Rattle.std.proofs.Common.{ℕ, List, Bool, true, false, Option, Some, None}
 use Rattle.std.specs.Prelude.{Err, nat_lt, length, if◌then◌else◌}
 use Rattle.esm_base.specs.declared.limits.TheConstants.{MAX_TEXT_BYTES}
-use Rattle.esm_values.specs.Acts.{Act, Answer}
+use Rattle.esm_values.specs.Acts.{Act, AnswerTo}
 use Rattle.esm_values.specs.Completion.{Completion, Normal, Throw}
-use Rattle.esm_values.specs.Plans.{Acting, Comes, Plan, Follows, inside}
+use Rattle.esm_values.specs.Plans.{Acting, Rewritten, Plan, Follows, inside}
 use Rattle.esm_values.specs.Plans.{Follows as follow}
-use Rattle.esm_values.specs.Plans.Comes.{Goes, Leaves, Calls, Stops}
+use Rattle.esm_values.specs.Plans.Rewritten.{Goes, Leaves, Calls, Stops}
 use Rattle.esm_values.specs.Plans.Plan.{Ends, Asks}
 use Rattle.esm_values.specs.Operators.{Look, Textual, Known, Displayed, Refused, Values, textual, joined, made, operand, sum, complete, to_text_by, error_of, new_error}
 use Rattle.esm_values.specs.Operators.{Look as look}
-use Rattle.esm_expr_eval.specs.Terms.{Term, Terms, Links}
+use Rattle.esm_expr_eval.specs.Terms.{Term, Terms, LinkTerms}
 use Rattle.esm_expr_eval.specs.Terms.Term.{Val, Sum}
 use Rattle.esm_expr_eval.specs.Rewriting.{Rewrites, RewritesIn, or_on, and_on, enters}
 use Rattle.esm_expr_eval.specs.Rewriting.Rewrites.{fails, name, or_in, or, and_in, and, equal_in, equal_right, equal, equal_end, sum_in, sum_right, joins, sum_end, not_in, not_of, post_in, member_of, arguments, call_of, post_end, print_in, print, error_in, error, import_in, begins, own_url}
 use Rattle.esm_expr_eval.specs.Rewriting.RewritesIn.{first, later}
 
-abbrev pub NoStop : {V S A : Type 0} → Comes V S A → Type 0
+abbrev pub NoStop : {V S A : Type 0} → Rewritten V S A → Type 0
 NoStop (Goes a) = Unit {0}
 NoStop (Leaves v) = Unit {0}
 NoStop (Calls f vs a) = Unit {0}
@@ -24,11 +24,11 @@ NoStop (Stops why) = ⊥
 
 -- the plan itself has no stop
 pub data Never {V S A : Type 0} : Plan V S A → Type 0 where
-  ends : {c : Comes V S A} → NoStop c → Never (Ends c)
-  asks : {a : Act V} {next : Answer a → Plan V S A} → ((r : Answer a) → Never (next r)) → Never (Asks a next)
+  ends : {c : Rewritten V S A} → NoStop c → Never (Ends c)
+  asks : {a : Act V} {next : AnswerTo a → Plan V S A} → ((r : AnswerTo a) → Never (next r)) → Never (Asks a next)
 
 -- where it stops, this holds of the reason and the world
-abbrev pub StopsAs : {V S A W : Type 0} → (S → W → Type 0) → Comes V S A → W → Type 0
+abbrev pub StopsAs : {V S A W : Type 0} → (S → W → Type 0) → Rewritten V S A → W → Type 0
 StopsAs P (Goes a) w = Unit {0}
 StopsAs P (Leaves v) w = Unit {0}
 StopsAs P (Calls f vs a) w = Unit {0}
@@ -38,19 +38,19 @@ pub record StopsBy {W V S : Type 0} (acts : Acting W V S) (P : S → W → Type 
   pub call : {v w : W} {a : Act V} {why : S} → acts v a (Err why) w → P why w
 
 module _ {W V S : Type 0} (acts : Acting W V S) (P : S → W → Type 0) (k : StopsBy acts P) where
-  no_stop : {A : Type 0} (w : W) (c : Comes V S A) → NoStop c → StopsAs P c w
+  no_stop : {A : Type 0} (w : W) (c : Rewritten V S A) → NoStop c → StopsAs P c w
   no_stop w (Goes a) n = tt
   no_stop w (Leaves v) n = tt
   no_stop w (Calls f vs a) n = tt
   no_stop w (Stops why) n = absurd n
 
-  pub inside_stop : {A B : Type 0} (f : A → B) (w : W) (c : Comes V S A) → StopsAs P c w → StopsAs P (inside f c) w
+  pub inside_stop : {A B : Type 0} (f : A → B) (w : W) (c : Rewritten V S A) → StopsAs P c w → StopsAs P (inside f c) w
   inside_stop f w (Goes a) s = tt
   inside_stop f w (Leaves v) s = tt
   inside_stop f w (Calls g vs a) s = tt
   inside_stop f w (Stops why) s = s
 
-  pub follows_stop : {A : Type 0} {v w : W} {p : Plan V S A} {c : Comes V S A} → Never p → Follows acts v p c w → StopsAs P c w
+  pub follows_stop : {A : Type 0} {v w : W} {p : Plan V S A} {c : Rewritten V S A} → Never p → Follows acts v p c w → StopsAs P c w
   follows_stop {v = v} {c = c} (Never.ends n) follow.ends = no_stop v c n
   follows_stop {A = A} {v = v} {w = w} {c = c} (Never.asks n) (follow.asks {mid = mid} r a f) = follows_stop {v = mid} (n r) f
   follows_stop (Never.asks n) (follow.stops a) = k.call a
@@ -95,7 +95,7 @@ module _ {W V S : Type 0} (acts : Acting W V S) (P : S → W → Type 0) (k : St
     error_never rest v look.Error = text_never v (textual look.Error) (new_error values rest) (λ s. Never.asks (λ r. Never.ends tt))
     error_never rest v look.Other = text_never v (textual look.Other) (new_error values rest) (λ s. Never.asks (λ r. Never.ends tt))
 
-    enters_never : (f : V) (vs : List V) (ls : Links V) (l : Look) → Never {S = S} (enters values f vs ls l)
+    enters_never : (f : V) (vs : List V) (ls : LinkTerms V) (l : Look) → Never {S = S} (enters values f vs ls l)
     enters_never f vs ls look.Undefined = Never.asks (λ r. Never.ends tt)
     enters_never f vs ls (look.Truth b) = Never.asks (λ r. Never.ends tt)
     enters_never f vs ls (look.Text t) = Never.asks (λ r. Never.ends tt)
@@ -113,7 +113,7 @@ module _ {W V S : Type 0} (acts : Acting W V S) (P : S → W → Type 0) (k : St
 
     module _ (url : W → List ℕ) where
       mutual
-        pub rewrites_stop : {v w : W} {t : Term V} {c : Comes V S (Term V)} → Rewrites values url acts v t c w → StopsAs P c w
+        pub rewrites_stop : {v w : W} {t : Term V} {c : Rewritten V S (Term V)} → Rewrites values url acts v t c w → StopsAs P c w
         rewrites_stop fails = tt
         rewrites_stop (name a) = follows_stop (Never.asks (λ r. complete_never _ r)) a
         rewrites_stop {w = w} (or_in {c = c} s) = inside_stop _ w c (rewrites_stop s)
@@ -143,6 +143,6 @@ module _ {W V S : Type 0} (acts : Acting W V S) (P : S → W → Type 0) (k : St
         rewrites_stop (begins a) = follows_stop (Never.asks (λ r. Never.asks (λ r. Never.ends tt))) a
         rewrites_stop own_url = tt
 
-        rewrites_in_stop : {v w : W} {es : Terms V} {c : Comes V S (Terms V)} → RewritesIn values url acts v es c w → StopsAs P c w
+        rewrites_in_stop : {v w : W} {es : Terms V} {c : Rewritten V S (Terms V)} → RewritesIn values url acts v es c w → StopsAs P c w
         rewrites_in_stop {w = w} (first {c = c} s) = inside_stop _ w c (rewrites_stop s)
         rewrites_in_stop {w = w} (later {c = c} s) = inside_stop _ w c (rewrites_in_stop s)

@@ -4,7 +4,9 @@ pub mod BodyKeeps
 pub mod Distinct
 pub mod Grows
 pub mod OneRun
-pub mod AsksOnce
+pub mod WorldGrows
+pub mod Members
+pub mod Deliveries
 pub mod Plain
 pub mod ExprStops
 pub mod BodyStops

@@ -4,7 +4,8 @@ use Rattle.std.specs.Prelude.{cond, Option}
 use Rattle.std.specs.Option.{option_or}
 use Rattle.esm_base.specs.declared.limits.Limit.{Limit}
 use Rattle.esm_base.specs.Urls.{Url, same_url}
-use Rattle.esm_realm.specs.Walk.{Mark, leaves, is_in}
+use Rattle.esm_realm.specs.Walk.{Mark, leaves}
+use Rattle.esm_base.specs.Lists.{is_in}
 use Rattle.esm_realm.specs.Walk.Mark.{Enter, Pass, Leave}
 use Rattle.esm_realm.specs.Components.{closes, opened_before, opened_from, opened_after, open_behind}
 use Rattle.esm_values.specs.Value.{Value}
@@ -12,7 +13,7 @@ use Rattle.esm_loads.specs.UrlTable.{put_at}
 use Rattle.esm_loads.specs.Loading.{Loading}
 use Rattle.esm_eval.specs.Nodes.{Phase, NotEntered, Evaluating, EvaluatingAsync, Evaluated, Node}
 use Rattle.esm_eval.specs.Evaluation.{error_of, wait_on, wait_by, add_wait, root_of, is_stamped}
-use Rattle.esm_eval.specs.Evaluate.{End, Ends, Marks, Leaves, enter, close, fail, closed_phase}
+use Rattle.esm_eval.specs.Evaluate.{WalkEnd, Ends, Marks, Leaves, enter, close, fail, closed_phase}
 use Rattle.esm_eval.specs.Evaluate.{Executes as executes}
 use Rattle.esm_body.specs.State.{State}
 use Rattle.esm_world.specs.World.{World, state_of, with_state}
@@ -80,10 +81,10 @@ no_wait w t p =
     ap₂ (λ a b. wait_by evaluation t r (w.nodes t).phase a b (w.nodes r).done) (unstamped w t p) (unstamped w r p) ∙ by_phase t r (w.nodes t).phase (w.nodes r).done
 
 module _ (to : Url → List Url) where
-  order_from : {s t after : State Url Loading} {xs : List Url} {end : End (Value Url) Limit} → t ≡ s → RunInOrder s xs end after → RunInOrder t xs end after
+  order_from : {s t after : State Url Loading} {xs : List Url} {end : WalkEnd (Value Url) Limit} → t ≡ s → RunInOrder s xs end after → RunInOrder t xs end after
   order_from {after = after} {xs = xs} {end = end} e q = subst (λ s. RunInOrder s xs end after) (sym e) q
 
-  leaves_on : (w : World) (x : Url) (opened : List Url) (ms : List (Mark Url)) (end : End (Value Url) Limit) (mid : World) (s : State Url Loading)
+  leaves_on : (w : World) (x : Url) (opened : List Url) (ms : List (Mark Url)) (end : WalkEnd (Value Url) Limit) (mid : World) (s : State Url Loading)
       → Leaves evaluation Executes w x Ends mid → (b : Bool) → closes same_url to opened x ≡ b → opened_after same_url to (open_behind same_url b opened x) ms ≡ []
       → (opened_after same_url to opened ms ≡ [] → LeadsTo to mid opened ms end s)
       → (opened_after same_url to (opened_before same_url opened x) ms ≡ [] → LeadsTo to (close evaluation mid x (opened_from same_url opened x)) (opened_before same_url opened x) ms end s)
@@ -91,7 +92,7 @@ module _ (to : Url → List Url) where
   leaves_on w x opened ms end mid s l true e o stay shut = let k = shut o in record { after = k.after; marks = Marks.component l e k.marks; state = k.state }
   leaves_on w x opened ms end mid s l false e o stay shut = let k = stay o in record { after = k.after; marks = Marks.stays l e k.marks; state = k.state }
 
-  pub plain : (ms : List (Mark Url)) (w : World) (opened : List Url) (end : End (Value Url) Limit) (s : State Url Loading) → IsPlain w → HaveTargets to ms → opened_after same_url to opened ms ≡ [] → RunInOrder (state_of w) (leaves ms) end s → LeadsTo to w opened ms end s
+  pub plain : (ms : List (Mark Url)) (w : World) (opened : List Url) (end : WalkEnd (Value Url) Limit) (s : State Url Loading) → IsPlain w → HaveTargets to ms → opened_after same_url to opened ms ≡ [] → RunInOrder (state_of w) (leaves ms) end s → LeadsTo to w opened ms end s
   plain [] w opened end s p h o RunInOrder.done = subst (λ (v : List Url). LeadsTo to w v [] end s) (sym o) (record { after = w; marks = Marks.done; state = refl })
   plain (Enter x ∷ ms) w opened end s p h o q = let k = plain ms (enter evaluation w x) (opened ++ x ∷ []) end s (enter_plain w x p) h o q in record { after = k.after; marks = Marks.enters k.marks; state = k.state }
   plain (Pass x i ∷ ms) w opened end s p h o q =

@@ -9,7 +9,7 @@ use Rattle.esm_tree.specs.Syntax.{Item}
 use Rattle.esm_ast.specs.Outcome.{OutcomeView}
 use Rattle.esm_import_map.specs.ImportMap.{Maps}
 use Rattle.esm_realm.specs.Laws.{AreDistinct}
-use Rattle.esm_realm.specs.Walk.{is_in}
+use Rattle.esm_base.specs.Lists.{is_in, EachOnce}
 use Rattle.esm_values.specs.Value.{Value}
 use Rattle.esm_promise.specs.Promises.{Settled}
 use Rattle.esm_promise.specs.Reactions.{Reaction}
@@ -23,7 +23,7 @@ use Rattle.esm_eval.specs.Nodes.{Call, CallAnswer, module_of}
 use Rattle.esm_eval.specs.Evaluation.{IsLawful, IsSteady}
 use Rattle.esm_eval.specs.Evaluate.{Evaluates}
 use Rattle.esm_eval.specs.BodyEnd.{Fulfills}
-use Rattle.esm_eval.specs.Begins.{First, BeginsOne, HaveBegunOnce, EachOnce}
+use Rattle.esm_eval.specs.Begins.{First, BeginsOne, HaveBegunOnce}
 use Rattle.esm_eval.specs.Waiting.{IsBetweenCalls, HasOpenWait}
 use Rattle.esm_eval.specs.Laws.{MakesFirstCalls}
 use Rattle.esm_eval.proofs.OnceEnds.{begins_once}
@@ -34,14 +34,14 @@ use Rattle.esm_world.specs.Jobs.{EvaluatesLoad, Reacts, Jobs, when_evaluated}
 use Rattle.esm_world.specs.Jobs.Reacts.{entry_linked, entry_fault, entry_refused, entry_ended, entry_threw, linked, fault, refused, evaluated, threw, body_ended, body_threw, resumes}
 use Rattle.esm_world.specs.Turn.{Tasks, Turn, fetched}
 use Rattle.esm_world.specs.Run.{Runs, Delivery, asks_by, Shown, StandardRun}
-use Rattle.esm_world.specs.Laws.{started}
+use Rattle.esm_world.specs.Laws.{started, StopsAreTold}
 use Rattle.esm_world.proofs.Distinct.{Adds, same, add, adds_on, adds_same, adds_distinct}
-use Rattle.esm_world.proofs.Grows.{Grows}
-use Rattle.esm_world.proofs.AsksOnce.{imported, executes_grows}
+use Rattle.esm_world.proofs.Grows.{Progress}
+use Rattle.esm_world.proofs.WorldGrows.{imported, executes_progress}
 use Rattle.esm_world.proofs.EvalKeeps.{Lasts, evaluates_keeps, fulfills_keeps, rejects_keeps}
 use Rattle.esm_world.proofs.EvalStops.{StopsCall, evaluates_stop, fulfills_stop}
 use Rattle.esm_world.proofs.BodyKeeps.{starts_body_keeps, runs_body_keeps, resumes_body_keeps, starts_body_begins, runs_body_begins}
-use Rattle.esm_world.proofs.BodyStops.{StopsState, StopsTold, starts_body_stop, runs_body_stop}
+use Rattle.esm_world.proofs.BodyStops.{StopsState, StopsTold, starts_body_stop, runs_body_stop, resumes_body_stop}
 
 -- ---- a stop leaves a world that is stopped
 
@@ -94,8 +94,8 @@ record CallBegins (v : World) (m : Url) (w : World) : Type 0 where
   starts_are : (starts w ≡ starts v) ⊎ (starts w ≡ starts v ++ m ∷ [])
 
 call_begins : {v w : World} {c : Call Url} {r : Result (CallAnswer (Value Url) c) Limit} → Executes v c r w → CallBegins v (module_of c) w
-call_begins (Executes.start p) = record { starts_are = (starts_body_keeps same_url modules_in BeginsImport Grows imported p).starts }
-call_begins (Executes.run p) = record { starts_are = (runs_body_keeps same_url modules_in BeginsImport Grows imported p).starts }
+call_begins (Executes.start p) = record { starts_are = (starts_body_keeps same_url modules_in BeginsImport Progress imported p).starts }
+call_begins (Executes.run p) = record { starts_are = (runs_body_keeps same_url modules_in BeginsImport Progress imported p).starts }
 
 abbrev IsOk : {A : Type 0} → Result A Limit → Type 0
 IsOk (Ok a) = Unit {0}
@@ -110,8 +110,8 @@ ok_some (Ok a) h = (a, refl)
 ok_some (Err limit) h = absurd h
 
 call_starts : {v w : World} {c : Call Url} {r : Result (CallAnswer (Value Url) c) Limit} → Executes v c r w → IsOk r → starts w ≡ starts v ++ module_of c ∷ []
-call_starts (Executes.start {end = end} p) h = starts_body_begins same_url modules_in BeginsImport Grows imported p (ok_unit end h)
-call_starts (Executes.run {end = end} p) h = let k = ok_some end h in runs_body_begins same_url modules_in BeginsImport Grows imported p k.0 k.1
+call_starts (Executes.start {end = end} p) h = starts_body_begins same_url modules_in BeginsImport Progress imported p (ok_unit end h)
+call_starts (Executes.run {end = end} p) h = let k = ok_some end h in runs_body_begins same_url modules_in BeginsImport Progress imported p k.0 k.1
 
 has_on : (us : List Url) (m x : Url) → has us x ≡ true → has (us ++ m ∷ []) x ≡ true
 has_on us m x h = has_append us (m ∷ []) x ∙ or_left (has us x) (has (m ∷ []) x) h
@@ -134,8 +134,7 @@ has_split us m x h = by (or_cases (has us x) (has (m ∷ []) x) (sym (has_append
 
 lawful : IsLawful evaluation
 lawful = record {
-  own = own_text;
-  equal = same_text;
+  names = record { own = own_text; equal = same_text };
   put = λ w x n. record { node = λ y. refl; stamps = refl; begun = λ y. refl; awaits = λ y. refl };
   add_stamp = λ w x. record { nodes = λ y. refl; stamps = refl; begun = λ y. refl; awaits = λ y. refl };
   make_promise = λ w. record { nodes = λ y. refl; stamps = refl; begun = λ y. refl; awaits = λ y. refl };
@@ -172,7 +171,7 @@ steady = record {
     nodes = λ x. ap (λ ns. ns x) (nodes_of p).0;
     stamps = (nodes_of p).1;
     begun = begun_keeps (call_begins p);
-    awaits = λ x h. ap (λ es. (entries_of (body_in (es x))).awaits) (executes_grows p).entries;
+    awaits = λ x h. ap (λ es. (entries_of (body_in (es x))).awaits) (executes_progress p).grows.entries;
   };
   starts = λ w v c r p. begun_is v (module_of c) ∙ ap (λ xs. has xs (module_of c)) (call_starts p tt) ∙ has_last (starts w) (module_of c);
 }
@@ -300,7 +299,7 @@ reacts_once {v} {w = w} h d (body_threw {m = m} {v = u} p) = record {
   distinct = adds_distinct (rejects_keeps evaluation (First evaluation Executes) Grow grows_first p) d;
   calm = λ live. makes_first_calls.keeps_rejects v w m u h p;
 }
-reacts_once {v} {w = w} h d (resumes p) = once_same v w h d refl refl (resumes_body_keeps same_url modules_in BeginsImport Grows imported p).starts
+reacts_once {v} {w = w} h d (resumes p) = once_same v w h d refl refl (resumes_body_keeps same_url modules_in BeginsImport Progress imported p).starts
 
 jobs_once : {v w : World} → Once v → Jobs v w → Once w
 jobs_once o (Jobs.none n) = o
@@ -334,3 +333,13 @@ opening_once maps built entry trace = record {
 pub starts_once : (maps : Maps) (built : List Item → Bool) (entry : Url) (trace : Bool) (ds : List Delivery) (what : Shown) → StandardRun maps built entry trace ds what → AreDistinct (started what.events)
 starts_once maps built entry trace ds what p =
     subst (λ es. AreDistinct (started es)) (ap (λ (s : Shown). s.events) (sym p.shows)) (runs_once ds (opening maps built entry trace) p.world (opening_once maps built entry trace) p.runs).distinct
+
+-- ---- what is told of limits
+
+pub stops_are_told : StopsAreTold
+stops_are_told = record {
+  executes = λ w after c limit p. by_stop p;
+  evaluates = λ w after m limit p. evaluates_stop evaluation Executes IsStopped stops_call w m p;
+  fulfills = λ w after m limit p. fulfills_stop evaluation Executes IsStopped stops_call p;
+  resumes = λ w m how limit s p. resumes_body_stop BeginsImport IsStoppedState stops_state same_url modules_in p;
+}

@@ -15,7 +15,7 @@ use Rattle.esm_realm.proofs.Urls.{cases, same_text}
 use Rattle.esm_realm.specs.Walk.Visits.{fresh}
 use Rattle.esm_realm.specs.Walk.Passes.{all}
 use Rattle.esm_values.specs.Value.{Value, Undefined, Text, Namespace, Promise}
-use Rattle.esm_values.specs.Plans.Comes.{Goes}
+use Rattle.esm_values.specs.Plans.Rewritten.{Goes}
 use Rattle.esm_values.specs.Plans.{Follows as follow}
 use Rattle.esm_values.specs.Ran.Ran.{Normal}
 use Rattle.esm_expr_eval.specs.Terms.{Term as t}
@@ -30,7 +30,7 @@ use Rattle.esm_loads.specs.Host.{Host, Answered}
 use Rattle.esm_loads.specs.Arrival.{AnswersNext}
 use Rattle.esm_loads.specs.ImportCall.{Imports, BeginsImport, counted, add_load, ask_root}
 use Rattle.esm_link.specs.Faults.{ExportFault, ImportFault, of_imports}
-use Rattle.esm_link.specs.Link.{Links}
+use Rattle.esm_link.specs.Link.{LinksMarks}
 use Rattle.esm_eval.specs.Nodes.{Start, Run, was_entered, Node, untouched}
 use Rattle.esm_eval.specs.BodyEnd.{ReadyAmong, GoOn, Fulfills, finish}
 use Rattle.esm_eval.specs.Evaluate.{Ends, Marks, Leaves, ExecutesAsync, EvaluatesRoot, Walks, keep, enter, close}
@@ -40,7 +40,7 @@ use Rattle.esm_body.specs.Rest.Part.{Whole, Does, Stands}
 use Rattle.esm_body.specs.Rest.Use.{Awaits, Drops}
 use Rattle.esm_body.specs.State.{with_promises as state_promises, Begins, Ends as ends_event, add_event, take_steps, add_line}
 use Rattle.esm_body.specs.Acts.{with_promise, with_outer}
-use Rattle.esm_body.specs.Moves.{On, Waits, RewritesBody}
+use Rattle.esm_body.specs.BodyRewriting.{On, Waits, RewritesBody}
 use Rattle.esm_body.specs.Segment.{Segment, Awaiting}
 use Rattle.esm_body.specs.Segment.{Ended as ended}
 use Rattle.esm_body.specs.Bodies.{StartsBody, RunsBody, ResumesBody, stand, without_standing}
@@ -100,7 +100,7 @@ link1 = record {
   links = record {
     marks = _;
     walk = (_, fresh refl all);
-    links = Links.enters (Links.component (of_imports ExportFault.none ImportFault.none) refl Links.done);
+    links = LinksMarks.enters (LinksMarks.component (of_imports ExportFault.none ImportFault.none) refl LinksMarks.done);
   };
 }
 
@@ -228,7 +228,7 @@ link2 = record {
   links = record {
     marks = _;
     walk = (_, fresh refl all);
-    links = Links.enters (Links.component (of_imports ExportFault.none ImportFault.none) refl Links.done);
+    links = LinksMarks.enters (LinksMarks.component (of_imports ExportFault.none ImportFault.none) refl LinksMarks.done);
   };
 }
 

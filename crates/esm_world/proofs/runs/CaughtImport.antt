@@ -15,7 +15,7 @@ use Rattle.esm_specifier.specs.Resolution.{resolution_of_specifier}
 use Rattle.esm_realm.specs.Walk.Visits.{fresh}
 use Rattle.esm_realm.specs.Walk.Passes.{all}
 use Rattle.esm_values.specs.Value.{Value, Undefined, Text, Promise, Error}
-use Rattle.esm_values.specs.Plans.Comes.{Goes}
+use Rattle.esm_values.specs.Plans.Rewritten.{Goes}
 use Rattle.esm_values.specs.Plans.{Follows as follow}
 use Rattle.esm_expr_eval.specs.Terms.{Term as t}
 use Rattle.esm_expr_eval.specs.Terms.Term.{Val}
@@ -32,7 +32,7 @@ use Rattle.esm_loads.specs.Host.{Host, Answered}
 use Rattle.esm_loads.specs.Arrival.{AnswersNext}
 use Rattle.esm_loads.specs.ImportCall.{Imports, BeginsImport, counted, add_load, ask_root}
 use Rattle.esm_link.specs.Faults.{ExportFault, ImportFault, of_imports}
-use Rattle.esm_link.specs.Link.{Links}
+use Rattle.esm_link.specs.Link.{LinksMarks}
 use Rattle.esm_eval.specs.Nodes.{Start}
 use Rattle.esm_eval.specs.BodyEnd.{ReadyAmong, GoOn, Fulfills, finish}
 use Rattle.esm_eval.specs.Evaluate.{Ends, Marks, Leaves, ExecutesAsync, EvaluatesRoot, Walks, keep, enter, close}
@@ -41,11 +41,11 @@ use Rattle.esm_body.specs.Rest.Part.{Whole, Does, Stands, In, Tries}
 use Rattle.esm_body.specs.Rest.Use.{Awaits, Drops}
 use Rattle.esm_body.specs.State.{with_promises as state_promises, Begins, Ends as ends_event, add_event, take_steps, add_line}
 use Rattle.esm_body.specs.Acts.{with_promise, with_outer}
-use Rattle.esm_body.specs.Moves.{On, Waits, RewritesBody}
-use Rattle.esm_body.specs.Segment.{MovesAt, Segment, Awaiting}
+use Rattle.esm_body.specs.BodyRewriting.{On, Waits, RewritesBody}
+use Rattle.esm_body.specs.Segment.{RewritesOutermost, Segment, Awaiting}
 use Rattle.esm_body.specs.Segment.{Ended as ended}
 use Rattle.esm_body.specs.Bodies.{StartsBody, ResumesBody, stand, without_standing}
-use Rattle.esm_body.specs.Scopes.{Scope, slot}
+use Rattle.esm_body.specs.Scopes.{Scope, named_cell}
 use Rattle.esm_world.specs.World.{World, Ended, opening, modules_in, state_of, with_state, with_host, host_of}
 use Rattle.esm_world.specs.Layers.{Executes, evaluation, with_linked, with_promises}
 use Rattle.esm_world.specs.Jobs.{Jobs, Reacts, LinksLoad, EvaluatesLoad, with_reaction, with_entry}
@@ -108,7 +108,7 @@ link1 = record {
   links = record {
     marks = _;
     walk = (_, fresh refl all);
-    links = Links.enters (Links.component (of_imports ExportFault.none ImportFault.none) refl Links.done);
+    links = LinksMarks.enters (LinksMarks.component (of_imports ExportFault.none ImportFault.none) refl LinksMarks.done);
   };
 }
 
@@ -160,7 +160,7 @@ abbrev k6 : Here
 k6 = stand k5 main_url 2 (Promise 3) standing_at
 
 abbrev Moving : Here → Rest (Value Url) → Rest (Value Url) → Here → Type 0
-Moving k r s l = MovesAt same_url modules_in BeginsImport main_url k r (On (Goes s)) l
+Moving k r s l = RewritesOutermost same_url modules_in BeginsImport main_url k r (On (Goes s)) l
 
 move1 : Moving k1 (more (Whole (x.TryCatch tried e_name handler)) end) (trying (whole tried)) k2
 move1 = RewritesBody.begins_at (follow.asks tt refl follow.ends)
@@ -172,7 +172,7 @@ move3 : Moving k3 (trying (more (Does (Awaits Drops) (t.Import (Val (Text (codes
 move3 = RewritesBody.tries (RewritesBody.inner {scope' = []}
     (RewritesBody.does (Rewrites.begins (follow.asks tt refl (follow.asks (Promise 3) (Ok tt, o4, begins_b, refl) follow.ends)))))
 
-move4 : MovesAt same_url modules_in BeginsImport main_url k5 (trying (more (Does (Awaits Drops) (Val (Promise 3))) end)) (Waits (Promise 3) standing_at) k5
+move4 : RewritesOutermost same_url modules_in BeginsImport main_url k5 (trying (more (Does (Awaits Drops) (Val (Promise 3))) end)) (Waits (Promise 3) standing_at) k5
 move4 = RewritesBody.tries (RewritesBody.inner {scope' = []} RewritesBody.awaits)
 
 segment1 : Runs k1 main_url (more (Whole (x.TryCatch tried e_name handler)) end) [] (Awaiting (Promise 3) standing_at) k5
@@ -248,7 +248,7 @@ abbrev p0 : Here
 p0 = without_standing same_url modules_in BeginsImport (state_of v3) []
 
 abbrev caught_scope : Scope (Value Url)
-caught_scope = slot e_name false (Some (Error 0)) ∷ []
+caught_scope = named_cell e_name false (Some (Error 0)) ∷ []
 
 abbrev handling : Rest (Value Url) → Rest (Value Url)
 handling r = more (In caught_scope r) end

@@ -7,7 +7,8 @@ use Rattle.esm_tree.specs.Syntax as x
 use Rattle.esm_tree.specs.Syntax.{Item, Stmts}
 use Rattle.esm_grammar.specs.EarlyErrors.{exported_names, exported_of, module_names, declared_of, statement_exported, name_list}
 use Rattle.esm_grammar.specs.Names.{declared_names, names_of}
-use Rattle.esm_ast.specs.Entries.{import_named, or_star_default, statement_exports, listed, listed_by, listed_by_wanted, entries_of, entries_with, request_of, with_text, add_request, requests_after, imports_of, all_imports, exports_of, all_exports, locals_of, indirects_of, stars_of, item_awaits, stmt_awaits, stmts_await, init_awaits, bindings_await}
+use Rattle.esm_ast.specs.Entries.{import_named, statement_exports, listed, listed_by, listed_by_wanted, entries_of, entries_with, request_of, with_text, add_request, requests_after, imports_of, all_imports, exports_of, all_exports, locals_of, indirects_of, stars_of, item_awaits, stmt_awaits, stmts_await, init_awaits, bindings_await}
+use Rattle.esm_base.specs.DefaultExport.{or_star_default}
 use Rattle.esm_ast.specs.ModuleTree.{IsModuleTree, returns_outside, awaits_inside, stmt_returns, stmts_return}
 use Rattle.esm_import_map.specs.ImportMap.{no_maps}
 use Rattle.esm_realm.specs.Walk.Visits.{fresh}
@@ -22,14 +23,14 @@ use Rattle.esm_env.specs.Modules.{Modules, graph, Exports}
 use Rattle.esm_env.specs.Bindings.{Binds}
 use Rattle.esm_env.specs.Reading.{IsReadingOf}
 use Rattle.esm_values.specs.Value.{Value, Undefined, Text, Func}
-use Rattle.esm_values.specs.Plans.Comes.{Goes, Calls}
+use Rattle.esm_values.specs.Plans.Rewritten.{Goes, Calls}
 use Rattle.esm_values.specs.Plans.{Follows as follow}
 use Rattle.esm_values.specs.Ran.Ran.{Normal}
 use Rattle.esm_expr_eval.specs.Terms.{Term as t}
 use Rattle.esm_expr_eval.specs.Terms.Term.{Val}
 use Rattle.esm_expr_eval.specs.Rewriting.{Rewrites, RewritesIn, AreValues}
 use Rattle.esm_expr_eval.specs.Terms.{Terms as terms}
-use Rattle.esm_expr_eval.specs.Terms.{Links as links}
+use Rattle.esm_expr_eval.specs.Terms.{LinkTerms as links}
 use Rattle.esm_values.specs.Completion.{Normal as gives_value}
 use Rattle.esm_env.specs.Cells.{Reading as reading, write_cell}
 use Rattle.esm_promise.specs.Promises.{Done, Fulfilled, job}
@@ -41,7 +42,7 @@ use Rattle.esm_loads.specs.Host.{Host, Answered}
 use Rattle.esm_loads.specs.Arrival.{AnswersNext}
 use Rattle.esm_loads.specs.ImportCall.{BeginsImport}
 use Rattle.esm_link.specs.Faults.{ExportFault, ImportFault, of_imports}
-use Rattle.esm_link.specs.Link.{Links}
+use Rattle.esm_link.specs.Link.{LinksMarks}
 use Rattle.esm_eval.specs.Nodes.{Run}
 use Rattle.esm_eval.specs.Evaluate.{Ends, Marks, Leaves, EvaluatesRoot, Walks, keep, enter, close}
 use Rattle.esm_eval.specs.Evaluate.{Executes as executes}
@@ -49,8 +50,8 @@ use Rattle.esm_body.specs.Rest.{Rest, end, more}
 use Rattle.esm_body.specs.Rest.Part.{Whole, Does, In}
 use Rattle.esm_body.specs.Rest.Use.{Drops, Sets, Writes}
 use Rattle.esm_body.specs.State.{Begins, Ends as ends_event, add_event, take_steps, add_line}
-use Rattle.esm_body.specs.Moves.{On, RewritesBody}
-use Rattle.esm_body.specs.Segment.{MovesAt, Segment, active}
+use Rattle.esm_body.specs.BodyRewriting.{On, RewritesBody}
+use Rattle.esm_body.specs.Segment.{RewritesOutermost, Segment, active}
 use Rattle.esm_body.specs.Segment.{Ended as ended}
 use Rattle.esm_body.specs.Bodies.{RunsBody}
 use Rattle.esm_world.specs.World.{World, Ended, opening, modules_in, state_of, with_state, with_host, host_of}
@@ -171,10 +172,10 @@ link1 = record {
   links = record {
     marks = _;
     walk = (_, fresh refl (next (fresh refl all) all));
-    links = Links.enters (Links.enters (Links.component (of_imports ExportFault.none ImportFault.none) refl
-        (Links.passes (Links.component (of_imports ExportFault.none
+    links = LinksMarks.enters (LinksMarks.enters (LinksMarks.component (of_imports ExportFault.none ImportFault.none) refl
+        (LinksMarks.passes (LinksMarks.component (of_imports ExportFault.none
         (ImportFault.fine {e = x_entry} (codes "x") x_end refl x_is refl
-        (ImportFault.fine {e = bump_entry} (codes "bump") bump_end refl bump_is refl ImportFault.none))) refl Links.done))));
+        (ImportFault.fine {e = bump_entry} (codes "bump") bump_end refl bump_is refl ImportFault.none))) refl LinksMarks.done))));
   };
 }
 
@@ -190,7 +191,7 @@ abbrev w8 : World
 w8 = enter evaluation (enter evaluation w7 main_url) b_url
 
 abbrev Moving : Url → Here → Rest (Value Url) → Rest (Value Url) → Here → Type 0
-Moving m k r s l = MovesAt same_url modules_in BeginsImport m k r (On (Goes s)) l
+Moving m k r s l = RewritesOutermost same_url modules_in BeginsImport m k r (On (Goes s)) l
 
 -- the body of the imported module
 
@@ -291,7 +292,7 @@ m5 = (take_steps m4 1).1
 abbrev waiting : Rest (Value Url)
 waiting = more (Does Drops (t.Post t.Waits links.ends)) then_print
 
-move8 : MovesAt same_url modules_in BeginsImport main_url m4 (calling (Val (Func b_url 0))) (On (Calls (Func b_url 0) [] waiting)) m5
+move8 : RewritesOutermost same_url modules_in BeginsImport main_url m4 (calling (Val (Func b_url 0))) (On (Calls (Func b_url 0) [] waiting)) m5
 move8 = RewritesBody.does (Rewrites.call_of AreValues.nil (follow.asks tt refl follow.ends))
 
 abbrev inside_bump : Rest (Value Url) → Rest (Value Url)

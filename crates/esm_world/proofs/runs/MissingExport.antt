@@ -7,7 +7,8 @@ use Rattle.esm_tree.specs.Syntax as x
 use Rattle.esm_tree.specs.Syntax.{Item, Stmts}
 use Rattle.esm_grammar.specs.EarlyErrors.{exported_names, exported_of, module_names, declared_of, statement_exported, name_list}
 use Rattle.esm_grammar.specs.Names.{declared_names, names_of}
-use Rattle.esm_ast.specs.Entries.{import_named, or_star_default, statement_exports, listed, listed_by, listed_by_wanted, entries_of, entries_with, request_of, with_text, add_request, requests_after, imports_of, all_imports, exports_of, all_exports, locals_of, indirects_of, stars_of, item_awaits, stmt_awaits, stmts_await, init_awaits, bindings_await}
+use Rattle.esm_ast.specs.Entries.{import_named, statement_exports, listed, listed_by, listed_by_wanted, entries_of, entries_with, request_of, with_text, add_request, requests_after, imports_of, all_imports, exports_of, all_exports, locals_of, indirects_of, stars_of, item_awaits, stmt_awaits, stmts_await, init_awaits, bindings_await}
+use Rattle.esm_base.specs.DefaultExport.{or_star_default}
 use Rattle.esm_ast.specs.ModuleTree.{IsModuleTree, returns_outside, awaits_inside, stmt_returns, stmts_return}
 use Rattle.esm_import_map.specs.ImportMap.{no_maps}
 use Rattle.esm_realm.specs.Walk.Visits.{fresh}
@@ -27,7 +28,7 @@ use Rattle.esm_loads.specs.Host.{Host, Answered}
 use Rattle.esm_loads.specs.Arrival.{AnswersNext}
 use Rattle.esm_link.specs.Faults.{FaultAt, ExportFault, ImportFault, of_imports}
 use Rattle.esm_link.specs.declared.LinkKind.TheVariants.{K1}
-use Rattle.esm_link.specs.Link.{Links}
+use Rattle.esm_link.specs.Link.{LinksMarks}
 use Rattle.esm_world.specs.World.{World, Failed, opening, modules_in, with_host, host_of}
 use Rattle.esm_world.specs.Layers.{with_promises}
 use Rattle.esm_world.specs.Jobs.{Jobs, Reacts, LinksLoad, link_failed, new_error, with_entry}
@@ -132,8 +133,8 @@ link1 = record {
   links = record {
     marks = _;
     walk = (_, fresh refl (next (fresh refl all) all));
-    links = Links.enters (Links.enters (Links.component (of_imports ExportFault.none ImportFault.none) refl
-        (Links.passes (Links.fails (of_imports ExportFault.none (ImportFault.found {e = d_entry} (codes "default") Missing refl is_missing refl))))));
+    links = LinksMarks.enters (LinksMarks.enters (LinksMarks.component (of_imports ExportFault.none ImportFault.none) refl
+        (LinksMarks.passes (LinksMarks.fails (of_imports ExportFault.none (ImportFault.found {e = d_entry} (codes "default") Missing refl is_missing refl))))));
   };
 }
 

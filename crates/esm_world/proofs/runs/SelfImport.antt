@@ -14,7 +14,7 @@ use Rattle.esm_specifier.specs.Resolution.{resolution_of_specifier}
 use Rattle.esm_realm.specs.Walk.Visits.{known, fresh}
 use Rattle.esm_realm.specs.Walk.Passes.{all}
 use Rattle.esm_values.specs.Value.{Value, Undefined, Text, Namespace, Promise}
-use Rattle.esm_values.specs.Plans.Comes.{Goes}
+use Rattle.esm_values.specs.Plans.Rewritten.{Goes}
 use Rattle.esm_values.specs.Plans.{Follows as follow}
 use Rattle.esm_values.specs.Ran.Ran.{Normal}
 use Rattle.esm_expr_eval.specs.Terms.{Term as t}
@@ -29,7 +29,7 @@ use Rattle.esm_loads.specs.Host.{Host, Answered}
 use Rattle.esm_loads.specs.Arrival.{AnswersNext}
 use Rattle.esm_loads.specs.ImportCall.{Imports, BeginsImport}
 use Rattle.esm_link.specs.Faults.{ExportFault, ImportFault, of_imports}
-use Rattle.esm_link.specs.Link.{Links}
+use Rattle.esm_link.specs.Link.{LinksMarks}
 use Rattle.esm_eval.specs.Nodes.{Start, Run}
 use Rattle.esm_eval.specs.Evaluate.{Ends, Marks, Leaves, ExecutesAsync, EvaluatesRoot, Walks, keep, enter, close}
 use Rattle.esm_eval.specs.Evaluate.{Executes as executes}
@@ -38,7 +38,7 @@ use Rattle.esm_body.specs.Rest.Part.{Whole, Does, Stands}
 use Rattle.esm_body.specs.Rest.Use.{Awaits, Drops}
 use Rattle.esm_body.specs.State.{Begins, Ends as ends_event, add_event, take_steps, add_line}
 use Rattle.esm_body.specs.Acts.{with_promise, with_outer}
-use Rattle.esm_body.specs.Moves.{On, Waits, RewritesBody}
+use Rattle.esm_body.specs.BodyRewriting.{On, Waits, RewritesBody}
 use Rattle.esm_body.specs.Segment.{Segment, Awaiting}
 use Rattle.esm_body.specs.Segment.{Ended as ended}
 use Rattle.esm_body.specs.Bodies.{StartsBody, RunsBody, stand}
@@ -95,7 +95,7 @@ link1 = record {
   links = record {
     marks = _;
     walk = (_, fresh refl all);
-    links = Links.enters (Links.component (of_imports ExportFault.none ImportFault.none) refl Links.done);
+    links = LinksMarks.enters (LinksMarks.component (of_imports ExportFault.none ImportFault.none) refl LinksMarks.done);
   };
 }
 
@@ -207,7 +207,7 @@ abbrev w11 : World
 w11 = with_promises w10 (record w10.promises { jobs = [] })
 
 link2 : LinksLoad w11 1 main_url None (main_url ∷ [])
-link2 = record { is_root = refl; links = record { marks = _; walk = (_, known refl); links = Links.done } }
+link2 = record { is_root = refl; links = record { marks = _; walk = (_, known refl); links = LinksMarks.done } }
 
 abbrev w12 : World
 w12 = with_linked w11 (main_url ∷ [])
@@ -275,7 +275,7 @@ self_link1 = record {
   links = record {
     marks = _;
     walk = (_, fresh refl all);
-    links = Links.enters (Links.component (of_imports ExportFault.none ImportFault.none) refl Links.done);
+    links = LinksMarks.enters (LinksMarks.component (of_imports ExportFault.none ImportFault.none) refl LinksMarks.done);
   };
 }
 
@@ -369,7 +369,7 @@ abbrev v11 : World
 v11 = with_promises v10 (record v10.promises { jobs = job 1 EntryDone ∷ [] })
 
 self_link2 : LinksLoad v11 1 main_url None (main_url ∷ [])
-self_link2 = record { is_root = refl; links = record { marks = _; walk = (_, known refl); links = Links.done } }
+self_link2 = record { is_root = refl; links = record { marks = _; walk = (_, known refl); links = LinksMarks.done } }
 
 abbrev v12 : World
 v12 = with_linked v11 (main_url ∷ [])

@@ -12,7 +12,7 @@ use Rattle.esm_tree.specs.Syntax.{Item, Stmt}
 use Rattle.esm_ast.specs.Outcome.{OutcomeView}
 use Rattle.esm_values.specs.Value.{Value, Undefined}
 use Rattle.esm_values.specs.Value.{Text as text_value}
-use Rattle.esm_values.specs.Plans.Comes.{Goes}
+use Rattle.esm_values.specs.Plans.Rewritten.{Goes}
 use Rattle.esm_values.specs.Plans.{Follows as follow}
 use Rattle.esm_expr_eval.specs.Terms.{Terms as terms}
 use Rattle.esm_expr_eval.specs.Terms.{Term as t}
@@ -26,7 +26,7 @@ use Rattle.esm_body.specs.Rest.Part.{Whole, Does}
 use Rattle.esm_body.specs.Rest.Use.{Drops}
 use Rattle.esm_body.specs.State.{State, take_steps, add_line}
 use Rattle.esm_body.specs.Acts.{over_scopes}
-use Rattle.esm_body.specs.Moves.{On, RewritesBody}
+use Rattle.esm_body.specs.BodyRewriting.{On, RewritesBody}
 use Rattle.esm_body.specs.Segment.{Active, Ended, Segment}
 use Rattle.std.specs.Prelude.{unwrap_or}
 use Rattle.esm_base.specs.declared.module_id.ModuleId.{ModuleId}

@@ -12,7 +12,7 @@ use Rattle.esm_import_map.specs.ImportMap.{no_maps}
 use Rattle.esm_realm.specs.Walk.Visits.{known, fresh}
 use Rattle.esm_realm.specs.Walk.Passes.{all, next}
 use Rattle.esm_values.specs.Value.{Undefined, Text}
-use Rattle.esm_values.specs.Plans.Comes.{Goes, Leaves as leaves_by}
+use Rattle.esm_values.specs.Plans.Rewritten.{Goes, Leaves as leaves_by}
 use Rattle.esm_values.specs.Plans.{Follows as follow}
 use Rattle.esm_values.specs.Ran.Ran.{Thrown}
 use Rattle.esm_expr_eval.specs.Terms.Term.{Val}
@@ -24,7 +24,7 @@ use Rattle.esm_loads.specs.Load.{Enters, Asks, Answers}
 use Rattle.esm_loads.specs.Host.{Host, Answered}
 use Rattle.esm_loads.specs.Arrival.{AnswersNext}
 use Rattle.esm_link.specs.Faults.{ExportFault, ImportFault, of_imports}
-use Rattle.esm_link.specs.Link.{Links}
+use Rattle.esm_link.specs.Link.{LinksMarks}
 use Rattle.esm_eval.specs.Nodes.{Run}
 use Rattle.esm_eval.specs.Evaluate.{Throws, fail, Marks, Leaves, EvaluatesRoot, Walks, keep, enter}
 use Rattle.esm_eval.specs.Evaluate.{Executes as executes}
@@ -32,7 +32,7 @@ use Rattle.esm_body.specs.Rest.{end, more}
 use Rattle.esm_body.specs.Rest.Part.{Whole, Does}
 use Rattle.esm_body.specs.Rest.Use.{Throws as throws_use}
 use Rattle.esm_body.specs.State.{Begins, Throws as throws_event, add_event, take_steps}
-use Rattle.esm_body.specs.Moves.{On, RewritesBody}
+use Rattle.esm_body.specs.BodyRewriting.{On, RewritesBody}
 use Rattle.esm_body.specs.Segment.{Segment}
 use Rattle.esm_body.specs.Segment.{Ended as ended}
 use Rattle.esm_body.specs.Bodies.{RunsBody}
@@ -129,8 +129,8 @@ link1 = record {
   links = record {
     marks = _;
     walk = (_, fresh refl (next (fresh refl (next (known refl) all)) all));
-    links = Links.enters (Links.enters (Links.passes (Links.stays (of_imports ExportFault.none ImportFault.none) refl
-        (Links.passes (Links.component (of_imports ExportFault.none ImportFault.none) refl Links.done)))));
+    links = LinksMarks.enters (LinksMarks.enters (LinksMarks.passes (LinksMarks.stays (of_imports ExportFault.none ImportFault.none) refl
+        (LinksMarks.passes (LinksMarks.component (of_imports ExportFault.none ImportFault.none) refl LinksMarks.done)))));
   };
 }
 

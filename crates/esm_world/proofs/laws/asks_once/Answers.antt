@@ -1,4 +1,4 @@
-use Rattle.esm_world.proofs.AsksOnce.{asks_once}
+use Rattle.esm_world.proofs.Deliveries.{asks_once}
 use Rattle.esm_world.proofs.laws.asks_once.Goals as goal
 
 pub returns : goal.returns
