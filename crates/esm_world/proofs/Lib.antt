@@ -13,3 +13,6 @@ pub mod BodyStops
 pub mod EvalStops
 pub mod StartsOnce
 pub mod runs
+pub mod ExprFalls
+pub mod BodyFalls
+pub mod TurnsEnd
