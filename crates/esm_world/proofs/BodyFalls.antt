@@ -26,7 +26,7 @@ use Rattle.esm_body.specs.Scopes.{Scope, in_scopes}
 use Rattle.esm_body.specs.Rest.{Use, Part, Rest, end, more, whole, branch, fill_rest, fill_part}
 use Rattle.esm_body.specs.Rest.{Part as part}
 use Rattle.esm_body.specs.Rest.{Use as use_of}
-use Rattle.esm_body.specs.State.{State, Importing, Answered, take_steps, steps_by, add_line, line_by}
+use Rattle.esm_body.specs.State.{State, Standing, Importing, Answered, take_steps, steps_by, add_line, line_by}
 use Rattle.esm_body.specs.Acts.{Inner, Performs, AnswersAct, ReadsMemberOf, BeginsBy, read_answer, over_scopes, set_at, write_in, scope_write, module_write, modules_of, import_answer}
 use Rattle.esm_body.specs.BodyRewriting.{RewrittenBody, On, Gives, Waits, RewritesBody, own_url, within, caught, wrote}
 use Rattle.esm_body.specs.BodyRewriting.RewritesBody.{begins_at, does, drops, sets, writes, throws, returns, prints, chooses, awaits, inner, inner_end, tries, tries_end}
@@ -76,13 +76,20 @@ module _ {V : Type 0} (given : Term V) (one : size given ≡ 1) where
 
 -- ---- acts of a body
 
--- the steps that were taken, and the promises
+-- the promises, and the bodies that stand at an await
+abbrev pub Waiting : Type 0 → Type 0
+Waiting N = Promises (Reaction N) (Value N) × List (Standing N)
+
+-- with the steps that were taken
 abbrev Counted : Type 0 → Type 0
-Counted N = ℕ × Promises (Reaction N) (Value N)
+Counted N = ℕ × Waiting N
 
 module _ {N I : Type 0} where
+  abbrev pub waiting : State N I → Waiting N
+  waiting w = (w.outer.promises, w.engine.standing)
+
   abbrev counted : State N I → Counted N
-  counted w = (w.engine.steps, w.outer.promises)
+  counted w = (w.engine.steps, waiting w)
 
   abbrev told_counted : {A : Type 0} → Answered A (Inner N I) → Counted N
   told_counted t = counted t.1.state
@@ -100,11 +107,11 @@ module _ {N I : Type 0} where
   steps_of w = w.state.engine.steps
 
   abbrev pub SamePromises : Inner N I → Inner N I → Type 0
-  SamePromises v w = w.state.outer.promises ≡ v.state.outer.promises
+  SamePromises v w = waiting w.state ≡ waiting v.state
 
   by_steps : (w after : Inner N I) (n : ℕ) (r : Unit {0}) (b : Bool) → (Ok r, after) ≡ over_scopes w (steps_by b w.state n) → (steps_of after ≡ steps_of w + n) × SamePromises w after
   by_steps w after n r true e = absurd (let k : ◌≡◌ {A = Result (Unit {0}) Limit} (Ok r) (Err _) = ap (λ t. t.0) e in cc)
-  by_steps w after n r false e = (ap (λ t. t.1.state.engine.steps) e, ap (λ t. t.1.state.outer.promises) e)
+  by_steps w after n r false e = (ap (λ t. t.1.state.engine.steps) e, ap (λ t. waiting t.1.state) e)
 
   import_steps : (w after : Inner N I) (t : Answered (Value N) (Inner N I)) (r : Value N) → (Ok r, after) ≡ t → steps_of t.1 ≡ steps_of w → steps_of after ≡ steps_of w
   import_steps w after t r e h = ap (λ t. steps_of t.1) e ∙ h
@@ -240,7 +247,7 @@ module _ {N I : Type 0} (same : N → N → Bool) (modules : I → Modules N) (b
 
   pub record CalmState (v w : State N I) : Type 0 where
     pub grows : v.engine.steps ≤ w.engine.steps
-    pub quiet : w.engine.steps ≡ v.engine.steps → w.outer.promises ≡ v.outer.promises
+    pub quiet : w.engine.steps ≡ v.engine.steps → waiting w ≡ waiting v
 
   -- how a segment ends, from what has the weight s
   abbrev pub FallsEnd : ℕ → State N I → Ended N → State N I → Type 0

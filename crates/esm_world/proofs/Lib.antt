@@ -16,3 +16,4 @@ pub mod runs
 pub mod ExprFalls
 pub mod BodyFalls
 pub mod TurnsEnd
+pub mod Counting

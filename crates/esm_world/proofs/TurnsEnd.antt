@@ -39,13 +39,13 @@ module _ (Fits : World → Type 0) (one two three : World → ℕ) where
     pub settled_so : settled left j.promise ≡ Some how
     pub mid : World
     pub reacts : Reacts (with_promises w left) j.reaction how mid
-    pub fits : Fits mid
-    pub lower : Lower mid w
+    pub fits : stopped mid ≡ None → Fits mid
+    pub lower : stopped mid ≡ None → Lower mid w
 
   pub record TaskDone (w : World) : Type 0 where
     pub host : Host
     pub answers : AnswersNext (host_of w) host
-    pub fits : Fits (with_host w host)
+    pub fits : stopped (with_host w host) ≡ None → Fits (with_host w host)
 
   pub record CanTurn : Type 0 where
     pub opens : (maps : Maps) (built : List Item → Bool) (entry : Url) (trace : Bool) → Fits (opening maps built entry trace)
@@ -59,17 +59,21 @@ module _ (Fits : World → Type 0) (one two three : World → ℕ) where
     pub record JobsEnd (w : World) : Type 0 where
       pub after : World
       pub jobs : Jobs w after
-      pub fits : Fits after
+      pub fits : stopped after ≡ None → Fits after
 
     jobs_by : (w : World) → Fits w → ((mid : World) → Fits mid → Lower mid w → JobsEnd mid) → JobsEnd w
     jobs_by w f later = by (stopped w) refl (next_job w.promises) refl
       where
+        onward : (mid : World) → (stopped mid ≡ None → Fits mid) → (stopped mid ≡ None → Lower mid w) → (s : Option Limit) → stopped mid ≡ s → JobsEnd mid
+        onward mid g l (Some limit) e = record { after = mid; jobs = Jobs.stops limit e; fits = λ live. absurd (let k = sym e ∙ live in cc) }
+        onward mid g l None e = later mid (g e) (l e)
+
         by : (s : Option Limit) → stopped w ≡ s → (o : Option (Job (Reaction Url) × Queue)) → next_job w.promises ≡ o → JobsEnd w
-        by (Some limit) e o d = record { after = w; jobs = Jobs.stops limit e; fits = f }
-        by None e None d = record { after = w; jobs = Jobs.none d; fits = f }
+        by (Some limit) e o d = record { after = w; jobs = Jobs.stops limit e; fits = λ l. f }
+        by None e None d = record { after = w; jobs = Jobs.none d; fits = λ l. f }
         by None e (Some (j, left)) d =
             let done = k.job w j left f e d in
-            let rest = later done.mid done.fits done.lower in
+            let rest = onward done.mid done.fits done.lower (stopped done.mid) refl in
             record { after = rest.after; jobs = Jobs.job j left done.how e d done.settled_so done.reacts rest.jobs; fits = rest.fits }
 
     abbrev Below : ℕ → Type 0
@@ -98,26 +102,35 @@ module _ (Fits : World → Type 0) (one two three : World → ℕ) where
     pub jobs_end : (w : World) → Fits w → JobsEnd w
     jobs_end w f = by_one (suc (one w)) w f (omega arith)
 
+    -- where a limit has stopped there is none
+    jobs_from : (w : World) → (stopped w ≡ None → Fits w) → (s : Option Limit) → stopped w ≡ s → JobsEnd w
+    jobs_from w g (Some limit) e = record { after = w; jobs = Jobs.stops limit e; fits = λ live. absurd (let k = sym e ∙ live in cc) }
+    jobs_from w g None e = jobs_end w (g e)
+
     -- ---- tasks
 
     record TasksEnd (w : World) : Type 0 where
       after : World
       tasks : Tasks w after
-      fits : Fits after
+      fits : stopped after ≡ None → Fits after
 
     tasks_by : (n : ℕ) (w : World) → Fits w → pending_left w.loading < n → TasksEnd w
     tasks_by zero w f lt = absurd (omega (arith, lt))
     tasks_by (suc n) w f lt = by (tasks_by n) (stopped w) refl (next w.loading) refl
       where
+        onward : ((w : World) → Fits w → pending_left w.loading < n → TasksEnd w) → (mid : World) → (stopped mid ≡ None → Fits mid) → pending_left mid.loading < n → (s : Option Limit) → stopped mid ≡ s → TasksEnd mid
+        onward again mid g less (Some limit) e = record { after = mid; tasks = Tasks.stops limit e; fits = λ live. absurd (let k = sym e ∙ live in cc) }
+        onward again mid g less None e = again mid (g e) less
+
         by : ((w : World) → Fits w → pending_left w.loading < n → TasksEnd w) → (s : Option Limit) → stopped w ≡ s → (o : Option Next) → next w.loading ≡ o → TasksEnd w
-        by again (Some limit) e o d = record { after = w; tasks = Tasks.stops limit e; fits = f }
-        by again None e None d = record { after = w; tasks = Tasks.none d; fits = f }
+        by again (Some limit) e o d = record { after = w; tasks = Tasks.stops limit e; fits = λ l. f }
+        by again None e None d = record { after = w; tasks = Tasks.none d; fits = λ l. f }
         by again None e (Some who) d =
             let done = k.answer w who f e d in
-            let rest = jobs_end (with_host w done.host) done.fits in
+            let rest = jobs_from (with_host w done.host) done.fits (stopped (with_host w done.host)) refl in
             let fewer : pending_left done.host.imports < pending_left w.loading = fewer_left.answer (host_of w) done.host done.answers in
             let same : pending_left rest.after.loading ≡ pending_left done.host.imports = (jobs_progress rest.jobs).left in
-            let last = again rest.after rest.fits (omega (arith, fewer, same, lt)) in
+            let last = onward again rest.after rest.fits (omega (arith, fewer, same, lt)) (stopped rest.after) refl in
             record { after = last.after; tasks = Tasks.task e done.answers rest.jobs last.tasks; fits = last.fits }
 
     -- ---- turns
@@ -141,7 +154,7 @@ module _ (Fits : World → Type 0) (one two three : World → ℕ) where
         by (Some limit) e = record { after = fetched w d.url d.outcome; turn = Turn.limit limit e; fits = λ live. absurd (some_stopped (fetched w d.url d.outcome) limit e live) }
         by None e =
             let rest = tasks_by (suc (pending_left (fetched w d.url d.outcome).loading)) (fetched w d.url d.outcome) (k.fetches w d f a e) (omega arith) in
-            record { after = rest.after; turn = Turn.turn e rest.tasks; fits = λ live. rest.fits }
+            record { after = rest.after; turn = Turn.turn e rest.tasks; fits = rest.fits }
 
     runs_fit : (ds : List Delivery) (w after : World) → (stopped w ≡ None → Fits w) → Runs w ds after → stopped after ≡ None → Fits after
     runs_fit [] w after f r live = subst (λ w. Fits w) (sym r) (f (ap stopped (sym r) ∙ live))
