@@ -81,17 +81,17 @@ abbrev pub Waiting : Type 0 → Type 0
 Waiting N = Promises (Reaction N) (Value N) × List (Standing N)
 
 -- with the steps that were taken
-abbrev Counted : Type 0 → Type 0
+abbrev pub Counted : Type 0 → Type 0
 Counted N = ℕ × Waiting N
 
 module _ {N I : Type 0} where
   abbrev pub waiting : State N I → Waiting N
   waiting w = (w.outer.promises, w.engine.standing)
 
-  abbrev counted : State N I → Counted N
+  abbrev pub counted : State N I → Counted N
   counted w = (w.engine.steps, waiting w)
 
-  abbrev told_counted : {A : Type 0} → Answered A (Inner N I) → Counted N
+  abbrev pub told_counted : {A : Type 0} → Answered A (Inner N I) → Counted N
   told_counted t = counted t.1.state
 
   read_counted : (w : Inner N I) (x : List ℕ) (r : Reading (Value N)) → told_counted (read_answer w x r) ≡ counted w.state
@@ -113,7 +113,7 @@ module _ {N I : Type 0} where
   by_steps w after n r true e = absurd (let k : ◌≡◌ {A = Result (Unit {0}) Limit} (Ok r) (Err _) = ap (λ t. t.0) e in cc)
   by_steps w after n r false e = (ap (λ t. t.1.state.engine.steps) e, ap (λ t. waiting t.1.state) e)
 
-  import_steps : (w after : Inner N I) (t : Answered (Value N) (Inner N I)) (r : Value N) → (Ok r, after) ≡ t → steps_of t.1 ≡ steps_of w → steps_of after ≡ steps_of w
+  pub import_steps : (w after : Inner N I) (t : Answered (Value N) (Inner N I)) (r : Value N) → (Ok r, after) ≡ t → steps_of t.1 ≡ steps_of w → steps_of after ≡ steps_of w
   import_steps w after t r e h = ap (λ t. steps_of t.1) e ∙ h
 
 module _ {N I : Type 0} (same : N → N → Bool) (modules : I → Modules N) (begins : Importing N I) where
@@ -127,7 +127,7 @@ module _ {N I : Type 0} (same : N → N → Bool) (modules : I → Modules N) (b
     member_counted w (Namespace n) x t p = ap told_counted p.2 ∙ read_counted w x p.0
     member_counted w (Promise i) x t p = ap told_counted p
 
-    act_counted : (w : Inner N I) (a : Act (Value N)) (t : Answered (AnswerTo a) (Inner N I)) → IsOther a → AnswersAct same modules begins m w a t → told_counted t ≡ counted w.state
+    pub act_counted : (w : Inner N I) (a : Act (Value N)) (t : Answered (AnswerTo a) (Inner N I)) → IsOther a → AnswersAct same modules begins m w a t → told_counted t ≡ counted w.state
     act_counted w (act.Read x) t o p = ap told_counted p.2 ∙ read_counted w x p.0
     act_counted w (act.Member of x) t o p = member_counted w of x t p
     act_counted w (act.Display of) t o p = ap told_counted p.2
@@ -136,7 +136,7 @@ module _ {N I : Type 0} (same : N → N → Bool) (modules : I → Modules N) (b
     act_counted w (act.Step n) t o p = absurd o
     act_counted w (act.Import of) t o p = absurd o
 
-    import_counted : (w : Inner N I) (text : Option (List ℕ)) (t : Answered (Value N) (Inner N I)) → BeginsBy same modules begins m w text t → steps_of t.1 ≡ steps_of w
+    pub import_counted : (w : Inner N I) (text : Option (List ℕ)) (t : Answered (Value N) (Inner N I)) → BeginsBy same modules begins m w text t → steps_of t.1 ≡ steps_of w
     import_counted w None t p = ap (λ t. steps_of t.1) p
     import_counted w (Some text) t p = ap (λ t. steps_of t.1) p.3
 
@@ -167,7 +167,7 @@ module _ {N I : Type 0} (same : N → N → Bool) (modules : I → Modules N) (b
     FallsBody s v (Gives u) w = C v w
     FallsBody s v (Waits u r) w = C v w × (weight_rest r < s)
 
-    set_counted : (ss : List (Scope (Value N))) (w : State N I) (x : List ℕ) (v : Value N) → counted (set_at same modules begins m ss w x v).state ≡ counted w
+    pub set_counted : (ss : List (Scope (Value N))) (w : State N I) (x : List ℕ) (v : Value N) → counted (set_at same modules begins m ss w x v).state ≡ counted w
     set_counted [] w x v = refl
     set_counted (s ∷ ss) w x v = refl
 
@@ -182,7 +182,7 @@ module _ {N I : Type 0} (same : N → N → Bool) (modules : I → Modules N) (b
     by_scope w x v true (Some old) = refl
     by_scope w x v false (Some old) = refl
 
-    by_write : (w : Inner N I) (x : List ℕ) (v : Value N) (c : Option (Cell (Value N))) → counted (write_in same modules begins m w x v c).1.state ≡ counted w.state
+    pub by_write : (w : Inner N I) (x : List ℕ) (v : Value N) (c : Option (Cell (Value N))) → counted (write_in same modules begins m w x v c).1.state ≡ counted w.state
     by_write w x v (Some c) = by_scope w x v c.constant c.value
     by_write w x v None = by_module w x (writing_of same (modules_of modules w.state) w.state.cells m x v)
 

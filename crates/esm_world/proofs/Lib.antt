@@ -17,3 +17,5 @@ pub mod ExprFalls
 pub mod BodyFalls
 pub mod TurnsEnd
 pub mod Counting
+pub mod StepsWithin
+pub mod EvalFalls
