@@ -19,3 +19,4 @@ pub mod TurnsEnd
 pub mod Counting
 pub mod StepsWithin
 pub mod EvalFalls
+pub mod ReactsLower

@@ -26,7 +26,7 @@ lt_no a b e = grind (arith, e)
 abbrev pub Within : ℕ → ℕ → Type 0
 Within m n = m ≤ MAX_STEPS → n ≤ MAX_STEPS
 
-within_same : {m n : ℕ} → n ≡ m → Within m n
+pub within_same : {m n : ℕ} → n ≡ m → Within m n
 within_same {m} {n} e = λ h. omega (arith, e, h)
 
 module _ {N I : Type 0} where
