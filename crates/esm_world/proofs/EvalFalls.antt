@@ -1,5 +1,5 @@
 -- What each write keeps, and each call for a body that isn't stopped, an evaluation keeps that isn't stopped.
-use Rattle.std.proofs.Common.{ℕ, List, [], ◌∷◌, Option, Some, None}
+use Rattle.std.proofs.Common.{◌≡◌, ◌∙◌, ℕ, true, List, [], ◌∷◌, Option, Some, None}
 use Rattle.std.specs.Prelude.{Result, Ok, Err, ◌++◌}
 use Rattle.esm_realm.specs.Walk.{Mark}
 use Rattle.esm_realm.specs.Components.{opened_from}
@@ -19,7 +19,8 @@ pub record LastsLive {N V W S : Type 0} (E : Evaluation N V W) (acts : BodyCalls
   pub make : (w : W) → Keep w (E.make_promise w)
   pub fulfill : (w : W) (p : ℕ) → Keep w (E.fulfill w p)
   pub reject : (w : W) (p : ℕ) (v : V) → Keep w (E.reject w p v)
-  pub start : {v w : W} {m : N} → acts (E.make_body_promise v m) (Start m (E.next_promise v)) (Ok tt) w → Keep v w
+  pub stamp_awaits : (w : W) (x : N) → E.awaits (E.add_stamp w x) x ≡ E.awaits w x
+  pub start : {v w : W} {m : N} → E.awaits v m ≡ true → acts (E.make_body_promise v m) (Start m (E.next_promise v)) (Ok tt) w → Keep v w
   pub run : {v w : W} {m : N} {r : Ran V} → acts v (Run m) (Ok r) w → Keep v w
 
 module _ {N V W S : Type 0} (E : Evaluation N V W) (acts : BodyCalls N V W S) (Keep : W → W → Type 0) (k : LastsLive E acts Keep) where
@@ -42,9 +43,9 @@ module _ {N V W S : Type 0} (E : Evaluation N V W) (acts : BodyCalls N V W S) (K
   kept_on w (Ok a) p q = k.on p q
   kept_on w (Err why) p q = tt
 
-  starts_keeps : {v w : W} {m : N} {end : WalkEnd V S} → ExecutesAsync E acts v m end w → KeptEnd end v w
-  starts_keeps (ExecutesAsync.starts p) = k.start p
-  starts_keeps (ExecutesAsync.stops why p) = tt
+  starts_keeps : {v w : W} {m : N} {end : WalkEnd V S} → E.awaits v m ≡ true → ExecutesAsync E acts v m end w → KeptEnd end v w
+  starts_keeps o (ExecutesAsync.starts p) = k.start o p
+  starts_keeps o (ExecutesAsync.stops why p) = tt
 
   runs_keeps : {v w : W} {m : N} {end : WalkEnd V S} → Executes E acts v m end w → KeptEnd end v w
   runs_keeps (Executes.ends p) = k.run p
@@ -53,7 +54,7 @@ module _ {N V W S : Type 0} (E : Evaluation N V W) (acts : BodyCalls N V W S) (K
 
   leaves_keeps : {v : W} {m : N} {end : WalkEnd V S} {w : W} → Leaves E acts v m end w → KeptEnd end v w
   leaves_keeps (Leaves.runs n o p) = runs_keeps p
-  leaves_keeps {v} {m} {end} {w} (Leaves.starts n o p) = end_on w end (k.stamp v m) (starts_keeps p)
+  leaves_keeps {v} {m} {end} {w} (Leaves.starts n o p) = end_on w end (k.stamp v m) (starts_keeps (k.stamp_awaits v m ∙ o) p)
   leaves_keeps (Leaves.waiting n) = k.stamp _ _
 
   abbrev closed : W → N → N → Node N V
@@ -126,7 +127,7 @@ module _ {N V W S : Type 0} (E : Evaluation N V W) (acts : BodyCalls N V W S) (K
   takes_keeps : {v w : W} {xs : List N} {a : Result (Unit {0}) S} → GoOn E acts v xs a w → Kept a v w
   takes_keeps {v} GoOn.none = k.same v
   takes_keeps (GoOn.skips h p) = takes_keeps p
-  takes_keeps {w = w} {a = a} (GoOn.starts n o s p) = kept_on w a (starts_keeps s) (takes_keeps p)
+  takes_keeps {w = w} {a = a} (GoOn.starts n o s p) = kept_on w a (starts_keeps o s) (takes_keeps p)
   takes_keeps {w = w} {a = a} (GoOn.runs {mid = mid} {x = x} n o s p) = kept_on w a (k.on (runs_keeps s) (finish_keeps mid x)) (takes_keeps p)
   takes_keeps {w = w} {a = a} (GoOn.throws v n o s r p) = kept_on w a (k.on (runs_keeps s) (rejects_live r)) (takes_keeps p)
   takes_keeps (GoOn.start_stops why n o s) = tt

@@ -19,4 +19,6 @@ pub mod TurnsEnd
 pub mod Counting
 pub mod StepsWithin
 pub mod EvalFalls
+pub mod StartsRise
 pub mod ReactsLower
+pub mod HasTurns

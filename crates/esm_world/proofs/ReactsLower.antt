@@ -1,9 +1,9 @@
--- Each job leaves less: of steps, or else of bodies that may begin, or else of reactions and of what stands at an await.
+-- Each job leaves less: of steps, or else of reactions and of what stands at an await.
 use Rattle.std.proofs.Common.{◌≡◌, ℕ, suc, ◌+◌, ◌-◌, ◌<◌, ◌≤◌, Bool, true, false, List, [], ◌∷◌, ◌++◌, Option, Some, None, refl, ap, subst, sym, ◌∙◌, arith}
 use Rattle.std.specs.Prelude.{Result, Ok, Err, nat_lt, length}
 use Rattle.esm_base.specs.declared.limits.Limit.{Limit}
 use Rattle.esm_base.specs.declared.limits.Limit.TheVariants.{L3}
-use Rattle.esm_base.specs.declared.limits.TheConstants.{MAX_STEPS, MAX_LOG_BYTES, MAX_URLS}
+use Rattle.esm_base.specs.declared.limits.TheConstants.{MAX_STEPS, MAX_LOG_BYTES}
 use Rattle.esm_base.specs.Urls.{Url, same_url}
 use Rattle.esm_values.specs.Value.{Value, Undefined, Truth, Text, Func, Error, Namespace, Promise}
 use Rattle.esm_values.specs.Ran.{Ran}
@@ -11,10 +11,12 @@ use Rattle.esm_expr_eval.specs.Terms.{Term}
 use Rattle.esm_expr_eval.proofs.HasRewriting.{size}
 use Rattle.esm_promise.specs.Promises.{Settled, Fulfilled, Rejected, Job, settle, register, make_fulfilled, next_promise, next_job}
 use Rattle.esm_promise.specs.Reactions.{Reaction, Await, EntryDone, Evaluated}
-use Rattle.esm_loads.specs.Loading.{Loading}
+use Rattle.esm_env.specs.Declarations.{body_of}
+use Rattle.esm_loads.specs.Loading.{Loading, body}
 use Rattle.esm_loads.specs.ImportCall.{BeginsImport}
-use Rattle.esm_eval.specs.Nodes.{Call, CallAnswer, Start, Run}
+use Rattle.esm_eval.specs.Nodes.{Call, CallAnswer, Start, Run, module_of}
 use Rattle.esm_eval.specs.BodyEnd.{Fulfills}
+use Rattle.esm_body.specs.Acts.{modules_of}
 use Rattle.esm_body.specs.Rest.{Rest, fill_rest}
 use Rattle.esm_body.specs.State.{State, Standing, Answered, Engine, Event, Begins, Ends, Throws, note, note_by, line_by, add_line, event_behind, event_line}
 use Rattle.esm_body.specs.Segment.{Ended, Normal, Thrown, Awaiting, Stopped}
@@ -23,16 +25,13 @@ use Rattle.esm_world.specs.World.{World, modules_in, state_of, with_state, stopp
 use Rattle.esm_world.specs.Layers.{Executes, evaluation, with_linked, with_promises}
 use Rattle.esm_world.specs.Jobs.{EvaluatesLoad, Reacts, when_evaluated}
 use Rattle.esm_world.specs.Jobs.Reacts.{entry_linked, entry_fault, entry_refused, entry_ended, entry_threw, linked, fault, refused, evaluated, threw, body_ended, body_threw, resumes}
-use Rattle.esm_world.specs.Laws.{started}
-use Rattle.esm_world.proofs.Grows.{Progress}
-use Rattle.esm_world.proofs.WorldGrows.{imported}
-use Rattle.esm_world.proofs.BodyKeeps.{resumes_body_keeps}
 use Rattle.esm_world.proofs.BodyFalls.{Counted, Waiting, counted, waiting, weight_rest, same_weight, CalmState, FallsEnd, segment_falls}
 use Rattle.esm_world.proofs.StepsWithin.{Within, within_same, segment_within}
+use Rattle.esm_world.proofs.StartsRise.{HasFirst, entries_first, Risen, whole_rises}
 use Rattle.esm_world.proofs.EvalFalls.{LastsLive, Kept, evaluates_live, fulfills_live, rejects_live}
 use Rattle.esm_world.proofs.EvalStops.{evaluates_stop, fulfills_stop}
 use Rattle.esm_world.proofs.BodyStops.{resumes_body_stop}
-use Rattle.esm_world.proofs.StartsOnce.{IsOk, ok_unit, ok_some, call_starts, starts, IsStopped, IsStoppedState, stops_call, stops_state, none_stopped}
+use Rattle.esm_world.proofs.StartsOnce.{IsOk, ok_unit, ok_some, IsStopped, IsStoppedState, stops_call, stops_state, none_stopped}
 use Rattle.esm_world.proofs.Counting.{Queue, queue, weight_of, standing_weight, settle_queue, register_queue, make_queue, fulfilled_queue, next_queue, standing_on, taken_is}
 use Rattle.esm_world.proofs.TurnsEnd.{Lower}
 
@@ -153,41 +152,48 @@ end_steps url m p (Stopped why) w = refl
 
 -- ---- calls for bodies
 
-record CallGoes (v w : Engine Url) : Type 0 where
-  grows : v.steps ≤ w.steps
-  within : Within v.steps w.steps
-
 within_to : {k l m n : ℕ} → l ≡ k → n ≡ m → Within l m → Within k n
 within_to {k} {l} {m} {n} e f p = λ h. subst (λ n. n ≤ MAX_STEPS) (sym f) (p (subst (λ k. k ≤ MAX_STEPS) (sym e) h))
 
-note_steps : (url : Url → List ℕ) (w : S) (event : Event Url) (r : Result (Unit {0}) Limit) (mid : S) → note url w event ≡ (r, mid) → mid.engine.steps ≡ w.engine.steps
-note_steps url w event r mid h = sym (ap (λ t. t.1.engine.steps) h) ∙ ap (λ t. t.0) (noted url w event)
+note_counted : (url : Url → List ℕ) (w : S) (event : Event Url) (r : Result (Unit {0}) Limit) (mid : S) → note url w event ≡ (r, mid) → counted mid ≡ counted w
+note_counted url w event r mid h = sym (ap (λ t. told t) h) ∙ noted url w event
 
-starts_goes : {v : S} {m : Url} {done : ℕ} {end : Result (Unit {0}) Limit} {w : S} → StartsBody same_url modules_in BeginsImport v m done end w → end ≡ Ok tt → CallGoes v.engine w.engine
-starts_goes (StartsBody.stopped h) e = absurd (err_ok e)
-starts_goes {v} {m = m} {done = done} {w = w} (StartsBody.segment {mid = mid} {late = late} {how = how} h p f) e =
+-- a body that awaits takes a step where it begins
+record Starts (v w : S) : Type 0 where
+  rises : v.engine.steps < w.engine.steps
+  within : Within v.engine.steps w.engine.steps
+
+risen_ok : (url : Url → List ℕ) (m : Url) (done n : ℕ) (late w : S) (how : Ended Url) → Risen same_url modules_in BeginsImport n how late → segment_end url m done how late ≡ (Ok tt, w) → n < late.engine.steps
+risen_ok url m done n late w Normal h e = h
+risen_ok url m done n late w (Thrown u) h e = h
+risen_ok url m done n late w (Awaiting u rest) h e = h
+risen_ok url m done n late w (Stopped why) h e = absurd (err_ok (ap (λ t. t.0) e))
+
+starts_rise : {v : S} {m : Url} {done : ℕ} {end : Result (Unit {0}) Limit} {w : S} → HasFirst (body_of ((modules_of modules_in v).tree m)) → StartsBody same_url modules_in BeginsImport v m done end w → end ≡ Ok tt → Starts v w
+starts_rise first (StartsBody.stopped h) e = absurd (err_ok e)
+starts_rise {v} {m = m} {done = done} {w = w} first (StartsBody.segment {mid = mid} {late = late} {how = how} h p f) e =
     let url = url_in same_url modules_in BeginsImport v in
-    let n = note_steps url v (Begins m) (Ok tt) mid h in
-    let g = end_goes url m done (weight_rest (whole_body same_url modules_in BeginsImport v m) + 0) mid late how w (segment_falls same_url modules_in BeginsImport p) (f ∙ ap (λ r. (r, w)) e) in
+    let n = ap (λ t. t.0) (note_counted url v (Begins m) (Ok tt) mid h) in
+    let r = risen_ok url m done mid.engine.steps late w how (whole_rises same_url modules_in BeginsImport (body_of ((modules_of modules_in v).tree m)) first p) (f ∙ ap (λ r. (r, w)) e) in
     let l : w.engine.steps ≡ late.engine.steps = sym (ap (λ t. t.1.engine.steps) f) ∙ end_steps url m done how late in
-    record { grows = let k = g.grows in omega (arith, k, n); within = within_to n l (segment_within same_url modules_in BeginsImport p) }
+    record { rises = omega (arith, r, n, l); within = within_to n l (segment_within same_url modules_in BeginsImport p) }
 
 -- where a body that doesn't await has ended
 abbrev IsRan : S → Option (Told (Ran (Value Url))) → Type 0
 IsRan w None = Unit {0}
-IsRan w (Some t) = t.1.engine.steps ≡ w.engine.steps
+IsRan w (Some t) = told t ≡ counted w
 
-ran_steps : (how : Ran (Value Url)) (r : Result (Unit {0}) Limit) (u w : S) → u.engine.steps ≡ w.engine.steps → IsRan w (ran_by how (r, u))
-ran_steps how (Ok done) u w e = e
-ran_steps how (Err why) u w e = e
+ran_counted : (how : Ran (Value Url)) (r : Result (Unit {0}) Limit) (u w : S) → counted u ≡ counted w → IsRan w (ran_by how (r, u))
+ran_counted how (Ok done) u w e = e
+ran_counted how (Err why) u w e = e
 
-body_steps : (url : Url → List ℕ) (m : Url) (how : Ended Url) (w : S) → IsRan w (body_end url m how w)
-body_steps url m Normal w = let t = note url w (Ends m) in ran_steps _ t.0 t.1 w (ap (λ t. t.0) (noted url w (Ends m)))
-body_steps url m (Thrown v) w = let t = note url w (Throws m) in ran_steps _ t.0 t.1 w (ap (λ t. t.0) (noted url w (Throws m)))
-body_steps url m (Awaiting v rest) w = tt
-body_steps url m (Stopped why) w = refl
+body_counted : (url : Url → List ℕ) (m : Url) (how : Ended Url) (w : S) → IsRan w (body_end url m how w)
+body_counted url m Normal w = let t = note url w (Ends m) in ran_counted _ t.0 t.1 w (noted url w (Ends m))
+body_counted url m (Thrown v) w = let t = note url w (Throws m) in ran_counted _ t.0 t.1 w (noted url w (Throws m))
+body_counted url m (Awaiting v rest) w = tt
+body_counted url m (Stopped why) w = refl
 
-ran_is : (w : S) (o : Option (Told (Ran (Value Url)))) (t : Told (Ran (Value Url))) → o ≡ Some t → IsRan w o → t.1.engine.steps ≡ w.engine.steps
+ran_is : (w : S) (o : Option (Told (Ran (Value Url)))) (t : Told (Ran (Value Url))) → o ≡ Some t → IsRan w o → told t ≡ counted w
 ran_is w o t e h = subst (λ o. IsRan w o) e h
 
 some_err : {A : Type 0} {limit : Limit} {w u : S} {a : A} → ◌≡◌ {A = Option (Told A)} (Some (Err limit, w)) (Some (Ok a, u)) → ⊥
@@ -197,24 +203,36 @@ some_err {A} e = err_ok (ap (λ o. by o) e)
     by None = Err L3
     by (Some t) = t.0
 
-ran_grows : (url : Url → List ℕ) (m : Url) (s : ℕ) (v late : S) (how : Ended Url) (a : Ran (Value Url)) (after : S) → Falls s v how late → body_end url m how late ≡ Some (Ok a, after) → v.engine.steps ≤ late.engine.steps
-ran_grows url m s v late Normal a after c e = c.grows
-ran_grows url m s v late (Thrown u) a after c e = c.grows
-ran_grows url m s v late (Awaiting u rest) a after c e = c.0.grows
-ran_grows url m s v late (Stopped why) a after c e = absurd (some_err e)
+none_some : {A : Type 0} {a : A} → ◌≡◌ {A = Option A} None (Some a) → ⊥
+none_some e = cc
 
-runs_goes : {v : S} {m : Url} {end : Result (Ran (Value Url)) Limit} {w : S} → RunsBody same_url modules_in BeginsImport v m end w → (a : Ran (Value Url)) → end ≡ Ok a → CallGoes v.engine w.engine
-runs_goes (RunsBody.stopped h) a e = absurd (err_ok e)
-runs_goes {v} {m = m} {w = w} (RunsBody.segment {mid = mid} {late = late} {how = how} {end = end} h p f) a e =
+ran_calm : (url : Url → List ℕ) (m : Url) (s : ℕ) (v late : S) (how : Ended Url) (a : Ran (Value Url)) (after : S) → Falls s v how late → body_end url m how late ≡ Some (Ok a, after) → Calm v late
+ran_calm url m s v late Normal a after c e = c
+ran_calm url m s v late (Thrown u) a after c e = c
+ran_calm url m s v late (Awaiting u rest) a after c e = absurd (none_some e)
+ran_calm url m s v late (Stopped why) a after c e = absurd (some_err e)
+
+record Runs (v w : S) : Type 0 where
+  calm : Calm v w
+  within : Within v.engine.steps w.engine.steps
+
+calm_from : (v mid w : S) → counted mid ≡ counted v → Calm mid w → Calm v w
+calm_from v mid w e c = record {
+  grows = let g = c.grows in let f = ap (λ t. t.0) e in omega (arith, g, f);
+  quiet = λ h. c.quiet (h ∙ sym (ap (λ t. t.0) e)) ∙ ap (λ t. t.1) e;
+}
+
+runs_calm : {v : S} {m : Url} {end : Result (Ran (Value Url)) Limit} {w : S} → RunsBody same_url modules_in BeginsImport v m end w → (a : Ran (Value Url)) → end ≡ Ok a → Runs v w
+runs_calm (RunsBody.stopped h) a e = absurd (err_ok e)
+runs_calm {v} {m = m} {w = w} (RunsBody.segment {mid = mid} {late = late} {how = how} {end = end} h p f) a e =
     let url = url_in same_url modules_in BeginsImport v in
-    let n = note_steps url v (Begins m) (Ok tt) mid h in
-    let g = ran_grows url m (weight_rest (whole_body same_url modules_in BeginsImport v m) + 0) mid late how a w (segment_falls same_url modules_in BeginsImport p) (f ∙ ap (λ r. Some (r, w)) e) in
-    let l = ran_is late (body_end url m how late) (end, w) f (body_steps url m how late) in
-    record { grows = omega (arith, g, n, l); within = within_to n l (segment_within same_url modules_in BeginsImport p) }
-
-call_goes : {v w : World} {c : Call Url} {r : Result (CallAnswer (Value Url) c) Limit} → Executes v c r w → IsOk r → CallGoes v.engine w.engine
-call_goes (Executes.start {end = end} p) h = starts_goes p (ok_unit end h)
-call_goes (Executes.run {end = end} p) h = let k = ok_some end h in runs_goes p k.0 k.1
+    let n = note_counted url v (Begins m) (Ok tt) mid h in
+    let g = ran_calm url m (weight_rest (whole_body same_url modules_in BeginsImport v m) + 0) mid late how a w (segment_falls same_url modules_in BeginsImport p) (f ∙ ap (λ r. Some (r, w)) e) in
+    let l = ran_is late (body_end url m how late) (end, w) f (body_counted url m how late) in
+    record {
+      calm = calm_noted v late w (calm_from v mid late n g) l;
+      within = within_to (ap (λ t. t.0) n) (ap (λ t. t.0) l) (segment_within same_url modules_in BeginsImport p);
+    }
 
 -- ---- evaluation
 
@@ -224,36 +242,47 @@ left w = queue w.promises + standing_weight w.engine.standing
 pub record CalmWorld (v w : World) : Type 0 where
   pub steps : v.engine.steps ≤ w.engine.steps
   pub within : Within v.engine.steps w.engine.steps
-  pub bodies : length (starts v) ≤ length (starts w)
-  pub quiet : w.engine.steps ≡ v.engine.steps → length (starts w) ≡ length (starts v) → left w ≤ left v
+  pub quiet : w.engine.steps ≡ v.engine.steps → left w ≤ left v
 
 calm_on : {u v w : World} → CalmWorld u v → CalmWorld v w → CalmWorld u w
 calm_on p q = record {
   steps = let a = p.steps in let b = q.steps in omega (arith, a, b);
   within = λ h. q.within (p.within h);
-  bodies = let a = p.bodies in let b = q.bodies in omega (arith, a, b);
-  quiet = λ e f.
-      let a = p.steps in let b = q.steps in let c = p.bodies in let d = q.bodies in
-      let x = p.quiet (omega (arith, a, b, e)) (omega (arith, c, d, f)) in
-      let y = q.quiet (omega (arith, a, b, e)) (omega (arith, c, d, f)) in
+  quiet = λ e.
+      let a = p.steps in let b = q.steps in
+      let x = p.quiet (omega (arith, a, b, e)) in
+      let y = q.quiet (omega (arith, a, b, e)) in
       omega (arith, x, y);
 }
 
 calm_same : (w : World) → CalmWorld w w
-calm_same w = record { steps = omega arith; within = λ h. h; bodies = omega arith; quiet = λ e f. omega arith }
+calm_same w = record { steps = omega arith; within = λ h. h; quiet = λ e. omega arith }
 
 -- promises alone are changed
 calm_promises : (w : World) (ps : Queue) → queue ps ≤ queue w.promises → CalmWorld w (with_promises w ps)
-calm_promises w ps q = record { steps = omega arith; within = λ h. h; bodies = omega arith; quiet = λ e f. omega (arith, q) }
+calm_promises w ps q = record { steps = omega arith; within = λ h. h; quiet = λ e. omega (arith, q) }
 
-length_last : (us : List Url) (m : Url) → length (us ++ m ∷ []) ≡ suc (length us)
-length_last [] m = refl
-length_last (u ∷ us) m = ap suc (length_last us m)
+abbrev IsStart : Call Url → Type 0
+IsStart (Start m done) = Unit {0}
+IsStart (Run m) = ⊥
 
-begun_calm : (v w : World) (m : Url) → CallGoes v.engine w.engine → starts w ≡ starts v ++ m ∷ [] → CalmWorld v w
-begun_calm v w m p e =
-    let l = ap (λ us. length us) e ∙ length_last (starts v) m in
-    record { steps = p.grows; within = p.within; bodies = omega (arith, l); quiet = λ f g. absurd (omega (arith, l, g)) }
+abbrev IsRun : Call Url → Type 0
+IsRun (Start m done) = ⊥
+IsRun (Run m) = Unit {0}
+
+ran_world : (v : World) (s : S) → Runs (state_of v) s → CalmWorld v (with_state v s)
+ran_world v s p = record { steps = p.calm.grows; within = p.within; quiet = λ e. let w = ap of_waiting (p.calm.quiet e) in omega (arith, w) }
+
+begin_calm : (v : World) (m : Url) {ps : Queue} {c : Call Url} {r : Result (CallAnswer (Value Url) c) Limit} {w : World} → evaluation.awaits v m ≡ true → module_of c ≡ m → Executes (with_promises v ps) c r w → IsStart c → IsOk r → CalmWorld v w
+begin_calm v m {w = w} o q (Executes.start {m = x} {end = end} {s = s} p) at h =
+    let k = starts_rise (entries_first (body v.loading x) (ap (λ u. evaluation.awaits v u) q ∙ o)) p (ok_unit end h) in
+    let l = k.rises in
+    record { steps = omega (arith, l); within = k.within; quiet = λ e. absurd (omega (arith, l, e)) }
+begin_calm v m o q (Executes.run p) at h = absurd at
+
+run_calm : {v w : World} {c : Call Url} {r : Result (CallAnswer (Value Url) c) Limit} → Executes v c r w → IsRun c → IsOk r → CalmWorld v w
+run_calm (Executes.start p) at h = absurd at
+run_calm {v} (Executes.run {end = end} {s = s} p) at h = let k = ok_some end h in ran_world v s (runs_calm p k.0 k.1)
 
 abbrev Keep : World → World → Type 0
 Keep v w = CalmWorld v w
@@ -262,13 +291,14 @@ lasts : LastsLive evaluation Executes Keep
 lasts = record {
   same = λ w. calm_same w;
   on = λ p q. calm_on p q;
-  put = λ w x n. record { steps = omega arith; within = λ h. h; bodies = omega arith; quiet = λ e f. omega arith };
-  stamp = λ w x. record { steps = omega arith; within = λ h. h; bodies = omega arith; quiet = λ e f. omega arith };
+  put = λ w x n. record { steps = omega arith; within = λ h. h; quiet = λ e. omega arith };
+  stamp = λ w x. record { steps = omega arith; within = λ h. h; quiet = λ e. omega arith };
   make = λ w. let q = make_queue w.promises [] in calm_promises w _ (omega (arith, q));
   fulfill = λ w p. calm_promises w _ (settle_queue w.promises p (Fulfilled Undefined));
   reject = λ w p v. calm_promises w _ (settle_queue w.promises p (Rejected v));
-  start = λ {v} {w} {m} p. begun_calm v w m (call_goes p tt) (call_starts p tt);
-  run = λ {v} {w} {m} p. begun_calm v w m (call_goes p tt) (call_starts p tt);
+  stamp_awaits = λ w x. refl;
+  start = λ {v} {w} {m} o p. begin_calm v m o refl p tt tt;
+  run = λ {v} {w} {m} p. run_calm p tt tt;
 }
 
 -- ---- bodies that go on behind an await
@@ -306,23 +336,21 @@ live_not w h live = none_stopped (stopped w) h live
 pub record Less (n : ℕ) (v mid : World) : Type 0 where
   pub steps : v.engine.steps ≤ mid.engine.steps
   pub within : Within v.engine.steps mid.engine.steps
-  pub bodies : length (starts v) ≤ length (starts mid)
-  pub quiet : mid.engine.steps ≡ v.engine.steps → length (starts mid) ≡ length (starts v) → left mid < left v + n
+  pub quiet : mid.engine.steps ≡ v.engine.steps → left mid < left v + n
 
 less_of : (n : ℕ) {v w : World} → 1 ≤ n → CalmWorld v w → Less n v w
-less_of n one c = record { steps = c.steps; within = c.within; bodies = c.bodies; quiet = λ e f. let q = c.quiet e f in omega (arith, q, one) }
+less_of n one c = record { steps = c.steps; within = c.within; quiet = λ e. let q = c.quiet e in omega (arith, q, one) }
 
 -- where promises alone are changed, and what bodies and evaluation don't write
 less_promises : (n : ℕ) (v w : World) → 1 ≤ n → w.engine ≡ v.engine → queue w.promises ≤ queue v.promises → Less n v w
 less_promises n v w one e q =
     let s = ap (λ e. e.steps) e in
-    let b = ap (λ e. length (started e.events)) e in
     let l = ap (λ e. standing_weight e.standing) e in
     record {
       steps = omega (arith, s);
       within = within_same s;
-      bodies = omega (arith, b);
-      quiet = λ f g. omega (arith, q, l, one);
+     
+      quiet = λ f. omega (arith, q, l, one);
     }
 
 -- an evaluation, with the reaction to it
@@ -330,7 +358,7 @@ load_less : {v w : World} {s : ℕ} (a : Result ℕ Limit) → EvaluatesLoad v s
 load_less {v} {w} (Ok p) e r one live =
     let q = register_queue w.promises p r in
     let c : CalmWorld (with_linked v e.linked) w = evaluates_live evaluation Executes Keep lasts (with_linked v e.linked) e.root e.evaluates in
-    record { steps = c.steps; within = c.within; bodies = c.bodies; quiet = λ f g. let k = c.quiet f g in omega (arith, q, k, one) }
+    record { steps = c.steps; within = c.within; quiet = λ f. let k = c.quiet f in omega (arith, q, k, one) }
 load_less {v} {w} (Err limit) e r one live = absurd (live_not w (evaluates_stop evaluation Executes IsStopped stops_call (with_linked v e.linked) e.root e.evaluates) live)
 
 fulfills_less : {v w : World} {m : Url} (a : Result (Unit {0}) Limit) → Fulfills evaluation Executes v m a w → stopped w ≡ None → Less 1 v w
@@ -340,8 +368,7 @@ fulfills_less {v} {w} (Err limit) p live = absurd (live_not w (fulfills_stop eva
 resumes_less : {v : World} {m : Url} {how : Settled (Value Url)} (end : Result (Unit {0}) Limit) {s : S} → ResumesBody same_url modules_in BeginsImport (state_of v) m how end s → stopped (with_state v s) ≡ None → Less 1 v (with_state v s)
 resumes_less {v} (Ok tt) {s} p live =
     let c = resumes_calm p refl in
-    let b = ap (λ us. length us) (resumes_body_keeps same_url modules_in BeginsImport Progress imported p).starts in
-    record { steps = c.grows; within = c.within; bodies = omega (arith, b); quiet = λ f g. let q = c.quiet f in omega (arith, q) }
+    record { steps = c.grows; within = c.within; quiet = λ f. let q = c.quiet f in omega (arith, q) }
 resumes_less {v} (Err limit) {s} p live = absurd (live_not (with_state v s) (resumes_body_stop BeginsImport IsStoppedState stops_state same_url modules_in p) live)
 
 pub reacts_less : {v : World} {r : Reaction Url} {how : Settled (Value Url)} {w : World} → Reacts v r how w → stopped w ≡ None → Less (weight_of r) v w
@@ -365,30 +392,28 @@ reacts_less {v} (resumes {end = a} p) live = resumes_less a p live
 abbrev pub steps_left : World → ℕ
 steps_left w = MAX_STEPS - w.engine.steps
 
--- bodies that may still begin
-abbrev pub bodies_left : World → ℕ
-bodies_left w = MAX_URLS - length (starts w)
+abbrev pub IsLower : World → World → Type 0
+IsLower = Lower steps_left left
 
-module _ (Fits : World → Type 0) where
-  abbrev pub IsLower : World → World → Type 0
-  IsLower = Lower Fits steps_left bodies_left left
+-- a job leaves less
+pub job_lowers : (w mid : World) (j : Job (Reaction Url)) (rest : Queue) (how : Settled (Value Url)) → w.engine.steps ≤ MAX_STEPS → next_job w.promises ≡ Some (j, rest)
+    → Reacts (with_promises w rest) j.reaction how mid → stopped mid ≡ None → IsLower mid w
+job_lowers w mid j rest how few e p live = by (nat_lt w.engine.steps mid.engine.steps) refl
+  where
+    l : Less (weight_of j.reaction) (with_promises w rest) mid
+    l = reacts_less p live
 
-  -- a job leaves less
-  pub job_lowers : (w mid : World) (j : Job (Reaction Url)) (rest : Queue) (how : Settled (Value Url)) → w.engine.steps ≤ MAX_STEPS → length (starts mid) ≤ MAX_URLS → next_job w.promises ≡ Some (j, rest)
-      → Reacts (with_promises w rest) j.reaction how mid → stopped mid ≡ None → IsLower mid w
-  job_lowers w mid j rest how few bounded e p live = by (nat_lt w.engine.steps mid.engine.steps) refl (nat_lt (length (starts w)) (length (starts mid))) refl
-    where
-      l : Less (weight_of j.reaction) (with_promises w rest) mid
-      l = reacts_less p live
+    within : mid.engine.steps ≤ MAX_STEPS
+    within = l.within few
 
-      within : mid.engine.steps ≤ MAX_STEPS
-      within = l.within few
+    by : (b : Bool) → nat_lt w.engine.steps mid.engine.steps ≡ b → IsLower mid w
+    by true f = Lower.first (room MAX_STEPS w.engine.steps mid.engine.steps (lt_is w.engine.steps mid.engine.steps f) within)
+    by false f =
+        let a = l.steps in
+        let q = l.quiet (as_much w.engine.steps mid.engine.steps f a) in
+        let n = next_queue w.promises rest j e in
+        Lower.second (room_left MAX_STEPS w.engine.steps mid.engine.steps a) (omega (arith, q, n))
 
-      by : (b : Bool) → nat_lt w.engine.steps mid.engine.steps ≡ b → (c : Bool) → nat_lt (length (starts w)) (length (starts mid)) ≡ c → IsLower mid w
-      by true f c g = Lower.first (room MAX_STEPS w.engine.steps mid.engine.steps (lt_is w.engine.steps mid.engine.steps f) within)
-      by false f true g = Lower.second (room_left MAX_STEPS w.engine.steps mid.engine.steps l.steps) (room MAX_URLS (length (starts w)) (length (starts mid)) (lt_is (length (starts w)) (length (starts mid)) g) bounded)
-      by false f false g =
-          let a = l.steps in let b = l.bodies in
-          let q = l.quiet (as_much w.engine.steps mid.engine.steps f a) (as_much (length (starts w)) (length (starts mid)) g b) in
-          let n = next_queue w.promises rest j e in
-          Lower.third (room_left MAX_STEPS w.engine.steps mid.engine.steps a) (room_left MAX_URLS (length (starts w)) (length (starts mid)) b) (omega (arith, q, n))
+-- and no more steps than may be
+pub job_within : (w mid : World) (r : Reaction Url) (rest : Queue) (how : Settled (Value Url)) → w.engine.steps ≤ MAX_STEPS → Reacts (with_promises w rest) r how mid → stopped mid ≡ None → mid.engine.steps ≤ MAX_STEPS
+job_within w mid r rest how few p live = (reacts_less p live).within few

@@ -27,20 +27,20 @@ use Rattle.esm_world.proofs.Deliveries.{open_ask}
 abbrev Queue : Type 0
 Queue = Promises (Reaction Url) (Value Url)
 
-module _ (Fits : World → Type 0) (one two three : World → ℕ) where
-  -- less is left: by the first count, or else the second, or else the third
+-- less is left: by the first count, or else the second
+module _ (one two : World → ℕ) where
   pub data Lower (mid w : World) : Type 0 where
     first : one mid < one w → Lower mid w
     second : one mid ≤ one w → two mid < two w → Lower mid w
-    third : one mid ≤ one w → two mid ≤ two w → three mid < three w → Lower mid w
 
+module _ (Fits : World → Type 0) (one two : World → ℕ) where
   pub record JobDone (w : World) (j : Job (Reaction Url)) (left : Queue) : Type 0 where
     pub how : Settled (Value Url)
     pub settled_so : settled left j.promise ≡ Some how
     pub mid : World
     pub reacts : Reacts (with_promises w left) j.reaction how mid
     pub fits : stopped mid ≡ None → Fits mid
-    pub lower : stopped mid ≡ None → Lower mid w
+    pub lower : stopped mid ≡ None → Lower one two mid w
 
   pub record TaskDone (w : World) : Type 0 where
     pub host : Host
@@ -61,10 +61,10 @@ module _ (Fits : World → Type 0) (one two three : World → ℕ) where
       pub jobs : Jobs w after
       pub fits : stopped after ≡ None → Fits after
 
-    jobs_by : (w : World) → Fits w → ((mid : World) → Fits mid → Lower mid w → JobsEnd mid) → JobsEnd w
+    jobs_by : (w : World) → Fits w → ((mid : World) → Fits mid → Lower one two mid w → JobsEnd mid) → JobsEnd w
     jobs_by w f later = by (stopped w) refl (next_job w.promises) refl
       where
-        onward : (mid : World) → (stopped mid ≡ None → Fits mid) → (stopped mid ≡ None → Lower mid w) → (s : Option Limit) → stopped mid ≡ s → JobsEnd mid
+        onward : (mid : World) → (stopped mid ≡ None → Fits mid) → (stopped mid ≡ None → Lower one two mid w) → (s : Option Limit) → stopped mid ≡ s → JobsEnd mid
         onward mid g l (Some limit) e = record { after = mid; jobs = Jobs.stops limit e; fits = λ live. absurd (let k = sym e ∙ live in cc) }
         onward mid g l None e = later mid (g e) (l e)
 
@@ -79,21 +79,13 @@ module _ (Fits : World → Type 0) (one two three : World → ℕ) where
     abbrev Below : ℕ → Type 0
     Below a = (w : World) → Fits w → one w < a → JobsEnd w
 
-    abbrev Beneath : ℕ → ℕ → Type 0
-    Beneath a b = (w : World) → Fits w → one w ≤ a → two w < b → JobsEnd w
-
-    by_three : (a b : ℕ) → Below a → Beneath a b → (c : ℕ) (w : World) → Fits w → one w ≤ a → two w ≤ b → three w < c → JobsEnd w
-    by_three a b lower lesser zero w f p q r = absurd (omega (arith, r))
-    by_three a b lower lesser (suc c) w f p q r = jobs_by w f (λ mid g l. by (by_three a b lower lesser c) mid g l)
-      where
-        by : ((w : World) → Fits w → one w ≤ a → two w ≤ b → three w < c → JobsEnd w) → (mid : World) → Fits mid → Lower mid w → JobsEnd mid
-        by again mid g (Lower.first x) = lower mid g (omega (arith, x, p))
-        by again mid g (Lower.second x y) = lesser mid g (omega (arith, x, p)) (omega (arith, y, q))
-        by again mid g (Lower.third x y z) = again mid g (omega (arith, x, p)) (omega (arith, y, q)) (omega (arith, z, r))
-
-    by_two : (a : ℕ) → Below a → (b : ℕ) → Beneath a b
+    by_two : (a : ℕ) → Below a → (b : ℕ) (w : World) → Fits w → one w ≤ a → two w < b → JobsEnd w
     by_two a lower zero w f p q = absurd (omega (arith, q))
-    by_two a lower (suc b) w f p q = by_three a b lower (by_two a lower b) (suc (three w)) w f p (omega (arith, q)) (omega arith)
+    by_two a lower (suc b) w f p q = jobs_by w f (λ mid g l. by (by_two a lower b) mid g l)
+      where
+        by : ((w : World) → Fits w → one w ≤ a → two w < b → JobsEnd w) → (mid : World) → Fits mid → Lower one two mid w → JobsEnd mid
+        by again mid g (Lower.first x) = lower mid g (omega (arith, x, p))
+        by again mid g (Lower.second x y) = again mid g (omega (arith, x, p)) (omega (arith, y, q))
 
     by_one : (a : ℕ) → Below a
     by_one zero w f p = absurd (omega (arith, p))

@@ -9,4 +9,5 @@ pub mod Laws
 pub mod ImportCalls
 pub mod Direct
 pub mod Unproved
+pub mod Outcomes
 pub mod Examples

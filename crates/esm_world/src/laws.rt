@@ -1,5 +1,6 @@
 //! Laws of the definitions, each the contract of a function without effect.
 ghost use Rattle.esm_world.specs.Laws.{AsksOnce, BytesStopFirst, DeliversAll, DeliversOnce, DeliversOnlyAsked, FewDeliveries, KeepsMaps, OneStandardRun, OneTurn, OpenAsks, StartsOnce, StoppedAsksNothing, StopsAreTold, StopsAtOnce};
+ghost use Rattle.esm_world.specs.Outcomes.{TurnsEnd};
 ghost use Rattle.esm_world.specs.Plain.{PlainEvaluation};
 
 /// A turn has one outcome.
@@ -56,4 +57,17 @@ pub fn plain_evaluation()
 /// No body begins twice.
 pub fn starts_once()
     ensures { StartsOnce }
+{}
+
+/// Worlds that fit, of any kind. The law ranges over all of them.
+pub trait FitWorlds {
+    ghost use Rattle.esm_world.specs.World.{World};
+
+    /// Which worlds fit.
+    ghost fits: { World → Type 0 };
+}
+
+/// Tasks and jobs come to an end: where each job and each answer has an outcome, each allowed delivery has a turn.
+pub fn turns_end<F: FitWorlds>()
+    ensures { TurnsEnd F.fits }
 {}
