@@ -13,3 +13,7 @@ pub mod BodyStops
 pub mod EvalStops
 pub mod StartsOnce
 pub mod runs
+pub mod FitLists
+pub mod FitBodies
+pub mod FitEvaluation
+pub mod FitLoading

@@ -57,3 +57,8 @@ pub fn plain_evaluation()
 pub fn starts_once()
     ensures { StartsOnce }
 {}
+
+/// tmp
+pub fn tmp()
+    ensures { OneTurn }
+{}
