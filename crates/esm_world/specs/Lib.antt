@@ -5,6 +5,7 @@ pub mod Turn
 pub mod LastLine
 pub mod Run
 pub mod Fits
+pub mod FitLaws
 pub mod Plain
 pub mod Laws
 pub mod ImportCalls

@@ -57,8 +57,3 @@ pub fn plain_evaluation()
 pub fn starts_once()
     ensures { StartsOnce }
 {}
-
-/// tmp
-pub fn tmp()
-    ensures { OneTurn }
-{}
