@@ -3,16 +3,17 @@ use Rattle.std.proofs.Common.{◌≡◌, ℕ, ◌<◌, Bool, true, false, List, 
 use Rattle.std.specs.Prelude.{Result, ⊤, slice_get}
 use Rattle.esm_base.specs.declared.limits.Limit.{Limit}
 use Rattle.esm_base.specs.Urls.{Url, has}
+use Rattle.esm_ast.specs.Entries.{requests_of, entries_of, entries_with}
 use Rattle.esm_ast.specs.ModuleTree.{IsModuleTree}
 use Rattle.esm_values.specs.Value.{Value, Undefined, Truth, Text, Func, Error, Namespace, Promise}
 use Rattle.esm_promise.specs.Promises.{Settled, Fulfilled, Rejected}
 use Rattle.esm_promise.specs.Reactions.{Loaded}
 use Rattle.esm_expr_eval.specs.Ready.{Holds}
 use Rattle.esm_resolve.specs.SharedSet.{SharedSetAgrees, SharedSetEnds}
-use Rattle.esm_env.specs.Modules.{Modules}
+use Rattle.esm_env.specs.Modules as mods
 use Rattle.esm_loads.specs.UrlTable.{Entries, TableEntry, Throw, New, Kept, targets_in, body_in, thrown_by}
 use Rattle.esm_loads.specs.Whole.{is_module}
-use Rattle.esm_loads.specs.Loading.{Loading, LoadState, Asked, Open, LoadComplete, Thrown, PendingRequest, Root, Request, Purpose, ForEntry, ForImport}
+use Rattle.esm_loads.specs.Loading.{Loading, LoadState, Asked, Open, LoadComplete, Thrown, PendingRequest, Root, Request, Purpose, ForEntry, ForImport, is_fetching}
 use Rattle.esm_loads.specs.Host.{Host, settle_by, settle_load, begin_by, begin_load, with_loading, own_load, reject, Answered}
 use Rattle.esm_loads.specs.Host.Answered.{late, answered}
 use Rattle.esm_loads.specs.ImportCall.{Imports, BeginsImport}
@@ -24,9 +25,13 @@ use Rattle.esm_body.specs.Bodies.{given_by}
 use Rattle.esm_body.specs.Fits.{AreLinked, Knows}
 use Rattle.esm_body.proofs.SomeAct.{BeginsSome}
 use Rattle.esm_body.proofs.LinkedRead.{linked_read}
-use Rattle.esm_world.specs.World.{modules_in}
+use Rattle.esm_world.specs.World.{modules_in, url_at}
 use Rattle.esm_world.specs.Fits.{IsLinkedModule, AreModules, IsKnownValue, FitSettled, FitPromises, FitsHost}
 use Rattle.esm_world.proofs.FitLists.{place_below, place_names, made, settled, awaited}
+
+requests_are : (l : Loading) (u : Url) (i : ℕ) → i < length (mods.entries (modules_in l) u).requests → i < length (requests_of (body_in (l.entries u)))
+unfolding entries_of entries_with
+requests_are l u i lt = lt
 
 module _ (linked : List Url) (entries : Entries) (h : AreModules linked entries) where
   abbrev pub IsIn : Loading → Url → Bool
@@ -59,7 +64,7 @@ module _ (linked : List Url) (entries : Entries) (h : AreModules linked entries)
 
   -- ---- modules
 
-  not_fetching : (o : Option TableEntry) → is_module o ≡ true → Rattle.esm_loads.specs.Loading.is_fetching o ≡ false
+  not_fetching : (o : Option TableEntry) → is_module o ≡ true → is_fetching o ≡ false
   not_fetching None e = absurd cc
   not_fetching (Some x) e = refl
 
@@ -69,14 +74,10 @@ module _ (linked : List Url) (entries : Entries) (h : AreModules linked entries)
   pub are_linked : (l : Loading) → l.entries ≡ entries → IsOrderly l → AreLinked (modules_in l) (has linked)
   are_linked l e o = record {
     trees = λ u k. subst (λ es. IsModuleTree (body_in (es u))) (sym e) (h.trees u k);
-    targets = λ u i k lt. subst (λ (es : Entries). i < length (Rattle.esm_ast.specs.Entries.requests_of (body_in (es u))) → has linked (Rattle.esm_world.specs.World.url_at (targets_in (es u)) i) ≡ true) (sym e) (h.targets u i k) (requests_are l u i lt);
+    targets = λ u i k lt. subst (λ (es : Entries). i < length (requests_of (body_in (es u))) → has linked (url_at (targets_in (es u)) i) ≡ true) (sym e) (h.targets u i k) (requests_are l u i lt);
     below = λ u k. place_below l.asked u (asked_for l e o u k);
     named = λ u k. place_names l.asked u (asked_for l e o u k);
   }
-    where
-      requests_are : (l : Loading) (u : Url) (i : ℕ) → i < length (Rattle.esm_env.specs.Modules.entries (modules_in l) u).requests → i < length (Rattle.esm_ast.specs.Entries.requests_of (body_in (l.entries u)))
-      unfolding Rattle.esm_ast.specs.Entries.entries_of
-      requests_are l u i lt = lt
 
   -- ---- settled values
 

@@ -1,6 +1,6 @@
 -- Places in lists of URLs, and promises that fit.
 use Rattle.std.proofs.Common.{◌≡◌, ℕ, zero, suc, ◌+◌, ◌<◌, Bool, true, false, ◌&&◌, ◌||◌, cond, List, [], ◌∷◌, ◌++◌, map, Option, Some, None, refl, ap, subst, sym, ◌∙◌, arith, length}
-use Rattle.std.specs.Prelude.{filter, slice_get, slice_set, slice_index_or, bytes_eq, ⊤, ◌⊎◌}
+use Rattle.std.specs.Prelude.{not, filter, slice_get, slice_set, slice_index_or, bytes_eq, ⊤, ◌⊎◌}
 use Rattle.std.specs.List.{list_any, position_or_len, AllByRecursion}
 use Rattle.std.proofs.lemmas.Slice.Eq.{bytes_eq-Decides}
 use Rattle.esm_base.specs.Urls.{Url, has, same_url}
@@ -26,7 +26,7 @@ pub place_below : (us : List Url) (u : Url) → has us u ≡ true → place_of u
 place_below [] u h = absurd (let e : false ≡ true = h in cc)
 place_below (v ∷ us) u h = by (bytes_eq u v) h (place_below us u)
   where
-    by : (b : Bool) → (b || has us u) ≡ true → (has us u ≡ true → place_of us u < length us) → cond b 0 (suc (place_of us u)) < suc (length us)
+    by : (b : Bool) → (b || has us u) ≡ true → (has us u ≡ true → place_of us u < length us) → cond (not b) (1 + place_of us u) 0 < suc (length us)
     by true h later = omega arith
     by false h later = let l = later h in omega (arith, l)
 
@@ -34,9 +34,12 @@ pub place_names : (us : List Url) (u : Url) → has us u ≡ true → url_at us 
 place_names [] u h = absurd (let e : false ≡ true = h in cc)
 place_names (v ∷ us) u h = by (bytes_eq u v) refl h (place_names us u)
   where
-    by : (b : Bool) → bytes_eq u v ≡ b → (b || has us u) ≡ true → (has us u ≡ true → url_at us (place_of us u) ≡ u) → url_at (v ∷ us) (cond b 0 (suc (place_of us u))) ≡ u
+    behind : url_at us (place_of us u) ≡ u → url_at (v ∷ us) (1 + place_of us u) ≡ u
+    behind e = let one : 1 + place_of us u ≡ suc (place_of us u) = omega arith in subst (λ k. url_at (v ∷ us) k ≡ u) (sym one) e
+
+    by : (b : Bool) → bytes_eq u v ≡ b → (b || has us u) ≡ true → (has us u ≡ true → url_at us (place_of us u) ≡ u) → url_at (v ∷ us) (cond (not b) (1 + place_of us u) 0) ≡ u
     by true e h later = sym (same_is u v e)
-    by false e h later = later h
+    by false e h later = behind (later h)
 
 -- ---- promises
 
