@@ -10,13 +10,13 @@ use crate::errors::has_early_error;
 use crate::items::item_step;
 use bumpalo::Bump;
 use esm_base::{MAX_FILE_BYTES, ReadEnd, TextFault};
-use esm_lexer::{lexemes, nests_too_deep};
+use esm_lexer::{LexemeList, lexemes, nests_too_deep};
 use esm_parse_expr::Stop;
-use esm_tree::{Lexeme, Tree};
+use esm_tree::Tree;
 use std::alloc::Global;
 
 // The items from the first token up to the last.
-fn items(alloc: Global, tokens: &[Lexeme]) -> Result<Tree, Stop>
+fn items(alloc: Global, tokens: &LexemeList) -> Result<Tree, Stop>
     ensures { ReadsModule result (module_items tokens.now) }
 {
     let turns = tokens.len() + 2;
@@ -34,7 +34,7 @@ fn items(alloc: Global, tokens: &[Lexeme]) -> Result<Tree, Stop>
 }
 
 // Reads the tree that the tokens of a text derive, which are whole or end at a place where no token can be read.
-fn tree_of(alloc: Global, tokens: &[Lexeme], whole: bool) -> Result<Tree, ReadEnd>
+fn tree_of(alloc: Global, tokens: &LexemeList, whole: bool) -> Result<Tree, ReadEnd>
     ensures { (bytes : List ℕ) → length bytes ≤ 1048576 → AreTokens bytes tokens.now whole →
         MatchResult result (λ tree. Derives bytes tree.items) (IsRefusedFor bytes) }
 {
