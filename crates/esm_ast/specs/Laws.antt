@@ -4,6 +4,7 @@ use Rattle.esm_base.specs.declared.fault.TextFault.{TextFault}
 use Rattle.esm_tree.specs.Syntax.{Item}
 use Rattle.esm_grammar.specs.ModuleText.{Spells, FaultOf}
 use Rattle.esm_ast.specs.Entries.{NamesRequests, entries_of}
+use Rattle.esm_ast.specs.ModuleTree.{IsModuleTree}
 use Rattle.esm_ast.specs.Outcome.{OutcomeView, OutcomeOf}
 
 -- a text spells at most one tree
@@ -21,6 +22,10 @@ HasNoTreeBesideAFault = (bytes : List ℕ) (items : List Item) (fault : TextFaul
 -- bytes are read as one outcome: two that are both what they are read as don't differ
 abbrev pub HasOneOutcome : Type 0
 HasOneOutcome = (bytes : List ℕ) (one other : OutcomeView) → OutcomeOf bytes one → OutcomeOf bytes other → one ≡ other
+
+-- what a text spells is a module's tree
+abbrev pub SpellsModuleTrees : Type 0
+SpellsModuleTrees = (bytes : List ℕ) (items : List Item) → Spells bytes items → IsModuleTree items
 
 -- what a module imports and exports is of its own requests
 abbrev pub EntriesNameRequests : Type 0

@@ -1,5 +1,5 @@
 //! Laws of the definitions, each the contract of a function without effect.
-ghost use Rattle.esm_ast.specs.Laws.{SpellsOneTree, HasOneFault, HasNoTreeBesideAFault, HasOneOutcome, EntriesNameRequests, IsSmall};
+ghost use Rattle.esm_ast.specs.Laws.{SpellsOneTree, HasOneFault, HasNoTreeBesideAFault, HasOneOutcome, SpellsModuleTrees, EntriesNameRequests, IsSmall};
 
 /// A text spells at most one tree.
 pub fn one_tree()
@@ -30,6 +30,12 @@ pub fn one_outcome()
     one_fault();
     no_tree_beside_a_fault();
 }
+
+/// What a text spells is a module's tree: no `return` stands outside functions, no `await` inside one, and its names
+/// are UTF-8.
+pub fn spelled_is_module_tree()
+    ensures { SpellsModuleTrees }
+{}
 
 /// Whatever an entry of a module names as its request is one of the module's requests.
 pub fn name_requests()

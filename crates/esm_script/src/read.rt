@@ -3,10 +3,11 @@ ghost use Rattle.std.specs.Prelude.{◌≡◌, IfOk, IfErr, MatchResult};
 ghost use Rattle.std.specs.Arc.{arc_value};
 ghost use Rattle.esm_grammar.specs.ModuleText.{Spells, IsRefusedFor};
 ghost use Rattle.esm_ast.specs.Entries as entries;
+ghost use Rattle.esm_ast.specs.ModuleTree.{IsModuleTree};
 ghost use Rattle.esm_ast.specs.Script.{IsScriptOf};
 
 use crate::entries::entries_of;
-use esm_ast::{Entries, Script, Tree};
+use esm_ast::{Entries, Script, Tree, laws};
 use esm_base::{Memory, ReadEnd};
 use esm_parse_mod::parse;
 use std::alloc::Global;
@@ -38,14 +39,17 @@ fn shared_entries(alloc: Global, tree: &Tree) -> Result<Arc<Entries>, Memory>
 }
 
 /// Reads a module text: the script of the tree that the bytes spell. Where it is refused, for a fault exactly where
-/// the bytes have that fault, or because memory ran out, the bytes are handed back. No byte of them is copied.
+/// the bytes have that fault, or because memory ran out, the bytes are handed back. No byte of them is copied. The tree
+/// is a module's: no `return` stands outside functions, no `await` inside one, and its names are UTF-8.
 ///
 /// HTML, "create a JavaScript module script"; ECMA-262, ParseModule.
 pub fn read_script(alloc: Global, bytes: Vec<u8>) -> Result<Script, (ReadEnd, Vec<u8>)>
     ensures ok { IfOk result (IsScriptOf bytes.items) }
+    ensures module_tree { IfOk result (λ script. IsModuleTree script.tree.items) }
     ensures refused { IfErr result (λ refusal. IsRefusedFor bytes.items refusal.0) }
     ensures handed_back { IfErr result (λ refusal. refusal.1 ≡ bytes) }
 {
+    laws::spelled_is_module_tree();
     match shared_tree(alloc, &bytes) {
         Ok(tree) => match shared_entries(alloc, &tree) {
             Ok(entries) => Ok(Script::from_shared(bytes, tree, entries)),
