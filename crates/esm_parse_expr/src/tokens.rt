@@ -4,7 +4,7 @@ ghost use Rattle.esm_grammar.specs.Lexeme.{terminal_at, text_at, newline_at, is_
 ghost use Rattle.esm_grammar.specs.Reading.{same};
 
 use esm_base::{Memory, Text};
-use esm_tree::{Lexeme, Terminal};
+use esm_tree::{Lexeme, NodeText, Terminal};
 use std::alloc::Global;
 
 /// What the token at a place is, or `End` behind the last.
@@ -44,6 +44,16 @@ pub fn text(alloc: Global, tokens: &[Lexeme], at: usize) -> Result<Text, Memory>
     match tokens.get(at) {
         Some(token) => Text::copy(alloc, token.text()),
         None => Text::copy(alloc, ""),
+    }
+}
+
+/// The same, for a node of an expression.
+pub fn node_text(alloc: Global, tokens: &[Lexeme], at: usize) -> Result<NodeText, Memory>
+    ensures { IfOk result (λ v. v ≡ text_at tokens.now at) }
+{
+    match tokens.get(at) {
+        Some(token) => NodeText::copy(alloc, token.text()),
+        None => NodeText::copy(alloc, ""),
     }
 }
 
