@@ -4,8 +4,8 @@ ghost use Rattle.std.specs.Arc.{arc_value};
 ghost use Rattle.esm_expr_eval.specs.Machine.{IsSound, IsGiven};
 
 use crate::{ExprEnd, ExprFrame, Move, Out, World};
-use esm_base::{Memory, ModuleId, Text};
-use esm_tree::{ExprId, ExprNode, Link, Tree};
+use esm_base::{Memory, ModuleId};
+use esm_tree::{ExprId, ExprNode, Link, NodeText, Tree};
 use esm_values::{ErrorId, FaultKind, FuncId, RcText, Value};
 use std::alloc::Global;
 use std::sync::Arc;
@@ -66,7 +66,7 @@ fn sum_tree(alloc: Global) -> Result<Arc<Tree>, Memory>
     ensures { IfOk result (λ t. length (arc_value t).exprs ≡ 3) }
 {
     let mut tree = Tree::new(alloc);
-    let text = Text::copy(alloc, "a")?;
+    let text = NodeText::copy(alloc, "a")?;
     let left = tree.add_expr(ExprNode::Text(text))?;
     let right = tree.add_expr(ExprNode::Truth(true))?;
     let mut others = Vec::new(alloc);
@@ -80,9 +80,9 @@ fn call_tree(alloc: Global) -> Result<Arc<Tree>, Memory>
     ensures { IfOk result (λ t. length (arc_value t).exprs ≡ 3) }
 {
     let mut tree = Tree::new(alloc);
-    let name = Text::copy(alloc, "f")?;
+    let name = NodeText::copy(alloc, "f")?;
     let callee = tree.add_expr(ExprNode::Name(name))?;
-    let text = Text::copy(alloc, "x")?;
+    let text = NodeText::copy(alloc, "x")?;
     let argument = tree.add_expr(ExprNode::Text(text))?;
     let mut arguments = Vec::new(alloc);
     arguments.push(argument)?;

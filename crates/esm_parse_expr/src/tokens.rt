@@ -5,7 +5,7 @@ ghost use Rattle.esm_grammar.specs.Reading.{same};
 
 use esm_base::{Memory, Text};
 use esm_lexer::LexemeList;
-use esm_tree::Terminal;
+use esm_tree::{NodeText, Terminal};
 use std::alloc::Global;
 
 /// What the token at a place is, or `End` behind the last.
@@ -40,6 +40,13 @@ pub fn text(alloc: Global, tokens: &LexemeList, at: usize) -> Result<Text, Memor
     ensures { IfOk result (λ v. v ≡ text_at tokens.now at) }
 {
     Text::copy(alloc, tokens.text(at))
+}
+
+/// The same, for a node of an expression.
+pub fn node_text(alloc: Global, tokens: &LexemeList, at: usize) -> Result<NodeText, Memory>
+    ensures { IfOk result (λ v. v ≡ text_at tokens.now at) }
+{
+    NodeText::copy(alloc, tokens.text(at))
 }
 
 /// Whether the token at a place is a word.
