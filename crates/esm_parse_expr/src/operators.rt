@@ -11,7 +11,7 @@ ghost use Rattle.esm_parse_expr.specs.Inner.Operators.{joined_with, compared_wit
 
 use crate::reader::{Reader, Stop, done};
 use crate::tokens::{sees, terminal};
-use esm_tree::{ExprId, ExprNode, Lexeme, Terminal, Tree};
+use esm_tree::{ExprId, ExprIds, ExprNode, Lexeme, Terminal, Tree};
 use std::alloc::Global;
 
 /// The operand as it is, or several.
@@ -33,7 +33,8 @@ fn sum_of(
     if others.is_empty() {
         Ok((first, behind))
     } else {
-        done(tree, ExprNode::Sum(first, others), behind)
+        let operands = ExprIds::of(others)?;
+        done(tree, ExprNode::Sum(first, operands), behind)
     }
 }
 
@@ -56,7 +57,8 @@ fn both_of(
     if others.is_empty() {
         Ok((first, behind))
     } else {
-        done(tree, ExprNode::And(first, others), behind)
+        let operands = ExprIds::of(others)?;
+        done(tree, ExprNode::And(first, operands), behind)
     }
 }
 
@@ -75,7 +77,8 @@ fn either_of(
     if others.is_empty() {
         Ok((first, behind))
     } else {
-        done(tree, ExprNode::Or(first, others), behind)
+        let operands = ExprIds::of(others)?;
+        done(tree, ExprNode::Or(first, operands), behind)
     }
 }
 
