@@ -1,6 +1,7 @@
 pub mod States
 pub mod Cycle
 pub mod Thrown
+pub mod Beside
 pub mod Shared
 pub mod Meeting
 pub mod Fallen

@@ -1,6 +1,6 @@
 -- Worked examples of evaluation.
 use Rattle.std.specs.Prelude.{◌≡◌, Bool, List, [], ◌∷◌, Some, None, Ok, Err}
-use Rattle.esm_eval.specs.Nodes.{Evaluating, EvaluatingAsync, Evaluated}
+use Rattle.esm_eval.specs.Nodes.{NotEntered, Evaluating, EvaluatingAsync, Evaluated}
 use Rattle.esm_eval.specs.Evaluation.{IsLawful, IsSteady}
 use Rattle.esm_eval.specs.Evaluate.{Evaluates}
 use Rattle.esm_eval.specs.BodyEnd.{Rejects, Fulfills}
@@ -47,6 +47,21 @@ pub record ThrowInCycle : Type 0 where
   pub other : Evaluates (small cycle_behind none) (Writes (fails B)) mid B (Ok 1) after
   pub both : after.promises ≡ Rejected B ∷ Rejected B ∷ []
   pub no_more : after.log ≡ C ∷ B ∷ []
+
+-- ---- A imports B and C, and the body of B throws
+
+abbrev pub beside : Name → List Name
+beside A = B ∷ C ∷ []
+beside x = []
+
+-- the walk is cut: C is never entered, and neither its body nor that of A begins
+pub record NothingBehindAThrow : Type 0 where
+  pub after : Small
+  pub evaluates : Evaluates (small beside none) (Writes (fails B)) opening A (Ok 0) after
+  pub log : after.log ≡ B ∷ []
+  pub phases : (after.nodes.a.phase ≡ Evaluated) × (after.nodes.b.phase ≡ Evaluated) × (after.nodes.c.phase ≡ NotEntered)
+  pub errors : (after.nodes.a.error ≡ Some B) × (after.nodes.b.error ≡ Some B)
+  pub rejected : after.promises ≡ Rejected B ∷ []
 
 -- ---- A imports B and C, which both import D, and D awaits
 

@@ -1,5 +1,5 @@
 // Worked examples of the definitions, as functions without effect.
-ghost use Rattle.esm_eval.specs.Examples.{CycleOfWhichOneAwaits, MeetsAWaitingCycle, ReadyHoldsBack, ReadyThrows, RootFails, SharedRejection, SmallWorldsAreLawful, StopsAtOnce, ThrowInCycle};
+ghost use Rattle.esm_eval.specs.Examples.{CycleOfWhichOneAwaits, MeetsAWaitingCycle, NothingBehindAThrow, ReadyHoldsBack, ReadyThrows, RootFails, SharedRejection, SmallWorldsAreLawful, StopsAtOnce, ThrowInCycle};
 
 /// Two modules in a cycle, of which one awaits.
 pub fn cycle_of_which_one_awaits()
@@ -9,6 +9,11 @@ pub fn cycle_of_which_one_awaits()
 /// A body in a cycle throws.
 pub fn throw_in_cycle()
     ensures { ThrowInCycle }
+{}
+
+/// Behind a throw no module is entered and no body begins.
+pub fn nothing_behind_a_throw()
+    ensures { NothingBehindAThrow }
 {}
 
 /// A dependency that two modules share is rejected.
