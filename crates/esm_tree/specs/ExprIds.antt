@@ -1,5 +1,5 @@
 -- What contracts see of numbers of expressions in a node.
-use Rattle.std.specs.Prelude.{ℕ, ◌≤◌, List, take}
+use Rattle.std.specs.Prelude.{◌≤◌, List, take}
 use Rattle.esm_tree.specs.declared.node.ExprId.{ExprId}
 use Rattle.esm_tree.specs.declared.expr_ids.Form.{Form}
 use Rattle.esm_tree.specs.declared.expr_ids.Form.TheVariants as f
