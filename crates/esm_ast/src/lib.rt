@@ -9,7 +9,8 @@ mod script;
 pub use entries::{Entries, ImportEntry, IndirectExport, LocalExport};
 pub use esm_tree::{
     ExportSpecifier, ExprId, ExprIds, ExprNode, ImportBinding, Initializer, ItemNode, Lexeme,
-    LexicalBinding, Link, Mark, NodeText, StmtId, StmtNode, Terminal, Token, TokenKind, Tree, Wanted,
+    LexicalBinding, Link, Mark, NodeText, StmtId, StmtNode, Terminal, Token, TokenKind, Tree,
+    Wanted,
 };
 pub use outcome::{BrokenText, Outcome};
 pub use script::Script;
