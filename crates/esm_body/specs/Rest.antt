@@ -2,7 +2,7 @@
 -- remaining part. ECMA-262, Runtime Semantics: Evaluation of statements.
 use Rattle.std.specs.Prelude.{ℕ, Bool, true, false, List, Option, Some, None}
 use Rattle.esm_tree.specs.Syntax.{Init, absent, plain, awaited, Bindings, no_more, binding, Stmts, nothing, first}
-use Rattle.esm_values.specs.Display.{default_local}
+use Rattle.esm_base.specs.DefaultExport.{star_default}
 use Rattle.esm_tree.specs.Syntax.{Stmt as Statement}
 use Rattle.esm_tree.specs.Syntax.{Stmt as stmts}
 use Rattle.esm_values.specs.Operators.{Values}
@@ -61,7 +61,7 @@ module _ {V : Type 0} (values : Values V) where
   begin (stmts.Block ss) rest = more (block ss) rest
   begin (stmts.Const bs) rest = does_bindings bs rest
   begin (stmts.Let bs) rest = does_bindings bs rest
-  begin (stmts.Default value) rest = more (does_init (Sets default_local) value) rest
+  begin (stmts.Default value) rest = more (does_init (Sets star_default) value) rest
   begin (stmts.Assign x init) rest = more (does_init (Writes x) init) rest
   begin (stmts.If e ss) rest = more (Does (Chooses ss nothing) (term values e)) rest
   begin (stmts.IfElse e ss others) rest = more (Does (Chooses ss others) (term values e)) rest

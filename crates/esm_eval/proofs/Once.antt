@@ -2,16 +2,17 @@
 use Rattle.std.proofs.Common.{◌≡◌, ℕ, true, false, List, [], ◌∷◌, ◌++◌, Option, Some, None, refl, ap, subst, sym, ◌∙◌, inl, inr}
 use Rattle.std.specs.Prelude.{◌⊎◌, Result, Ok}
 use Rattle.std.proofs.lemmas.List.{append-nil}
-use Rattle.esm_realm.specs.Walk.{Mark, is_in}
+use Rattle.esm_realm.specs.Walk.{Mark}
+use Rattle.esm_base.specs.Lists.{is_in, EachOnce}
 use Rattle.esm_realm.specs.Components.{opened_from}
 use Rattle.esm_realm.proofs.Urls.{not_true, not_both}
 use Rattle.esm_realm.proofs.Lists as lists
 use Rattle.esm_realm.proofs.Lists.{either, in_first, in_later, in_cons}
 use Rattle.esm_eval.specs.Nodes.{Phase, NotEntered, Evaluating, EvaluatingAsync, Evaluated, was_entered, Node, BodyCalls}
 use Rattle.esm_eval.specs.Evaluation.{Evaluation, IsLawful, IsSteady, IsAlike, phase, is_stamped, add_wait, wait_on, put_wait}
-use Rattle.esm_eval.specs.Evaluate.{End, Ends, Throws, Stops, ExecutesAsync, Executes, Leaves, Marks, Walks, EvaluatesRoot, Evaluates, enter, close, fail, keep, fulfill_by, closed_phase}
+use Rattle.esm_eval.specs.Evaluate.{WalkEnd, Ends, Throws, Stops, ExecutesAsync, Executes, Leaves, Marks, Walks, EvaluatesRoot, Evaluates, enter, close, fail, keep, fulfill_by, closed_phase}
 use Rattle.esm_eval.specs.Evaluate.Marks.{done, enters, passes, pass_throws, stays, component, leave_throws, leave_stops}
-use Rattle.esm_eval.specs.Begins.{EachOnce, First, BeginsOne, HaveBegunOnce}
+use Rattle.esm_eval.specs.Begins.{First, BeginsOne, HaveBegunOnce}
 use Rattle.esm_eval.proofs.Fits.{Fits, walk_fits}
 use Rattle.esm_eval.proofs.Paths.{Paths, walk_path}
 use Rattle.esm_eval.proofs.Amid.{In, Amid, of_between, not_entered}
@@ -85,7 +86,7 @@ module _ {N V W : Type 0} (E : Evaluation N V W) (L : IsLawful E) where
   calm_enter w path x f c = record {
     unbegun = λ y h. q.begun y ∙ c.unbegun y (back y h);
     unstamped = λ y h. stamped_quiet w (enter E w x) q.stamps y ∙ c.unstamped y (back y h);
-    still = λ y h. let k = either (in_cons E.same L.own L.equal x path y h) (λ e. subst (λ z. (E.begun w z ≡ false) × (is_stamped E w z ≡ false)) (sym e) (c.unbegun x f, c.unstamped x f)) (c.still y) in
+    still = λ y h. let k = either (in_cons E.same L.names.own L.names.equal x path y h) (λ e. subst (λ z. (E.begun w z ≡ false) × (is_stamped E w z ≡ false)) (sym e) (c.unbegun x f, c.unstamped x f)) (c.still y) in
         (q.begun y ∙ k.0, stamped_quiet w (enter E w x) q.stamps y ∙ k.1);
     distinct = subst (λ xs. EachOnce E.same xs) (sym q.stamps) c.distinct;
   }
@@ -101,10 +102,10 @@ module _ {N V W : Type 0} (E : Evaluation N V W) (L : IsLawful E) where
 
   snoc_distinct : (xs : List N) (x : N) → is_in E.same xs x ≡ false → EachOnce E.same xs → EachOnce E.same (xs ++ x ∷ [])
   snoc_distinct [] x h d = (refl, tt)
-  snoc_distinct (y ∷ ys) x h d = (lists.out_both E.same L.own L.equal ys (x ∷ []) y d.0 one, snoc_distinct ys x (not_true (is_in E.same ys x) (λ k. not_both (is_in E.same (y ∷ ys) x) (in_later E.same L.own L.equal y ys x k) h)) d.1)
+  snoc_distinct (y ∷ ys) x h d = (lists.out_both E.same L.names.own L.names.equal ys (x ∷ []) y d.0 one, snoc_distinct ys x (not_true (is_in E.same ys x) (λ k. not_both (is_in E.same (y ∷ ys) x) (in_later E.same L.names.own L.names.equal y ys x k) h)) d.1)
     where
       one : is_in E.same (x ∷ []) y ≡ false
-      one = not_true (is_in E.same (x ∷ []) y) (λ k. either (in_cons E.same L.own L.equal x [] y k) (λ e. not_both (is_in E.same (y ∷ ys) x) (subst (λ z. is_in E.same (z ∷ ys) x ≡ true) (sym e) (in_first E.same L.own L.equal x ys)) h) (λ k. cc))
+      one = not_true (is_in E.same (x ∷ []) y) (λ k. either (in_cons E.same L.names.own L.names.equal x [] y k) (λ e. not_both (is_in E.same (y ∷ ys) x) (subst (λ z. is_in E.same (z ∷ ys) x ≡ true) (sym e) (in_first E.same L.names.own L.names.equal x ys)) h) (λ k. cc))
 
   -- x is left: it alone may have got an order, and its body alone may have begun
   pub record LeftBy (w v : W) (x : N) : Type 0 where
@@ -118,8 +119,8 @@ module _ {N V W : Type 0} (E : Evaluation N V W) (L : IsLawful E) where
     unbegun = λ y h. not_true (E.begun v y) (λ k. either (l.begun y k) (λ i. not_both (E.begun w y) i (c.unbegun y (back y h))) (λ e. other y h e));
     unstamped = λ y h. not_true (is_stamped E v y) (λ k. either (l.stamped y k) (λ i. not_both (is_stamped E w y) i (c.unstamped y (back y h))) (λ e. other y h e));
     still = λ y h. (
-      not_true (E.begun v y) (λ k. either (l.begun y k) (λ i. not_both (E.begun w y) i (c.still y (in_later E.same L.own L.equal x rest y h)).0) (λ e. apart y h e)),
-      not_true (is_stamped E v y) (λ k. either (l.stamped y k) (λ i. not_both (is_stamped E w y) i (c.still y (in_later E.same L.own L.equal x rest y h)).1) (λ e. apart y h e)),
+      not_true (E.begun v y) (λ k. either (l.begun y k) (λ i. not_both (E.begun w y) i (c.still y (in_later E.same L.names.own L.names.equal x rest y h)).0) (λ e. apart y h e)),
+      not_true (is_stamped E v y) (λ k. either (l.stamped y k) (λ i. not_both (is_stamped E w y) i (c.still y (in_later E.same L.names.own L.names.equal x rest y h)).1) (λ e. apart y h e)),
     );
     distinct = l.distinct;
   }
@@ -145,16 +146,16 @@ module _ {N V W : Type 0} (E : Evaluation N V W) (L : IsLawful E) where
       calm_on w after path (quiet_close x (opened_from E.same opened x) w) (back_of w after (close_known E L w opened x a)) c
 
 module _ {N V W S : Type 0} (E : Evaluation N V W) (acts : BodyCalls N V W S) (L : IsLawful E) (steady : IsSteady E acts) (one : BeginsOne E acts) where
-  pub once_run : {w : W} {x : N} {end : End V S} {mid : W} → Executes E acts w x end mid → E.begun w x ≡ false → Executes E (First E acts) w x end mid
+  pub once_run : {w : W} {x : N} {end : WalkEnd V S} {mid : W} → Executes E acts w x end mid → E.begun w x ≡ false → Executes E (First E acts) w x end mid
   once_run (Executes.ends p) b = Executes.ends (b, p)
   once_run (Executes.throws v p) b = Executes.throws v (b, p)
   once_run (Executes.stops why p) b = Executes.stops why (b, p)
 
-  pub once_start : {w : W} {x : N} {end : End V S} {mid : W} → ExecutesAsync E acts w x end mid → E.begun w x ≡ false → ExecutesAsync E (First E acts) w x end mid
+  pub once_start : {w : W} {x : N} {end : WalkEnd V S} {mid : W} → ExecutesAsync E acts w x end mid → E.begun w x ≡ false → ExecutesAsync E (First E acts) w x end mid
   once_start {w} {x} (ExecutesAsync.starts p) b = ExecutesAsync.starts ((L.make_body_promise w x).begun x ∙ b, p)
   once_start {w} {x} (ExecutesAsync.stops why p) b = ExecutesAsync.stops why ((L.make_body_promise w x).begun x ∙ b, p)
 
-  once_leave : {w : W} {x : N} {end : End V S} {mid : W} → Leaves E acts w x end mid → E.begun w x ≡ false → Leaves E (First E acts) w x end mid
+  once_leave : {w : W} {x : N} {end : WalkEnd V S} {mid : W} → Leaves E acts w x end mid → E.begun w x ≡ false → Leaves E (First E acts) w x end mid
   once_leave (Leaves.runs n o r) b = Leaves.runs n o (once_run r b)
   once_leave {w} {x} (Leaves.starts n o r) b = Leaves.starts n o (once_start r ((L.add_stamp w x).begun x ∙ b))
   once_leave (Leaves.waiting n) b = Leaves.waiting n
@@ -165,7 +166,7 @@ module _ {N V W S : Type 0} (E : Evaluation N V W) (acts : BodyCalls N V W S) (L
     pub stamps : E.stamps v ≡ E.stamps w
     pub begun : (y : N) → E.begun v y ≡ true → (E.begun w y ≡ true) ⊎ (y ≡ x)
 
-  pub run_of : {w : W} {x : N} {end : End V S} {mid : W} → Executes E acts w x end mid → CallOf w mid x
+  pub run_of : {w : W} {x : N} {end : WalkEnd V S} {mid : W} → Executes E acts w x end mid → CallOf w mid x
   run_of (Executes.ends p) = let s = steady.call _ _ _ _ p in record { nodes = s.nodes; stamps = s.stamps; begun = one.call _ _ _ _ p }
   run_of (Executes.throws v p) = let s = steady.call _ _ _ _ p in record { nodes = s.nodes; stamps = s.stamps; begun = one.call _ _ _ _ p }
   run_of (Executes.stops why p) = let s = steady.call _ _ _ _ p in record { nodes = s.nodes; stamps = s.stamps; begun = one.call _ _ _ _ p }
@@ -179,7 +180,7 @@ module _ {N V W S : Type 0} (E : Evaluation N V W) (acts : BodyCalls N V W S) (L
         begun = λ y h. either (c.begun y h) (λ k. inl (sym (l.begun y) ∙ k)) inr;
       }
 
-  pub start_of : {w : W} {x : N} {end : End V S} {mid : W} → ExecutesAsync E acts w x end mid → CallOf w mid x
+  pub start_of : {w : W} {x : N} {end : WalkEnd V S} {mid : W} → ExecutesAsync E acts w x end mid → CallOf w mid x
   start_of {w} {x} {mid = mid} (ExecutesAsync.starts p) = let s = steady.call _ _ _ _ p in behind_promise w mid x (record { nodes = s.nodes; stamps = s.stamps; begun = one.call _ _ _ _ p })
   start_of {w} {x} {mid = mid} (ExecutesAsync.stops why p) = let s = steady.call _ _ _ _ p in behind_promise w mid x (record { nodes = s.nodes; stamps = s.stamps; begun = one.call _ _ _ _ p })
 
@@ -189,7 +190,7 @@ module _ {N V W S : Type 0} (E : Evaluation N V W) (acts : BodyCalls N V W S) (L
       record {
         nodes = s.nodes;
         begun = λ y h. inl (sym (s.begun y) ∙ h);
-        stamped = λ y h. either (lists.in_split E.same L.own L.equal (E.stamps w) (x ∷ []) y (subst (λ xs. is_in E.same xs y ≡ true) s.stamps h)) inl (λ k. either (in_cons E.same L.own L.equal x [] y k) inr (λ z. cc));
+        stamped = λ y h. either (lists.in_split E.same L.names.own L.names.equal (E.stamps w) (x ∷ []) y (subst (λ xs. is_in E.same xs y ≡ true) s.stamps h)) inl (λ k. either (in_cons E.same L.names.own L.names.equal x [] y k) inr (λ z. cc));
         distinct = subst (λ xs. EachOnce E.same xs) (sym s.stamps) (snoc_distinct E L (E.stamps w) x u d);
       }
 
@@ -209,24 +210,24 @@ module _ {N V W S : Type 0} (E : Evaluation N V W) (acts : BodyCalls N V W S) (L
     distinct = l.distinct;
   }
 
-  left_by : {w : W} {x : N} {end : End V S} {mid : W} → Leaves E acts w x end mid → is_stamped E w x ≡ false → EachOnce E.same (E.stamps w) → LeftBy E L w mid x
+  left_by : {w : W} {x : N} {end : WalkEnd V S} {mid : W} → Leaves E acts w x end mid → is_stamped E w x ≡ false → EachOnce E.same (E.stamps w) → LeftBy E L w mid x
   left_by {w} {x} {mid = mid} (Leaves.runs n o r) u d = left_call w mid x (run_of r) d
   left_by {w} {x} {mid = mid} (Leaves.starts n o r) u d =
       let s = left_stamp w x u d in
       left_on w (E.add_stamp w x) mid x s (left_call (E.add_stamp w x) mid x (start_of r) s.distinct)
   left_by {w} {x} (Leaves.waiting n) u d = left_stamp w x u d
 
-  abbrev KeptCalm : End V S → W → Type 0
+  abbrev KeptCalm : WalkEnd V S → W → Type 0
   KeptCalm Ends after = Calm E L after []
   KeptCalm (Throws v) after = Calm E L after []
   KeptCalm (Stops why) after = Unit {0}
 
   module _ (to : N → List N) where
     abbrev Fit : List N → List (Mark N) → Type 0
-    Fit = Fits E.same L.own L.equal to
+    Fit = Fits E.same L.names.own L.names.equal to
 
     abbrev Path : List N → List (Mark N) → Type 0
-    Path = Paths E.same L.own L.equal to
+    Path = Paths E.same L.names.own L.names.equal to
 
     begins : (w : W) (seen : List N) (x : N) → Known E acts L steady w seen → is_in E.same seen x ≡ true → was_entered (phase E w x) ≡ true
     begins w seen x k h = sym (k x) ∙ h
@@ -235,13 +236,13 @@ module _ {N V W S : Type 0} (E : Evaluation N V W) (acts : BodyCalls N V W S) (L
       unbegun : E.begun w x ≡ false
       calm : Calm E L mid rest
 
-    leaves : {w mid : W} {x : N} {end : End V S} (opened path rest seen : List N) → Leaves E acts w x end mid → path ≡ x ∷ rest → is_in E.same rest x ≡ false → was_entered (phase E w x) ≡ true → Calm E L w path → Left w mid x opened rest seen
+    leaves : {w mid : W} {x : N} {end : WalkEnd V S} (opened path rest seen : List N) → Leaves E acts w x end mid → path ≡ x ∷ rest → is_in E.same rest x ≡ false → was_entered (phase E w x) ≡ true → Calm E L w path → Left w mid x opened rest seen
     leaves {w} {mid} {x} opened path rest seen l e out b c =
         let c' : Calm E L w (x ∷ rest) = subst (λ p. Calm E L w p) e c in
-        let s = c'.still x (in_first E.same L.own L.equal x rest) in
+        let s = c'.still x (in_first E.same L.names.own L.names.equal x rest) in
         record { unbegun = s.0; calm = calm_left E L w mid x rest b out (left_by l s.1 c'.distinct) c' }
 
-    marks_once : {w : W} {opened : List N} {ms : List (Mark N)} {end : End V S} {after : W} (seen path : List N) → Marks E acts to w opened ms end after → Fit seen ms → Path path ms → Known E acts L steady w seen → Amid E w opened → Calm E L w path
+    marks_once : {w : W} {opened : List N} {ms : List (Mark N)} {end : WalkEnd V S} {after : W} (seen path : List N) → Marks E acts to w opened ms end after → Fit seen ms → Path path ms → Known E acts L steady w seen → Amid E w opened → Calm E L w path
         → Marks E (First E acts) to w opened ms end after × KeptCalm end after
     marks_once {w} seen path done f ps k a c = (done, calm_drop E L w path c)
     marks_once {w} {opened} seen path (enters {x = x} p) f ps k a c =
@@ -284,11 +285,11 @@ module _ {N V W S : Type 0} (E : Evaluation N V W) (acts : BodyCalls N V W S) (L
   calm_keep w m c = calm_on E L w (keep E w m) [] (quiet_on E L w (E.make_promise w) (keep E w m) (quiet_alike E L w (E.make_promise w) (L.make_promise w)) (quiet_put E L (E.make_promise w) m (record (E.node w m) { promise = Some (E.next_promise w) })))
       (λ y h. sym ((keep_like E acts L steady w m).phases y) ∙ h) c
 
-  walks_once : {w : W} {m : N} {end : End V S} {after : W} → Walks E acts w m (keep E w m) end after → Amid E w [] → Calm E L w [] → Walks E (First E acts) w m (keep E w m) end after × KeptCalm end after
+  walks_once : {w : W} {m : N} {end : WalkEnd V S} {after : W} → Walks E acts w m (keep E w m) end after → Amid E w [] → Calm E L w [] → Walks E (First E acts) w m (keep E w m) end after × KeptCalm end after
   walks_once {w} {m} p a c =
       let to = E.targets w in
-      let r = marks_once to p.closed [] p.leads (subst (λ ms. Fit to p.closed ms) (append-nil p.marks) (walk_fits E.same L.own L.equal to p.walk.1))
-      (subst (λ ms. Path to [] ms) (append-nil p.marks) (walk_path E.same L.own L.equal to p.walk.1))
+      let r = marks_once to p.closed [] p.leads (subst (λ ms. Fit to p.closed ms) (append-nil p.marks) (walk_fits E.same L.names.own L.names.equal to p.walk.1))
+      (subst (λ ms. Path to [] ms) (append-nil p.marks) (walk_path E.same L.names.own L.names.equal to p.walk.1))
       (λ y. p.closed_is y ∙ sym (ap was_entered ((keep_like E acts L steady w m).phases y))) (keep_keeps E acts L steady w m a) (calm_keep w m c) in
       (record { closed = p.closed; closed_is = p.closed_is; marks = p.marks; walk = p.walk; leads = r.0 }, r.1)
 

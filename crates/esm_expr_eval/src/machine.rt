@@ -2,8 +2,8 @@
 ghost use Rattle.std.specs.Prelude.{◌≡◌, ◌+◌, ◌<◌, length, IfOk, None};
 ghost use Rattle.std.specs.Arc.{arc_value};
 ghost use Rattle.esm_tree.specs.Flat.{part};
-ghost use Rattle.esm_expr_eval.specs.Frames.{around, at_focus, AreFrames, IsFocus, frames_work, focus_work, Tells, Keeps};
-ghost use Rattle.esm_expr_eval.specs.Machine.{Moves, Stays, Comes_to, rest_of, IsSound, IsGiven, with_given, StaysSound};
+ghost use Rattle.esm_expr_eval.specs.Frames.{around, at_focus, AreFrames, IsFocus, frames_work, focus_work, EndsTurn, Keeps};
+ghost use Rattle.esm_expr_eval.specs.Machine.{FramesLeadToMove, KeepsFrames, LeadsToMove, rest_of, IsSound, IsGiven, with_given, StaysSound};
 ghost use Rattle.esm_expr_eval.specs.Terms.{term};
 ghost use Rattle.esm_values.specs.Code.{numbered};
 
@@ -11,9 +11,8 @@ use crate::frame::{Focus, Frame, Next, begin, go_on};
 use crate::world::{ExprEnd, World};
 use esm_base::Memory;
 use esm_tree::{ExprId, Tree};
-use esm_values::Value;
+use esm_values::{FuncId, Value};
 use std::alloc::Global;
-use std::mem;
 use std::sync::Arc;
 
 /// What an expression goes on to.
@@ -24,7 +23,7 @@ pub enum Move {
     /// To a throw.
     Thrown(Value),
     /// A call of a function with these values; the next advance is given its value.
-    Call(Value, Vec<Value>),
+    Call(FuncId, Vec<Value>),
 }
 
 /// An expression under way: what remains of it, with values in place of what was evaluated.
@@ -33,7 +32,7 @@ pub struct ExprFrame {
     alloc: Global,
     tree: Arc<Tree>,
     frames: Vec<Frame>,
-    focus: Focus,
+    focus: Option<Focus>,
 }
 
 /// One turn: a part begins, or what is around a value goes on.
@@ -46,7 +45,7 @@ fn turn<W: World>(
 ) -> Result<Next, ExprEnd<W::Stop>>
     requires focus { IsFocus (length tree.now.exprs) focus }
     requires frames { AreFrames (length tree.now.exprs) frames.old.items }
-    ensures tells { Tells W.url_of W.acts tree.now.exprs world.old
+    ensures tells { EndsTurn W.url_of W.acts tree.now.exprs world.old
         (around tree.now.exprs frames.old.items (at_focus tree.now.exprs focus))
         result world.new frames.new.items }
     ensures keeps { Keeps tree.now.exprs (frames_work tree.now.exprs frames.old.items + focus_work
@@ -60,7 +59,6 @@ fn turn<W: World>(
                 None => Ok(Next::Done(value)),
             }
         }
-        Focus::Waits => Err(ExprEnd::Memory),
     }
 }
 
@@ -74,10 +72,10 @@ fn run<W: World>(
 ) -> Result<Move, ExprEnd<W::Stop>>
     requires focus { IsFocus (length tree.now.exprs) focus }
     requires frames { AreFrames (length tree.now.exprs) frames.old.items }
-    ensures moves { Moves W.url_of W.acts tree.now.exprs world.old
+    ensures moves { FramesLeadToMove W.url_of W.acts tree.now.exprs world.old
         (around tree.now.exprs frames.old.items (at_focus tree.now.exprs focus))
         result world.new frames.new.items }
-    ensures stays { Stays tree.now.exprs result frames.new.items }
+    ensures stays { KeepsFrames tree.now.exprs result frames.new.items }
 {
     let mut part = focus;
     loop {
@@ -85,7 +83,7 @@ fn run<W: World>(
             Ok(Next::Focus(next)) => part = next,
             Ok(Next::Done(value)) => return Ok(Move::Value(value)),
             Ok(Next::Thrown(error)) => return Ok(Move::Thrown(error)),
-            Ok(Next::Call(callee, values)) => return Ok(Move::Call(callee, values)),
+            Ok(Next::Call(function, values)) => return Ok(Move::Call(function, values)),
             Err(end) => return Err(end),
         }
     }
@@ -103,7 +101,7 @@ impl ExprFrame {
             alloc,
             tree,
             frames: Vec::new(alloc),
-            focus: Focus::Begin(at),
+            focus: Some(Focus::Begin(at)),
         })
     }
 
@@ -115,7 +113,7 @@ impl ExprFrame {
     ) -> Result<Move, ExprEnd<W::Stop>>
         requires sound { IsSound self.old }
         requires given { IsGiven given self.old.focus }
-        ensures moves { Comes_to W.url_of W.acts world.old (with_given given (rest_of self.old))
+        ensures moves { LeadsToMove W.url_of W.acts world.old (with_given given (rest_of self.old))
             result world.new (rest_of self.new) }
         ensures sound { StaysSound result self.new }
     {
@@ -127,10 +125,10 @@ impl ExprFrame {
                 Focus::Value(value),
                 world,
             ),
-            None => {
-                let focus = mem::replace(&mut self.focus, Focus::Waits);
-                run(self.alloc, &self.tree, &mut self.frames, focus, world)
-            }
+            None => match self.focus.take() {
+                Some(focus) => run(self.alloc, &self.tree, &mut self.frames, focus, world),
+                None => unreachable!(),
+            },
         }
     }
 }

@@ -5,7 +5,7 @@ ghost use Rattle.esm_expr_eval.specs.Machine.{IsSound, IsGiven};
 
 use crate::{ExprEnd, ExprFrame, Move, Out, World};
 use esm_base::{Memory, ModuleId};
-use esm_tree::{ExprId, ExprNode, Link, NodeText, Tree};
+use esm_tree::{ExprId, ExprIds, ExprNode, Link, NodeText, Tree};
 use esm_values::{ErrorId, FaultKind, FuncId, RcText, Value};
 use std::alloc::Global;
 use std::sync::Arc;
@@ -71,7 +71,7 @@ fn sum_tree(alloc: Global) -> Result<Arc<Tree>, Memory>
     let right = tree.add_expr(ExprNode::Truth(true))?;
     let mut others = Vec::new(alloc);
     others.push(right)?;
-    tree.add_expr(ExprNode::Sum(left, others))?;
+    tree.add_expr(ExprNode::Sum(left, ExprIds::of(others)?))?;
     Ok(Arc::new(alloc, tree)?)
 }
 
@@ -87,7 +87,7 @@ fn call_tree(alloc: Global) -> Result<Arc<Tree>, Memory>
     let mut arguments = Vec::new(alloc);
     arguments.push(argument)?;
     let mut links = Vec::new(alloc);
-    links.push(Link::Call(arguments))?;
+    links.push(Link::Call(ExprIds::of(arguments)?))?;
     tree.add_expr(ExprNode::Post(callee, links))?;
     Ok(Arc::new(alloc, tree)?)
 }

@@ -47,7 +47,7 @@ fn printed<'a>(tree: &'a Tree, id: ExprId) -> Option<&'a NodeText>
     ensures { option_copied result ≡ printed_text (part tree.now.exprs id) }
 {
     match tree.expr(id) {
-        ExprNode::Print(ids) => only(tree, ids),
+        ExprNode::Print(ids) => only(tree, ids.as_slice()),
         _ => None,
     }
 }

@@ -12,7 +12,7 @@ ghost use Rattle.esm_parse_expr.specs.Inner.Operators.{joined_with, compared_wit
 use crate::reader::{Reader, Stop, done};
 use crate::tokens::{sees, terminal};
 use esm_lexer::LexemeList;
-use esm_tree::{ExprId, ExprNode, Terminal, Tree};
+use esm_tree::{ExprId, ExprIds, ExprNode, Terminal, Tree};
 use std::alloc::Global;
 
 /// The operand as it is, or several.
@@ -34,7 +34,8 @@ fn sum_of(
     if others.is_empty() {
         Ok((first, behind))
     } else {
-        done(tree, ExprNode::Sum(first, others), behind)
+        let operands = ExprIds::of(others)?;
+        done(tree, ExprNode::Sum(first, operands), behind)
     }
 }
 
@@ -57,7 +58,8 @@ fn both_of(
     if others.is_empty() {
         Ok((first, behind))
     } else {
-        done(tree, ExprNode::And(first, others), behind)
+        let operands = ExprIds::of(others)?;
+        done(tree, ExprNode::And(first, operands), behind)
     }
 }
 
@@ -76,7 +78,8 @@ fn either_of(
     if others.is_empty() {
         Ok((first, behind))
     } else {
-        done(tree, ExprNode::Or(first, others), behind)
+        let operands = ExprIds::of(others)?;
+        done(tree, ExprNode::Or(first, operands), behind)
     }
 }
 
@@ -108,6 +111,7 @@ fn comparison(tokens: &LexemeList, at: usize) -> Option<bool>
     ensures some { IfSome result (λ is_same. Compares is_same (terminal_at tokens.now at)) }
     ensures none { IfNone result (EndsComparison (terminal_at tokens.now at)) }
     ensures there { IsSome result → at < length tokens.now }
+    ensures small { IsSome result → at < 9223372036854775807 }
 {
     if sees(tokens, at, Terminal::Same) {
         Some(true)

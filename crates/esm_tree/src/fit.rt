@@ -1,7 +1,7 @@
 // Nodes whose lists take no more memory than they need. A list that grows makes room for four first, and a node mostly
 // has a list of one. A list that is cut down where it stands leaves a gap behind it that fits little else, so the
-// elements move to a block of their own, and the next list takes the old one. Lists of numbers are left as they are: four
-// of them take the smallest block that there is.
+// elements move to a block of their own, and the next list takes the old one. Lists of numbers of statements are left as they
+// are: four of them take the smallest block that there is.
 ghost use Rattle.std.specs.Prelude.{◌≡◌, ℕ, List, IfOk};
 ghost use Rattle.esm_tree.specs.Syntax.{Expr, Stmt};
 ghost use Rattle.esm_tree.specs.Flat as flat;
@@ -9,8 +9,8 @@ ghost use Rattle.esm_tree.specs.Flat as flat;
 use crate::{ExprNode, ItemNode, StmtNode};
 use esm_base::Memory;
 
-// The same list, without room for more.
-fn fit<T: Drop>(list: Vec<T>) -> Result<Vec<T>, Memory>
+// The same list in a block of its own size.
+fn tight<T: Drop>(list: Vec<T>) -> Result<Vec<T>, Memory>
     ensures { IfOk result (λ v. v.items ≡ list.items) }
 {
     if list.capacity() == list.len() {
@@ -30,7 +30,7 @@ pub(crate) fn fit_expr(node: ExprNode) -> Result<ExprNode, Memory>
     ensures below { IfOk result (λ n. (m : ℕ) → flat.IsBelow m node → flat.IsBelow m n) }
 {
     match node {
-        ExprNode::Post(head, links) => Ok(ExprNode::Post(head, fit(links)?)),
+        ExprNode::Post(head, links) => Ok(ExprNode::Post(head, tight(links)?)),
         other => Ok(other),
     }
 }
@@ -43,8 +43,8 @@ pub(crate) fn fit_stmt(node: StmtNode) -> Result<StmtNode, Memory>
     ensures below { IfOk result (λ n. (m : ℕ) → flat.IsStmtBelow m node → flat.IsStmtBelow m n) }
 {
     match node {
-        StmtNode::Const(bindings) => Ok(StmtNode::Const(fit(bindings)?)),
-        StmtNode::Let(bindings) => Ok(StmtNode::Let(fit(bindings)?)),
+        StmtNode::Const(bindings) => Ok(StmtNode::Const(tight(bindings)?)),
+        StmtNode::Let(bindings) => Ok(StmtNode::Let(tight(bindings)?)),
         other => Ok(other),
     }
 }
@@ -56,17 +56,17 @@ pub(crate) fn fit_item(node: ItemNode) -> Result<ItemNode, Memory>
     ensures need { IfOk result (λ n. flat.item_need n ≡ flat.item_need node) }
 {
     match node {
-        ItemNode::Import(specifier, bindings) => Ok(ItemNode::Import(specifier, fit(bindings)?)),
-        ItemNode::ExportFrom(list, specifier) => Ok(ItemNode::ExportFrom(fit(list)?, specifier)),
-        ItemNode::ExportList(list) => Ok(ItemNode::ExportList(fit(list)?)),
+        ItemNode::Import(specifier, bindings) => Ok(ItemNode::Import(specifier, tight(bindings)?)),
+        ItemNode::ExportFrom(list, specifier) => Ok(ItemNode::ExportFrom(tight(list)?, specifier)),
+        ItemNode::ExportList(list) => Ok(ItemNode::ExportList(tight(list)?)),
         ItemNode::ExportFunction(name, parameters, body) => {
-            Ok(ItemNode::ExportFunction(name, fit(parameters)?, body))
+            Ok(ItemNode::ExportFunction(name, tight(parameters)?, body))
         }
         ItemNode::ExportDefaultFunction(name, parameters, body) => {
-            Ok(ItemNode::ExportDefaultFunction(name, fit(parameters)?, body))
+            Ok(ItemNode::ExportDefaultFunction(name, tight(parameters)?, body))
         }
         ItemNode::Function(name, parameters, body) => {
-            Ok(ItemNode::Function(name, fit(parameters)?, body))
+            Ok(ItemNode::Function(name, tight(parameters)?, body))
         }
         other => Ok(other),
     }

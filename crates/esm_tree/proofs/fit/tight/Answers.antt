@@ -1,7 +1,7 @@
-use Rattle.std.proofs.Common.{◌≡◌, ◌++◌, ◌∷◌, [], ◌∙◌, sym, ap, arith, length}
+use Rattle.std.proofs.Common.{◌≡◌, ◌++◌, ◌∙◌, sym, ap, arith, length}
 use Rattle.std.specs.Vec.Iter.{into_iter_items, into_iter_len}
 use Rattle.esm_tree.proofs.TreeLemmas.{one_over, none_over}
-use Rattle.esm_tree.proofs.fit.fit.Goals as goal
+use Rattle.esm_tree.proofs.fit.tight.Goals as goal
 
 pub loop-element-init : goal.loop-element-init
 loop-element-init g c =
