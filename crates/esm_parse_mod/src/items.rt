@@ -38,6 +38,7 @@ fn inside(turns: usize) -> Room
 fn is_import_form(tokens: &LexemeList, at: usize) -> bool
     ensures value { result ≡ grammar.is_import_form tokens.now at }
     ensures there { result ≡ true → at < length tokens.now }
+    ensures small { result ≡ true → at < 9223372036854775807 }
 {
     sees(tokens, at, Terminal::Import)
         && !(sees(tokens, at + 1, Terminal::Open) || sees(tokens, at + 1, Terminal::Dot))
@@ -250,7 +251,8 @@ pub(crate) fn item_step(
 ) -> Result<(Option<ItemNode>, usize), Stop>
     ensures { ReadsItemStep tree.old tree.new result (read.item_step tokens.now turns at) }
 {
-    if at >= tokens.len() {
+    let count = tokens.len();
+    if at >= count {
         return Ok((None, at));
     }
     let (node, behind) = item(alloc, tokens, tree, turns, at)?;

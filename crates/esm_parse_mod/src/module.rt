@@ -20,8 +20,9 @@ use std::alloc::Global;
 fn items(alloc: Global, tokens: &LexemeList) -> Result<Tree, Stop>
     ensures { ReadsModule result (module_items tokens.now) }
 {
-    let turns = tokens.len() + 2;
-    let mut tree = Tree::with_room(alloc, tokens.len())?;
+    let count = tokens.len();
+    let turns = count + 2;
+    let mut tree = Tree::with_room(alloc, count)?;
     let mut next = 0;
     'turns: for _turn in 0..turns {
         let (one, behind) = item_step(alloc, tokens, &mut tree, turns, next)?;

@@ -18,6 +18,7 @@ use std::alloc::Global;
 pub(crate) fn is_export_name(tokens: &LexemeList, at: usize) -> bool
     ensures value { result ≡ grammar.is_export_name (terminal_at tokens.now at) }
     ensures there { result ≡ true → at < length tokens.now }
+    ensures small { result ≡ true → at < 9223372036854775807 }
 {
     if sees(tokens, at, Terminal::Literal) {
         return true;
