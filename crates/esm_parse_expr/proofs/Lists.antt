@@ -1,7 +1,5 @@
 -- Lists of parts that a loop gathers.
 use Rattle.std.proofs.Common.{◌≡◌, ◌≢◌, ℕ, zero, suc, ◌+◌, ◌-◌, ◌<◌, ◌≤◌, true, false, List, [], ◌∷◌, ◌++◌, length, Some, None, refl, sym, ap, ◌∙◌, arith}
-use Rattle.std.specs.Prelude.{Vec}
-use Rattle.std.specs.declared.alloc.Global.{Global}
 use Rattle.esm_grammar.specs.Grammar.{linked, joined}
 use Rattle.esm_tree.specs.Syntax.{Expr, Post, Exprs, none, more, Links, ends, member, call, Parts}
 use Rattle.esm_tree.specs.Flat.{part, parts, links, AllBelow, AllLinksBelow}

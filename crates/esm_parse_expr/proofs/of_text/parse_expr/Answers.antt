@@ -1,4 +1,4 @@
-use Rattle.std.proofs.Common.{◌≡◌, ◌<◌, ℕ, Bool, true, List, Result, Ok, Err, refl, sym, subst, ◌∙◌, arith, length}
+use Rattle.std.proofs.Common.{◌≡◌, ◌<◌, ℕ, Bool, true, List, Result, Ok, Err, refl, sym, subst, arith, length}
 use Rattle.std.specs.Result.{IfOk}
 use Rattle.esm_tree.specs.Lexeme.{Lexeme}
 use Rattle.esm_tree.specs.Flat.{part}
