@@ -17,7 +17,7 @@ use Rattle.esm_ports.specs.Asks.{asks_with}
 use Rattle.esm_import_map.specs.ImportMap.{Maps, no_maps}
 use Rattle.esm_import_map.specs.Reading.{import_map_of, json_of, of_json}
 use Rattle.esm_run.specs.Inner.MapReading.{FetchesMap}
-use Rattle.esm_run.specs.Taken.{Contents}
+use Rattle.esm_fetch.specs.Answered.{Contents}
 use Rattle.esm_run.specs.declared.command_map.MapRefusal.{MapRefusal}
 use Rattle.esm_run.specs.declared.command_map.MapRefusal.TheVariants.{NotFetched, NotRead}
 use Rattle.esm_run.specs.CommandMap.{DeskChange, WasAsked, AreHeld, map_said, said_by, ReadsMap, NoFile, NoAnswer, Read, MapBy, HoldsMap, KnownBy}
