@@ -1,9 +1,8 @@
 -- Workers that have ended stay as they were when others end.
-use Rattle.std.proofs.Common.{◌≡◌, ◌≢◌, ◌⊎◌, inl, inr, ℕ, zero, suc, ◌+◌, ◌<◌, ◌≤◌, cond, bytes_eq, List, [], ◌∷◌, ◌++◌, map, sym, refl, ap, ◌∙◌, subst, Option, arith, Some, length, get_or, slice_index_or, ◌==◌, eq-eqb, Bool, true, false}
+use Rattle.std.proofs.Common.{◌≡◌, ◌≢◌, ◌⊎◌, inl, inr, ℕ, zero, suc, ◌+◌, ◌<◌, ◌≤◌, cond, bytes_eq, List, [], ◌∷◌, ◌++◌, map, sym, refl, ap, ◌∙◌, subst, Option, arith, length, get_or, slice_index_or, ◌==◌, eq-eqb, Bool, true, false}
 use Rattle.std.specs.Prelude.{All, AllPairs, flat_map}
 use Rattle.std.proofs.lemmas.List.{map-append}
 use Rattle.std.proofs.lemmas.Slice.Eq.{bytes_eq-Decides}
-use Rattle.std.proofs.lemmas.List.Elements.{All-nil, All-cons, All-append}
 use Rattle.esm_hlock.specs.Makers.{times}
 use Rattle.esm_hlock.specs.declared.view.View.{View}
 use Rattle.esm_ports.specs.declared.asked.Asked.{Asked}
@@ -13,12 +12,12 @@ use Rattle.esm_module_map.specs.Counts.{count, total, AreTakenOnce}
 use Rattle.esm_base.specs.Urls.{Url}
 use Rattle.esm_ports.specs.declared.asked.AskKind.{AskKind}
 use Rattle.esm_ports.specs.Asks.{asks_with}
-use Rattle.esm_module_map.specs.Saying.{SaysSame, Stays}
+use Rattle.esm_module_map.specs.Saying.{Stays}
 use Rattle.esm_fetch.specs.declared.posted.Posted.{Posted}
 use Rattle.esm_fetch.specs.declared.pool.Done.{Done}
 use Rattle.esm_fetch.specs.declared.pool.Job.{Job}
 use Rattle.esm_fetch.specs.Answered.{Contents}
-use Rattle.esm_fetch.specs.Serving.{weight, url_in, ask_for, Serves, Served, IsServed, IsCut}
+use Rattle.esm_fetch.specs.Serving.{weight, url_in, ask_for, IsTrueAnswer, Served, ServedIf}
 use Rattle.esm_fetch.specs.Pool.{IsDone, number_in, source_in, source_of}
 use Rattle.esm_fetch.proofs.ServingLemmas.{serves_same}
 
@@ -45,22 +44,30 @@ module _ {G : Type 0} where
   served_still : (holds : Option Contents) (asked : List Asked) (h seen : List (MapEvent Posted G)) (ns : List ℕ) (c : ℕ) → StaysFor ns seen h → 0 < times c ns → Served holds asked c seen → Served holds asked c h
   served_still holds asked h seen ns c q listed (inl s) = inl (serves_same holds asked c seen h (q c listed).1 s)
   served_still holds asked h seen ns c q listed (inr s) = let w = (q c listed).1 in inr (record {
-    answered = subst (All (Rattle.esm_fetch.specs.Serving.IsTrueAnswer holds)) (sym w.1) s.answered;
+    answered = subst (All (IsTrueAnswer holds)) (sym w.1) s.answered;
     url = s.url;
-    asked_is = subst (λ l. (asked ≡ map Rattle.esm_fetch.specs.Serving.ask_for l) ⊎ ((kind : Rattle.esm_ports.specs.declared.asked.AskKind.AskKind) × (asked ≡ Rattle.esm_ports.specs.Asks.asks_with (map Rattle.esm_fetch.specs.Serving.ask_for l) s.url kind))) (sym w.1) s.asked_is;
-    takes_is = w.0 ∙ s.takes_is ∙ ap (λ l. map Rattle.esm_fetch.specs.Serving.url_in l ++ s.url ∷ []) (sym w.1);
+    asked_is = subst (λ l. (asked ≡ map ask_for l) ⊎ ((kind : AskKind) × (asked ≡ asks_with (map ask_for l) s.url kind))) (sym w.1) s.asked_is;
+    takes_is = w.0 ∙ s.takes_is ∙ ap (λ l. map url_in l ++ s.url ∷ []) (sym w.1);
   })
+
+  still_if : (short : Bool) (holds : Option Contents) (asked : List Asked) (h seen : List (MapEvent Posted G)) (ns : List ℕ) (c : ℕ) → StaysFor ns seen h → 0 < times c ns → ServedIf short holds asked c seen → ServedIf short holds asked c h
+  still_if false holds asked h seen ns c q listed s = serves_same holds asked c seen h (q c listed).1 s
+  still_if true holds asked h seen ns c q listed s = served_still holds asked h seen ns c q listed s
+
+  served_any : (short : Bool) (holds : Option Contents) (asked : List Asked) (c : ℕ) (h : List (MapEvent Posted G)) → ServedIf short holds asked c h → Served holds asked c h
+  served_any false holds asked c h s = inl s
+  served_any true holds asked c h s = s
 
   module _ {S : Type 0} (holds_of : S → Option Contents) (asked_of : S → List Asked) where
     done_still : (v w : View (MapEvent Posted G)) (ms : List ℕ) (d : Done S) → w.numbers ≡ v.numbers ++ ms → StaysFor v.numbers v.seen w.seen → IsDone holds_of asked_of v d → IsDone holds_of asked_of w d
-    done_still v w ms d more q (listed, s) = (subst (λ l. 0 < times d.number l) (sym more) (listed_left d.number v.numbers ms listed), served_still (holds_of d.source) (asked_of d.source) w.seen v.seen v.numbers d.number q listed s)
+    done_still v w ms d more q (listed, s) = (subst (λ l. 0 < times d.number l) (sym more) (listed_left d.number v.numbers ms listed), still_if d.short (holds_of d.source) (asked_of d.source) w.seen v.seen v.numbers d.number q listed s)
 
     pub all_still : (v w : View (MapEvent Posted G)) (ms : List ℕ) (ds : List (Done S)) → w.numbers ≡ v.numbers ++ ms → StaysFor v.numbers v.seen w.seen → All (IsDone holds_of asked_of v) ds → All (IsDone holds_of asked_of w) ds
     all_still v w ms ds more q all k d less = done_still v w ms (get_or ds k d) more q (all k d less)
 
-    pub one_done : (v w : View (MapEvent Posted G)) (ms ns : List ℕ) (c : ℕ) (s : S) → w.numbers ≡ ms ++ ns → ns ≡ c ∷ [] → StaysFor v.numbers v.seen w.seen → v.numbers ≡ c ∷ [] → Served (holds_of s) (asked_of s) c v.seen → IsDone holds_of asked_of w (record { number = c; source = s })
-    one_done v w ms ns c s more is q own served = let listed : 0 < times c v.numbers = subst (λ l. 0 < times c l) (sym own) (listed_self c []) in
-        (subst (λ l. 0 < times c l) (sym more) (times_right c ms ns (subst (λ l. 0 < times c l) (sym is) (listed_self c []))), served_still (holds_of s) (asked_of s) w.seen v.seen v.numbers c q listed served)
+    pub one_done : (v w : View (MapEvent Posted G)) (ms ns : List ℕ) (c : ℕ) (s : S) (short : Bool) → w.numbers ≡ ms ++ ns → ns ≡ c ∷ [] → StaysFor v.numbers v.seen w.seen → v.numbers ≡ c ∷ [] → ServedIf short (holds_of s) (asked_of s) c v.seen → IsDone holds_of asked_of w (record { number = c; source = s; short = short })
+    one_done v w ms ns c s short more is q own served = let listed : 0 < times c v.numbers = subst (λ l. 0 < times c l) (sym own) (listed_self c []) in
+        (subst (λ l. 0 < times c l) (sym more) (times_right c ms ns (subst (λ l. 0 < times c l) (sym is) (listed_self c []))), still_if short (holds_of s) (asked_of s) w.seen v.seen v.numbers c q listed served)
 
 -- ---- no URL is asked for twice
 
@@ -98,7 +105,7 @@ module _ {G : Type 0} where
     all_few : (v : View (MapEvent Posted G)) (u : Url) (ds : List (Done S)) → All (IsDone holds_of asked_of v) ds → count u (map url_of (flat_map asked_of (map source_in ds))) ≤ total (λ c. count u (takes_by weight c v.seen)) (map number_in ds)
     all_few v u [] all = omega arith
     all_few v u (d ∷ ds) all =
-        let first = asked_few (holds_of d.source) (asked_of d.source) d.number v.seen u (all 0 d (omega arith)).1 in
+        let first = asked_few (holds_of d.source) (asked_of d.source) d.number v.seen u (served_any d.short (holds_of d.source) (asked_of d.source) d.number v.seen (all 0 d (omega arith)).1) in
         let rest = all_few v u ds (λ k e less. all (suc k) e (omega arith)) in
         let m : count u (map url_of (asked_of d.source ++ flat_map asked_of (map source_in ds))) ≡ count u (map url_of (asked_of d.source) ++ map url_of (flat_map asked_of (map source_in ds))) = ap (count u) (map-append url_of (asked_of d.source) (flat_map asked_of (map source_in ds))) in
         let a = count_append u (map url_of (asked_of d.source)) (map url_of (flat_map asked_of (map source_in ds))) in omega (arith, first, rest, m, a)

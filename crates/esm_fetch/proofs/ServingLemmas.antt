@@ -1,36 +1,32 @@
 -- What a turn of a worker leads to.
-use Rattle.std.proofs.Common.{◌≡◌, ◌⊎◌, inl, inr, ℕ, Bool, true, false, cond, List, [], ◌∷◌, ◌++◌, map, sym, refl, ap, ◌∙◌, subst, append_assoc, append-nil, Option, Some, None, slice_get, Result, Ok, Err}
-use Rattle.std.specs.Prelude.{All, IfOk}
+use Rattle.std.proofs.Common.{◌≡◌, ◌⊎◌, inl, inr, ℕ, List, [], ◌∷◌, ◌++◌, map, sym, ap, ◌∙◌, subst, append_assoc, append-nil, Option, Some, Result, Ok, Err}
+use Rattle.std.specs.Prelude.{All}
 use Rattle.std.proofs.lemmas.List.Elements.{All-nil, All-cons, All-append}
 use Rattle.std.proofs.lemmas.List.{map-append}
-use Rattle.std.specs.Arc.{arc_value}
-use Rattle.std.specs.declared.sync.Arc.{Arc}
-use Rattle.std.specs.declared.alloc.Global.{Global}
 use Rattle.esm_base.specs.declared.memory.Memory.{Memory}
 use Rattle.esm_ports.specs.declared.asked.Asked.{Asked}
 use Rattle.esm_ports.specs.declared.asked.AskKind.{AskKind}
 use Rattle.esm_ports.specs.declared.asked.AskKind.TheVariants.{Body}
 use Rattle.esm_ports.specs.Asks.{asks_with}
-
 use Rattle.esm_base.specs.Urls.{Url}
 use Rattle.esm_module_map.specs.declared.event.MapEvent.{MapEvent}
-use Rattle.esm_module_map.specs.declared.event.MapEvent.TheVariants.{Take, Post, Shut}
 use Rattle.esm_module_map.specs.declared.reply.Taken.{Taken}
-use Rattle.esm_module_map.specs.declared.reply.Taken.TheVariants as taken
-use Rattle.esm_module_map.specs.declared.reply.Order.{Order}
 use Rattle.esm_module_map.specs.Histories.{Answer, asks_by, takes_by, answers_by}
-use Rattle.esm_module_map.specs.Saying.{Begins, SaysSame, Stays, IsOrderIn, TookOne, TakeSays}
+use Rattle.esm_module_map.specs.Replies.{Called, TakeReply}
+use Rattle.esm_module_map.specs.Saying.{Begins, SaysSame, IsOrderIn, TookOne, TakeSays}
 use Rattle.esm_fetch.specs.declared.posted.Posted.{Posted}
 use Rattle.esm_fetch.specs.Answered.{Contents, kind_of}
-use Rattle.esm_fetch.specs.Serving.{weight, outcome_in, url_in, ask_for, IsTrueAnswer, IsServed, IsCut, Serves, Served, ServedBy}
+use Rattle.esm_fetch.specs.declared.working.Turned.{Turned}
+use Rattle.esm_fetch.specs.declared.working.Turned.TheVariants as turned
+use Rattle.esm_fetch.specs.Serving.{weight, outcome_in, url_in, ask_for, IsTrueAnswer, IsServed, IsCut, Serves, Served, ServedBy, ShutBy, TurnSays}
+use Rattle.esm_fetch.specs.Inner.Asking.{IsAsking, FilledWith, FilledBy}
 
 module _ {G : Type 0} where
+  pub begins_here : (a : List (MapEvent Posted G)) → Begins a a
+  begins_here a = ([], sym (append-nil a))
+
   pub begins_on : (a b c : List (MapEvent Posted G)) → Begins a b → Begins b c → Begins a c
   begins_on a b c p q = (p.0 ++ q.0, q.1 ∙ ap (λ l. l ++ q.0) p.1 ∙ append_assoc a p.0 q.0)
-
--- a source that was asked for one URL more, which its caller has taken
-abbrev pub IsAsking : Option Contents → List Asked → List Url → List (Answer Posted) → Url → Type 0
-IsAsking holds asked takes answers url = (takes ≡ map url_in answers ++ url ∷ []) × (asked ≡ map ask_for answers) × All (IsTrueAnswer holds) answers
 
 pub served_on : (holds : Option Contents) (asked after : List Asked) (takes takes' : List Url) (answers answers' : List (Answer Posted)) (a : Answer Posted)
     → IsAsking holds asked takes answers a.url → takes' ≡ takes → answers' ≡ answers ++ a ∷ [] → after ≡ asks_with asked a.url (kind_of (outcome_in a)) → IsTrueAnswer holds a → IsServed holds after takes' answers'
@@ -102,5 +98,22 @@ module _ {G : Type 0} where
   served_end (Ok t) holds held asked c d now same number s = inl (subst (λ h. Serves h asked c now) same (subst (λ m. Serves held asked m now) number s))
   served_end (Err m) holds held asked c d now same number s = subst (λ h. Served h asked c now) same (subst (λ m. Served held asked m now) number s)
 
-  pub asks_so_far : (c d : ℕ) (a b e : List (MapEvent Posted G)) → d ≡ c → asks_by weight c b ≡ asks_by weight c a → asks_by weight d e ≡ asks_by weight d b → asks_by weight c e ≡ asks_by weight c a
-  asks_so_far c d a b e same first more = asks_on c d a b e same first more
+  -- the same, of a turn that went well
+  pub served_back : (holds held : Option Contents) (asked : List Asked) (c d : ℕ) (now : List (MapEvent Posted G)) → held ≡ holds → d ≡ c → Serves held asked d now → Serves holds asked c now
+  served_back holds held asked c d now same number s = subst (λ h. Serves h asked c now) same (subst (λ m. Serves held asked m now) number s)
+
+  -- what the take was answered, where its result is written in another way
+  pub called_as : (c : ℕ) (seen now : List (MapEvent Posted G)) (r s : Result Taken Memory) → r ≡ s → Called weight seen (Some c) (λ found. TakeReply weight found c r now) → Called weight seen (Some c) (λ found. TakeReply weight found c s now)
+  called_as c seen now r s same call = subst (λ (x : Result Taken Memory). Called weight seen (Some c) (λ found. TakeReply weight found c x now)) same call
+
+  -- a turn that took something
+  pub turn_filled : (c d m : ℕ) (url : Url) (seen mid now : List (MapEvent Posted G)) (r : Result Turned Memory) → d ≡ c → TookOne weight c m url seen mid → FilledBy d url mid r now → ShutBy r now → TurnSays c seen r now
+  turn_filled c d m url seen mid now (Ok (turned.Posted n)) same t f s = let h = subst (λ k. FilledWith k n url mid now) same f in record {
+    answer = h.answer;
+    number_is = h.number_is;
+    takes = h.takes ∙ t.takes ∙ ap (λ u. takes_by weight c seen ++ u ∷ []) (sym h.url_is);
+    answers = h.answers ∙ ap (λ l. l ++ h.answer ∷ []) t.answers;
+  }
+  turn_filled c d m url seen mid now (Ok turned.NotYet) same t f s = absurd f
+  turn_filled c d m url seen mid now (Ok turned.Closed) same t f s = absurd f
+  turn_filled c d m url seen mid now (Err want) same t f s = s

@@ -1,5 +1,5 @@
 -- A source that is to be asked for what its caller has taken, and what comes of that.
-use Rattle.std.specs.Prelude.{◌≡◌, ℕ, List, [], ◌∷◌, ◌++◌, map, All, Option, Result, Ok, Err, ⊤, ⊥}
+use Rattle.std.specs.Prelude.{◌≡◌, ℕ, List, [], ◌∷◌, ◌++◌, map, All, Option, Result, Ok, Err, ⊤}
 use Rattle.esm_base.specs.declared.memory.Memory.{Memory}
 use Rattle.esm_base.specs.Urls.{Url}
 use Rattle.esm_ports.specs.declared.asked.Asked.{Asked}
