@@ -1,5 +1,5 @@
 -- The import map of a command: what the desk is asked, and what comes of it.
-use Rattle.std.specs.Prelude.{◌≡◌, ◌≢◌, ◌⊎◌, ℕ, List, ◌∷◌, [], ◌++◌, codes, take, Option, Some, None, IfSome, IsSomeAnd, Result, Ok, Err}
+use Rattle.std.specs.Prelude.{◌≡◌, ℕ, List, ◌++◌, codes, take, Option, Some, None, IfSome, IsSomeAnd, Result, Ok, Err}
 use Rattle.url.specs.Parts.{Parts}
 use Rattle.esm_base.specs.Urls.{Text, Url}
 use Rattle.esm_base.specs.declared.limits.TheConstants.{MAX_BODY_BYTES}
