@@ -18,7 +18,7 @@ use Rattle.esm_fetch.specs.declared.pool.Done.{Done}
 use Rattle.esm_fetch.specs.declared.pool.Job.{Job}
 use Rattle.esm_fetch.specs.Answered.{Contents}
 use Rattle.esm_fetch.specs.Serving.{weight, url_in, ask_for, IsTrueAnswer, Served, ServedIf}
-use Rattle.esm_fetch.specs.Pool.{IsDone, number_in, source_in, source_of}
+use Rattle.esm_fetch.specs.Pool.{IsDone, caller_in, source_in, source_of}
 use Rattle.esm_fetch.proofs.ServingLemmas.{serves_same}
 
 listed_self : (n : ℕ) (ns : List ℕ) → 0 < times n (n ∷ ns)
@@ -102,7 +102,7 @@ module _ {G : Type 0} where
           let b : count u (takes_by weight c h) ≡ count u (map url_in (answers_by weight c h) ++ s.url ∷ []) = ap (count u) s.takes_is in omega (arith, a, b)
 
   module _ {S : Type 0} (holds_of : S → Option Contents) (asked_of : S → List Asked) where
-    all_few : (v : View (MapEvent Posted G)) (u : Url) (ds : List (Done S)) → All (IsDone holds_of asked_of v) ds → count u (map url_of (flat_map asked_of (map source_in ds))) ≤ total (λ c. count u (takes_by weight c v.seen)) (map number_in ds)
+    all_few : (v : View (MapEvent Posted G)) (u : Url) (ds : List (Done S)) → All (IsDone holds_of asked_of v) ds → count u (map url_of (flat_map asked_of (map source_in ds))) ≤ total (λ c. count u (takes_by weight c v.seen)) (map caller_in ds)
     all_few v u [] all = omega arith
     all_few v u (d ∷ ds) all =
         let first = asked_few (holds_of d.source) (asked_of d.source) d.number v.seen u (served_any d.short (holds_of d.source) (asked_of d.source) d.number v.seen (all 0 d (omega arith)).1) in
@@ -124,12 +124,12 @@ pairs_differ (a ∷ asked) few (suc i) (suc j) d less within = pairs_differ aske
 
 module _ {G S : Type 0} (holds_of : S → Option Contents) (asked_of : S → List Asked) where
   -- where all that callers took differs, so does all that their sources were asked for
-  pub asked_once : (v : View (MapEvent Posted G)) (ms : List ℕ) (ds : List (Done S)) → v.numbers ≡ ms ++ map number_in ds → All (IsDone holds_of asked_of v) ds → AreTakenOnce weight v.seen v.numbers → AllPairs (λ a b. a.url ≢ b.url) (flat_map asked_of (map source_in ds))
+  pub asked_once : (v : View (MapEvent Posted G)) (ms : List ℕ) (ds : List (Done S)) → v.numbers ≡ ms ++ map caller_in ds → All (IsDone holds_of asked_of v) ds → AreTakenOnce weight v.seen v.numbers → AllPairs (λ a b. a.url ≢ b.url) (flat_map asked_of (map source_in ds))
   asked_once v ms ds is all once = pairs_differ (flat_map asked_of (map source_in ds)) few
     where
       few : (u : Url) → count u (map url_of (flat_map asked_of (map source_in ds))) ≤ 1
       few u = let f = λ (c : ℕ). count u (takes_by weight c v.seen) in let a = all_few holds_of asked_of v u ds all in let o = once u in
-          let e : total f v.numbers ≡ total f (ms ++ map number_in ds) = ap (total f) is in let t = total_append f ms (map number_in ds) in omega (arith, a, o, e, t)
+          let e : total f v.numbers ≡ total f (ms ++ map caller_in ds) = ap (total f) is in let t = total_append f ms (map caller_in ds) in omega (arith, a, o, e, t)
 
 module _ {S : Type 0} where
   -- what the sources hold, with one more at the end

@@ -1,6 +1,6 @@
 -- What a turn of a worker leads to.
 use Rattle.std.proofs.Common.{◌≡◌, ◌⊎◌, inl, inr, ℕ, List, [], ◌∷◌, ◌++◌, map, sym, ap, ◌∙◌, subst, append_assoc, append-nil, Option, Some, Result, Ok, Err}
-use Rattle.std.specs.Prelude.{All}
+use Rattle.std.specs.Prelude.{All, OnOk}
 use Rattle.std.proofs.lemmas.List.Elements.{All-nil, All-cons, All-append}
 use Rattle.std.proofs.lemmas.List.{map-append}
 use Rattle.esm_base.specs.declared.memory.Memory.{Memory}
@@ -11,7 +11,7 @@ use Rattle.esm_ports.specs.Asks.{asks_with}
 use Rattle.esm_base.specs.Urls.{Url}
 use Rattle.esm_module_map.specs.declared.event.MapEvent.{MapEvent}
 use Rattle.esm_module_map.specs.declared.reply.Taken.{Taken}
-use Rattle.esm_module_map.specs.Histories.{Answer, asks_by, takes_by, answers_by}
+use Rattle.esm_module_map.specs.Histories.{Answer, asks_by, takes_by, answers_by, shuts_by}
 use Rattle.esm_module_map.specs.Replies.{Called, TakeReply}
 use Rattle.esm_module_map.specs.Saying.{Begins, SaysSame, IsOrderIn, TookOne, TakeSays}
 use Rattle.esm_fetch.specs.declared.posted.Posted.{Posted}
@@ -75,7 +75,7 @@ module _ {G : Type 0} where
   served_as r holds asked c d now same s = subst (λ m. ServedBy r holds asked m now) same s
 
   pub serves_same : (holds : Option Contents) (asked : List Asked) (c : ℕ) (seen now : List (MapEvent Posted G)) → SaysSame weight c seen now → Serves holds asked c seen → Serves holds asked c now
-  serves_same holds asked c seen now (t, a, k) s = served_same holds asked _ _ _ _ t a s
+  serves_same holds asked c seen now same s = served_same holds asked _ _ _ _ same.0 same.1 s
 
   -- a take that found no memory, and the Shut behind it
   pub gave_up : (holds : Option Contents) (asked : List Asked) (c d : ℕ) (seen mid now : List (MapEvent Posted G)) → d ≡ c → SaysSame weight c seen mid → takes_by weight d now ≡ takes_by weight d mid → answers_by weight d now ≡ answers_by weight d mid → Serves holds asked c seen → Serves holds asked c now
@@ -117,3 +117,11 @@ module _ {G : Type 0} where
   turn_filled c d m url seen mid now (Ok turned.NotYet) same t f s = absurd f
   turn_filled c d m url seen mid now (Ok turned.Closed) same t f s = absurd f
   turn_filled c d m url seen mid now (Err want) same t f s = s
+
+  -- a turn that went well shuts nothing
+  pub shuts_on : {T : Type 0} (r : Result T Memory) (c d : ℕ) (a b e : List (MapEvent Posted G)) → d ≡ c → shuts_by weight c b ≡ shuts_by weight c a → OnOk r (shuts_by weight d e ≡ shuts_by weight d b) → OnOk r (shuts_by weight c e ≡ shuts_by weight c a)
+  shuts_on (Ok t) c d a b e same first more = subst (λ m. shuts_by weight m e ≡ shuts_by weight m b) same more ∙ first
+  shuts_on (Err want) c d a b e same first more = tt
+
+  pub shuts_next : (c d : ℕ) (a b e : List (MapEvent Posted G)) → d ≡ c → shuts_by weight c b ≡ shuts_by weight c a → shuts_by weight d e ≡ shuts_by weight d b → shuts_by weight c e ≡ shuts_by weight c a
+  shuts_next c d a b e same first more = subst (λ m. shuts_by weight m e ≡ shuts_by weight m b) same more ∙ first

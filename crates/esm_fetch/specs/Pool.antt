@@ -13,8 +13,8 @@ use Rattle.esm_fetch.specs.Answered.{Contents}
 use Rattle.esm_fetch.specs.Serving.{Serves, ServedIf}
 
 module _ {S : Type 0} where
-  abbrev pub number_in : Done S → ℕ
-  number_in d = d.number
+  abbrev pub caller_in : Done S → ℕ
+  caller_in d = d.number
 
   abbrev pub source_in : Done S → S
   source_in d = d.source

@@ -7,7 +7,7 @@ ghost use Rattle.esm_module_map.specs.Views.{view_in, table_of, Same};
 ghost use Rattle.esm_module_map.specs.Replay.{maker_of};
 ghost use Rattle.esm_module_map.specs.Counts.{AreTakenOnce};
 ghost use Rattle.esm_fetch.specs.Serving.{weight, Serves, ServedIf};
-ghost use Rattle.esm_fetch.specs.Pool.{IsReady, IsDone, number_in, source_in, source_of};
+ghost use Rattle.esm_fetch.specs.Pool.{IsReady, IsDone, caller_in, source_in, source_of};
 
 use crate::bell::Bell;
 use crate::posted::Posted;
@@ -76,7 +76,7 @@ fn gather<S: Source>(
         → AreTakenOnce weight (view_in result.caller.pass).seen
         (view_in result.caller.pass).numbers }
     ensures makers { HasAllMakers maker_of (view_in result.caller.pass) }
-    ensures list { map number_in result.done.items ≡ map number_in pool.done.items ++ number ∷ [] }
+    ensures list { map caller_in result.done.items ≡ map caller_in pool.done.items ++ number ∷ [] }
     ensures kept { map S.holds (map source_in result.done.items)
         ≡ map S.holds (map source_in pool.done.items) ++ S.holds end.source ∷ [] }
     ensures room { vec_capacity result.done ≡ vec_capacity pool.done }
@@ -115,7 +115,7 @@ pub fn work_all<R: Threads + Wait + Sync, S: Source + Send>(
     ensures number { result.caller.number ≡ caller.number }
     ensures done { All (IsDone S.holds S.asked (view_in result.caller.pass)) result.done.items }
     ensures numbers { (view_in result.caller.pass).numbers
-        ≡ (view_in caller.pass).numbers ++ map number_in result.done.items }
+        ≡ (view_in caller.pass).numbers ++ map caller_in result.done.items }
     ensures shares { (view_in result.caller.pass).shares
         ≡ (view_in caller.pass).shares + vec_len jobs }
     ensures once { (view_in result.caller.pass).shares ≡ 1024 → AllPairs (λ a b. a.url ≢ b.url)
@@ -155,7 +155,7 @@ pub fn work_all<R: Threads + Wait + Sync, S: Source + Send>(
                     ensures { (table_of modules.entry.now.lock.table.shared.table_id result.caller.pass
                         ≡ modules.entry.now.lock.table.shared.table_id)
                         × All (IsDone S.holds S.asked (view_in result.caller.pass)) result.done.items
-                        × ((view_in result.caller.pass).numbers ≡ (view_in caller.pass).numbers ++ map number_in result.done.items)
+                        × ((view_in result.caller.pass).numbers ≡ (view_in caller.pass).numbers ++ map caller_in result.done.items)
                         × ((view_in result.caller.pass).shares ≡ (view_in caller.pass).shares + vec_len jobs)
                         × (map S.holds (map source_in result.done.items) ≡ map S.holds (map source_of jobs.items))
                         × (vec_capacity result.done ≡ vec_capacity done)

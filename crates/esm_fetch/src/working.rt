@@ -1,12 +1,12 @@
 // A worker: it takes, fetches from its own source, reads, and posts, until the map is shut.
-ghost use Rattle.std.specs.Prelude.{◌≡◌, ◌⊎◌, ℕ, IfOk, OnErr};
+ghost use Rattle.std.specs.Prelude.{◌≡◌, ◌⊎◌, ℕ, false, IfOk, OnOk, OnErr};
 ghost use Rattle.std.specs.Arc.{arc_value};
 ghost use Rattle.esm_ports.specs.declared.asked.AskKind.{AskKind};
 ghost use Rattle.esm_ports.specs.Asks.{asks_with};
 ghost use Rattle.esm_ast.specs.Outcome.{outcome_view};
 ghost use Rattle.esm_module_map.specs.Views.{view_in, table_of, Same};
-ghost use Rattle.esm_module_map.specs.Histories.{asks_by, takes_by, answers_by};
-ghost use Rattle.esm_module_map.specs.Saying.{Begins, SaysSame, IsOrderIn, IsShut};
+ghost use Rattle.esm_module_map.specs.Histories.{asks_by, takes_by, answers_by, shuts_by};
+ghost use Rattle.esm_module_map.specs.Saying.{Begins, ShutSays, IsOrderIn, IsShut};
 ghost use Rattle.esm_fetch.specs.Answered.{kind_of};
 ghost use Rattle.esm_fetch.specs.Serving.{weight, IsTrueAnswer, Serves, ServedBy, ServedIf, ShutBy, TurnSays};
 ghost use Rattle.esm_fetch.specs.Inner.Asking.{IsAsking, FilledBy};
@@ -56,7 +56,7 @@ fn give_up<R: Wait>(
     ensures same { Same (view_in caller.old.pass) (view_in caller.new.pass)
         × (caller.new.number ≡ caller.old.number) }
     ensures begins { Begins (view_in caller.old.pass).seen (view_in caller.new.pass).seen }
-    ensures says { SaysSame weight caller.old.number (view_in caller.old.pass).seen
+    ensures says { ShutSays weight caller.old.number (view_in caller.old.pass).seen
         (view_in caller.new.pass).seen }
     ensures shut { IsShut weight (view_in caller.new.pass).seen }
 {
@@ -118,6 +118,8 @@ fn fill<R: Wait, S: Source>(
     ensures served { ServedBy result (S.holds source.old) (S.asked source.new) caller.old.number
         (view_in caller.new.pass).seen }
     ensures shut { ShutBy result (view_in caller.new.pass).seen }
+    ensures shuts { OnOk result (shuts_by weight caller.old.number (view_in caller.new.pass).seen
+        ≡ shuts_by weight caller.old.number (view_in caller.old.pass).seen) }
     ensures filled { FilledBy caller.old.number order.url (view_in caller.old.pass).seen result
         (view_in caller.new.pass).seen }
 {
@@ -158,10 +160,12 @@ pub fn fetch_one<R: Wait, S: Source>(
     ensures served { ServedBy result (S.holds source.old) (S.asked source.new) caller.old.number
         (view_in caller.new.pass).seen }
     ensures shut { ShutBy result (view_in caller.new.pass).seen }
+    ensures shuts { OnOk result (shuts_by weight caller.old.number (view_in caller.new.pass).seen
+        ≡ shuts_by weight caller.old.number (view_in caller.old.pass).seen) }
     ensures says { TurnSays caller.old.number (view_in caller.old.pass).seen result
         (view_in caller.new.pass).seen }
 {
-    match modules.take(rt, caller) {
+    match modules.take(rt, alloc, caller) {
         Ok(Taken::Order(order)) => fill(rt, alloc, modules, bell, caller, source, order),
         Ok(Taken::NotYet) => Ok(Turned::NotYet),
         Ok(Taken::Closed) => Ok(Turned::Closed),
@@ -171,7 +175,7 @@ pub fn fetch_one<R: Wait, S: Source>(
 
 /// Takes, fetches, reads and posts, one URL after the other, until the map is shut or memory runs out, and waits on the
 /// bell where there is nothing to take. It comes back only with a shut map, and `short` says that memory ran out; where
-/// it isn't set, all that was taken is posted.
+/// it isn't set, all that was taken is posted, and it wasn't this call that shut the map.
 pub fn worker<R: Wait, S: Source>(
     rt: &R,
     alloc: Global,
@@ -195,6 +199,9 @@ pub fn worker<R: Wait, S: Source>(
     ensures served { ServedIf result.short (S.holds source) (S.asked result.source) caller.number
         (view_in result.caller.pass).seen }
     ensures shut { IsShut weight (view_in result.caller.pass).seen }
+    ensures shuts { result.short ≡ false
+        → shuts_by weight caller.number (view_in result.caller.pass).seen
+        ≡ shuts_by weight caller.number (view_in caller.pass).seen }
 {
     let mut caller = caller;
     let mut source = source;
