@@ -1,5 +1,5 @@
 -- What a call changes of what the history has of its caller, from what it found.
-use Rattle.std.proofs.Common.{◌≡◌, ℕ, ◌<◌, Bool, true, false, cond, List, [], ◌∷◌, ◌++◌, refl, ap, ◌∙◌, subst, append_assoc, append-nil, Option, Some, slice_get, Result, Ok, Err}
+use Rattle.std.proofs.Common.{◌≡◌, ℕ, ◌<◌, Bool, true, false, cond, List, [], ◌∷◌, ◌++◌, refl, ap, ◌∙◌, subst, arith, append_assoc, append-nil, Option, Some, slice_get, Result, Ok, Err}
 use Rattle.std.specs.Arc.{arc_value}
 use Rattle.std.specs.declared.sync.Arc.{Arc}
 use Rattle.std.specs.declared.alloc.Global.{Global}
@@ -9,7 +9,7 @@ use Rattle.esm_hlock.specs.Makers.{times, names}
 use Rattle.esm_base.specs.Urls.{Url}
 use Rattle.esm_module_map.specs.declared.event.Why.{Why}
 use Rattle.esm_module_map.specs.declared.event.MapEvent.{MapEvent}
-use Rattle.esm_module_map.specs.declared.event.MapEvent.TheVariants.{Ask, Take, Post, Shut}
+use Rattle.esm_module_map.specs.declared.event.MapEvent.TheVariants.{Enrol, Ask, Take, Post, Shut}
 use Rattle.esm_module_map.specs.declared.reply.Asked.{Asked}
 use Rattle.esm_module_map.specs.declared.reply.MapEnd.{MapEnd}
 use Rattle.esm_module_map.specs.declared.reply.MapEnd.TheVariants as end
@@ -17,10 +17,11 @@ use Rattle.esm_module_map.specs.declared.reply.Taken.{Taken}
 use Rattle.esm_module_map.specs.declared.reply.Taken.TheVariants as taken
 use Rattle.esm_module_map.specs.Replay.{Replay, opening, replay, is_legal, maker_of, number_for}
 use Rattle.esm_module_map.specs.Replies.{ContinuesFor, number_in, Called, AskReply, TakeReply, ShutReply}
-use Rattle.esm_module_map.specs.Histories.{asks_in, takes_in, answers_in, shuts_in, asks_by, takes_by, answers_by, shuts_by}
-use Rattle.esm_module_map.specs.Saying.{Begins, Stays, ShutSays, IsShut, IsOrderIn, PostedOne, AskedOne, TakeSays, AskSays}
+use Rattle.esm_module_map.specs.Histories.{along, asks_in, takes_in, answers_in, shuts_in, asks_by, takes_by, answers_by, shuts_by}
+use Rattle.esm_module_map.specs.Saying.{IsNew, Begins, Stays, ShutSays, IsShut, IsOrderIn, PostedOne, AskedOne, TakeSays, AskSays}
 use Rattle.esm_module_map.proofs.Replays.{eq_true, replay_more}
-use Rattle.esm_module_map.proofs.Told.{after_take, after_post, after_nothing, after_shut, order_taken, url_more, along_more, asks_of_one, takes_of_one, answers_of_one, shuts_of_one}
+use Rattle.esm_module_map.proofs.Calls.{unnamed}
+use Rattle.esm_module_map.proofs.Told.{IsOf, along_split, along_others, after_take, after_post, after_nothing, after_shut, order_taken, url_more, along_more, asks_of_one, takes_of_one, answers_of_one, shuts_of_one}
 use Rattle.esm_module_map.proofs.AskedNumbers.{ask_numbers}
 
 module _ {P G : Type 0} (weight : P → ℕ) where
@@ -91,3 +92,15 @@ module _ {P G : Type 0} (weight : P → ℕ) where
   -- who is listed does nothing behind what was seen
   pub listed_says : (ns : List ℕ) (seen h : List (MapEvent P G)) → all.Continues maker_of h seen ns → (c : ℕ) → 0 < times c ns → Stays weight c seen h
   listed_says ns seen h q c listed = stays c seen h h (q.0, q.1, λ k e. let is : c ≡ k = cc in subst (λ (x : ℕ). names maker_of x q.0 ≡ 0) is (q.2 c listed)) refl
+
+  -- who has just enrolled has said nothing
+  pub new_says : (c : ℕ) (found now : List (MapEvent P G)) → is_legal weight found ≡ true → c ≡ (replay weight found).callers → now ≡ found ++ Enrol c ∷ [] → IsNew weight c now
+  new_says c found now legal is more = let none = unnamed weight opening found c legal (omega (arith, is)) in (
+    part (takes_in c) none (takes_of_one weight c) (λ s. refl),
+    part (answers_in c) none (answers_of_one weight c) (λ s. refl),
+    part (asks_in c) none (asks_of_one weight c) (λ s. refl),
+    part (shuts_in c) none (shuts_of_one weight c) (λ s. refl),
+  )
+    where
+      part : {A : Type 0} (says : Replay → MapEvent P G → List A) → names maker_of c found ≡ 0 → IsOf weight c says → ((s : Replay) → says s (Enrol c) ≡ []) → along weight says opening now ≡ []
+      part says none of said = ap (along weight says opening) more ∙ along_split weight says opening found (Enrol c ∷ []) ∙ ap (λ l. l ++ (says (replay weight found) (Enrol c) ++ [])) (along_others weight c says of opening found none) ∙ ap (λ l. l ++ []) (said (replay weight found))
