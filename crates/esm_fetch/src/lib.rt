@@ -12,3 +12,6 @@ pub use fetch::fetch_outcome;
 pub use pool::{Done, Job, Pool, work_all};
 pub use posted::Posted;
 pub use working::{Turned, WorkerEnd, fetch_one, worker};
+
+#[cfg(test)]
+mod tests;

@@ -18,7 +18,7 @@ use Rattle.esm_module_map.specs.declared.reply.Taken.TheVariants as taken
 use Rattle.esm_module_map.specs.Replay.{Replay, opening, replay, is_legal, maker_of, number_for}
 use Rattle.esm_module_map.specs.Replies.{ContinuesFor, number_in, Called, AskReply, TakeReply, ShutReply}
 use Rattle.esm_module_map.specs.Histories.{along, asks_in, takes_in, answers_in, shuts_in, asks_by, takes_by, answers_by, shuts_by}
-use Rattle.esm_module_map.specs.Saying.{IsNew, Begins, Stays, ShutSays, IsShut, IsOrderIn, PostedOne, AskedOne, TakeSays, AskSays}
+use Rattle.esm_module_map.specs.Saying.{SaysNothing, Begins, Stays, ShutSays, IsShut, IsOrderIn, PostedOne, AskedOne, TakeSays, AskSays}
 use Rattle.esm_module_map.proofs.Replays.{eq_true, replay_more}
 use Rattle.esm_module_map.proofs.Calls.{unnamed}
 use Rattle.esm_module_map.proofs.Told.{IsOf, along_split, along_others, after_take, after_post, after_nothing, after_shut, order_taken, url_more, along_more, asks_of_one, takes_of_one, answers_of_one, shuts_of_one}
@@ -94,7 +94,7 @@ module _ {P G : Type 0} (weight : P → ℕ) where
   listed_says ns seen h q c listed = stays c seen h h (q.0, q.1, λ k e. let is : c ≡ k = cc in subst (λ (x : ℕ). names maker_of x q.0 ≡ 0) is (q.2 c listed)) refl
 
   -- who has just enrolled has said nothing
-  pub new_says : (c : ℕ) (found now : List (MapEvent P G)) → is_legal weight found ≡ true → c ≡ (replay weight found).callers → now ≡ found ++ Enrol c ∷ [] → IsNew weight c now
+  pub new_says : (c : ℕ) (found now : List (MapEvent P G)) → is_legal weight found ≡ true → c ≡ (replay weight found).callers → now ≡ found ++ Enrol c ∷ [] → SaysNothing weight c now
   new_says c found now legal is more = let none = unnamed weight opening found c legal (omega (arith, is)) in (
     part (takes_in c) none (takes_of_one weight c) (λ s. refl),
     part (answers_in c) none (answers_of_one weight c) (λ s. refl),

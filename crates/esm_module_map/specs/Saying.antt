@@ -28,8 +28,8 @@ module _ {P G : Type 0} where
     Stays c seen now = Begins seen now × SaysSame c seen now
 
     -- the history has nothing of the caller: it has just enrolled
-    abbrev pub IsNew : ℕ → List (MapEvent P G) → Type 0
-    IsNew c h = (takes_by weight c h ≡ []) × (answers_by weight c h ≡ []) × (asks_by weight c h ≡ []) × (shuts_by weight c h ≡ [])
+    abbrev pub SaysNothing : ℕ → List (MapEvent P G) → Type 0
+    SaysNothing c h = (takes_by weight c h ≡ []) × (answers_by weight c h ≡ []) × (asks_by weight c h ≡ []) × (shuts_by weight c h ≡ [])
 
     -- as Stays, but that the caller may have shut the map
     abbrev pub ShutSays : ℕ → List (MapEvent P G) → List (MapEvent P G) → Type 0

@@ -11,7 +11,7 @@ ghost use Rattle.esm_module_map.specs.Leading.{is_led, leads_to};
 ghost use Rattle.esm_module_map.specs.Replies.{AskReply, TakeReply, ShutReply, Called, Found};
 ghost use Rattle.esm_module_map.specs.Histories.{IsPostIn};
 ghost use Rattle.esm_module_map.specs.Counts.{AreTakenOnce};
-ghost use Rattle.esm_module_map.specs.Saying.{IsNew, Stays, ShutSays, IsShut, IsOrderIn, PostedOne, TakeSays, AskSays};
+ghost use Rattle.esm_module_map.specs.Saying.{SaysNothing, Stays, ShutSays, IsShut, IsOrderIn, PostedOne, TakeSays, AskSays};
 ghost use Rattle.esm_module_map.specs.Views.{is_there, view_in, table_of, Same};
 
 use crate::event::{MapEvent, Payload, Why};
@@ -88,7 +88,7 @@ impl<P: Payload> ModuleMap<P> {
         ensures seen { IfOk result (λ c. Called P.weight (knows pass).seen None
             (λ found. (c.number ≡ (replay P.weight found).callers)
             × ((view_in c.pass).seen ≡ found ++ MapEvent.Enrol c.number ∷ []))) }
-        ensures fresh { IfOk result (λ c. IsNew P.weight c.number (view_in c.pass).seen) }
+        ensures fresh { IfOk result (λ c. SaysNothing P.weight c.number (view_in c.pass).seen) }
         ensures shares { MatchResult result (λ c. (view_in c.pass).shares ≡ (knows pass).shares)
             (λ p. (knows p).shares ≡ (knows pass).shares) }
         ensures numbers { MatchResult result (λ c. (view_in c.pass).numbers
