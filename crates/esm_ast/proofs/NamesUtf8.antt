@@ -14,7 +14,8 @@ use Rattle.esm_tree.specs.Syntax.{Init, Bindings, Stmt, Item}
 use Rattle.esm_tree.specs.Lexeme.{Lexeme}
 use Rattle.esm_grammar.specs.Lexeme.{text_at, no_lexeme}
 use Rattle.esm_grammar.specs.Lexes.{IsToken, a_word, a_literal, a_sign, Lexes, all_read, stuck, blank, token, hashbang_len}
-use Rattle.esm_grammar.specs.Names.{Text, names_of, declared_names}
+use Rattle.esm_grammar.specs.Names.{names_of, declared_names}
+use Rattle.esm_base.specs.Urls.{Text}
 use Rattle.esm_grammar.specs.EarlyErrors.{statement_exported, exported_of, exported_names, name_list, declared_of, module_names}
 use Rattle.esm_grammar.specs.ModuleText.{Spells}
 use Rattle.esm_grammar.specs.Statements.{BindingAt, with_value, without, MoreBindings, no_binding, a_binding, BindingsAt, some_bindings, StmtAt, a_block, an_empty, a_const, a_let, an_if, an_if_else, a_try, a_catch, a_throw, a_return, a_return_value, an_await_statement, an_assign, a_print_await, an_expression}

@@ -7,7 +7,7 @@ use Rattle.std.proofs.lemmas.Slice.Eq.{bytes_eq-Decides}
 use Rattle.esm_tree.specs.declared.node.Wanted.{Wanted}
 use Rattle.esm_tree.specs.declared.node.Wanted.TheVariants.{Named, Whole}
 use Rattle.esm_tree.specs.Syntax.{Stmt, Default, Item, ImportEffect, ImportFrom, ExportAll, ExportAllAs, ExportFrom, ExportList, ExportStatement, ExportFunction, ExportDefaultFunction, Function, Statement}
-use Rattle.esm_grammar.specs.Names.{Text}
+use Rattle.esm_base.specs.Urls.{Text}
 use Rattle.esm_ast.specs.declared.entries.ImportEntry.{ImportEntry}
 use Rattle.esm_ast.specs.declared.entries.IndirectExport.{IndirectExport}
 use Rattle.esm_ast.specs.Entries.{NamesRequests, request_of, with_text, add_request, requests_after, requests_of, place_of, import_entry, imports_of, all_imports, import_named, Export, Local, Indirect, own_export, passed_on, listed_by, listed_by_wanted, listed, statement_exports, exports_of, all_exports, indirects_of, stars_of, entries_with, entries_of}

@@ -13,7 +13,7 @@ use Rattle.esm_grammar.specs.Lexes.Lexes.{all_read, stuck, blank, token}
 use Rattle.esm_grammar.specs.Items.{ItemsAt}
 use Rattle.esm_grammar.specs.Items.ItemsAt.{no_item, an_item}
 use Rattle.esm_grammar.specs.ModuleText.{Spells}
-use Rattle.esm_grammar.specs.Names.{Text}
+use Rattle.esm_base.specs.Urls.{Text}
 use Rattle.esm_grammar.proofs.CompleteItems.{item_within}
 use Rattle.esm_ast.proofs.Shorter.{token_shorter}
 use Rattle.esm_ast.specs.Entries.{with_text, add_request, request_of, requests_after, entries_with, entries_of}

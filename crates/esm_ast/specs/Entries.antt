@@ -7,7 +7,8 @@ use Rattle.esm_tree.specs.declared.node.Wanted.TheVariants.{Named, Whole}
 use Rattle.esm_tree.specs.declared.node.ImportBinding.{ImportBinding}
 use Rattle.esm_tree.specs.declared.node.ExportSpecifier.{ExportSpecifier}
 use Rattle.esm_tree.specs.Syntax.{Init, awaited, Bindings, no_more, binding, Stmt, Assign, Block, If, IfElse, Try, TryCatch, Await, PrintAwait, Const, Let, Default, Stmts, nothing, first, Item, ImportEffect, ImportFrom, ExportAll, ExportAllAs, ExportFrom, ExportList, ExportStatement, ExportFunction, ExportDefaultFunction, Statement}
-use Rattle.esm_grammar.specs.Names.{Text, declared_names}
+use Rattle.esm_grammar.specs.Names.{declared_names}
+use Rattle.esm_base.specs.Urls.{Text}
 use Rattle.esm_ast.specs.declared.entries.ImportEntry.{ImportEntry}
 use Rattle.esm_ast.specs.declared.entries.LocalExport.{LocalExport}
 use Rattle.esm_ast.specs.declared.entries.IndirectExport.{IndirectExport}

@@ -3,7 +3,7 @@ use Rattle.std.proofs.Common.{ℕ, List, [], ◌∷◌, refl}
 use Rattle.std.specs.Prelude.{codes}
 use Rattle.esm_tree.specs.Syntax as syntax
 use Rattle.esm_values.specs.Value.{Value, Undefined, Text}
-use Rattle.esm_values.specs.Plans.Comes.{Goes, Leaves}
+use Rattle.esm_values.specs.Plans.Rewritten.{Goes, Leaves}
 use Rattle.esm_values.specs.Plans.Follows.{ends, asks}
 use Rattle.esm_expr_eval.specs.Terms.{Term}
 use Rattle.esm_expr_eval.specs.Terms.Term.{Val, Print}
@@ -13,8 +13,8 @@ use Rattle.esm_expr_eval.specs.Rewriting.{Rewrites as rewrites}
 use Rattle.esm_body.specs.Rest.{Rest, end, more}
 use Rattle.esm_body.specs.Rest.Use.{Drops, Throws, Awaits}
 use Rattle.esm_body.specs.Rest.Part.{Whole, Does}
-use Rattle.esm_body.specs.Moves.{On, Waits}
-use Rattle.esm_body.specs.Moves.{RewritesBody as moves}
+use Rattle.esm_body.specs.BodyRewriting.{On, Waits}
+use Rattle.esm_body.specs.BodyRewriting.{RewritesBody as moves}
 use Rattle.esm_body.specs.Segment.{Normal}
 use Rattle.esm_body.specs.Segment.{Segment as segment}
 use Rattle.esm_body.specs.Bodies.{RunsBody as runs}

@@ -5,15 +5,15 @@ use Rattle.esm_base.specs.declared.limits.Limit.{Limit}
 use Rattle.esm_base.specs.declared.limits.TheConstants.{MAX_STEPS}
 use Rattle.esm_tree.specs.Syntax.{Stmt as Statement}
 use Rattle.esm_values.specs.Value.{Value}
-use Rattle.esm_values.specs.Plans.Comes.{Goes}
+use Rattle.esm_values.specs.Plans.Rewritten.{Goes}
 use Rattle.esm_values.specs.Plans.Follows.{ends, asks}
 use Rattle.esm_env.specs.Modules.{Modules}
 use Rattle.esm_body.specs.Rest.{Rest, more}
 use Rattle.esm_body.specs.Rest.Part.{Whole}
 use Rattle.esm_body.specs.State.{steps_by}
 use Rattle.esm_body.specs.Acts.{Inner, over_scopes}
-use Rattle.esm_body.specs.Moves.{On, RewritesBody}
-use Rattle.esm_body.specs.Moves.RewritesBody.{begins_at, tries}
+use Rattle.esm_body.specs.BodyRewriting.{On, RewritesBody}
+use Rattle.esm_body.specs.BodyRewriting.RewritesBody.{begins_at, tries}
 use Rattle.esm_body.specs.Laws.{Importer, imports_by, itself, StatementsTakeSteps, StopsAreNotCaught, UnsetThrows}
 
 apart : {limit : Limit} → ◌≡◌ {A = Result (Unit {0}) Limit} (Ok tt) (Err limit) → ⊥

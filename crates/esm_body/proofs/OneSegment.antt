@@ -9,8 +9,8 @@ use Rattle.esm_env.specs.Modules.{Modules}
 use Rattle.esm_body.specs.Rest.{Rest, fill_rest}
 use Rattle.esm_body.specs.State.{State, Importing}
 use Rattle.esm_body.specs.Acts.{Inner}
-use Rattle.esm_body.specs.Moves.{Move}
-use Rattle.esm_body.specs.Segment.{Active, Ended, Next, Goes, Over, Segment, MovesAt, next_by}
+use Rattle.esm_body.specs.BodyRewriting.{RewrittenBody}
+use Rattle.esm_body.specs.Segment.{Active, Ended, Next, Goes, Over, Segment, RewritesOutermost, next_by}
 use Rattle.esm_body.specs.Segment.Segment.{ends, returns, goes, over}
 use Rattle.esm_body.specs.Bodies.{StartsBody, RunsBody, ResumesBody, Taken, whole_body, segment_end, body_end, url_in, without_standing, given_by}
 use Rattle.esm_body.proofs.OneAct.{BeginsOne}
@@ -20,11 +20,11 @@ module _ {N I : Type 0} (same : N → N → Bool) (modules : I → Modules N) (b
   abbrev Segment' : State N I → N → Rest (Value N) → List (Active N) → Ended N → State N I → Type 0
   Segment' = Segment same modules begins
 
-  at_one : {m : N} {w x y : State N I} {r : Rest (Value N)} {a b : Move (Value N) Limit} → MovesAt same modules begins m w r a x → MovesAt same modules begins m w r b y → (b ≡ a) × (y ≡ x)
+  at_one : {m : N} {w x y : State N I} {r : Rest (Value N)} {a b : RewrittenBody (Value N) Limit} → RewritesOutermost same modules begins m w r a x → RewritesOutermost same modules begins m w r b y → (b ≡ a) × (y ≡ x)
   at_one {m} p q = let k = moves_one same modules begins one m p q in (k.0, ap (λ (i : Inner N I). i.state) k.1)
 
   -- what follows is told by the rewriting
-  follows_alike : (m : N) (callers : List (Active N)) {a b : Move (Value N) Limit} {x y : State N I} {s t : Next N I} → (b ≡ a) × (y ≡ x) → next_by same modules begins m callers a x ≡ Some s → next_by same modules begins m callers b y ≡ Some t → t ≡ s
+  follows_alike : (m : N) (callers : List (Active N)) {a b : RewrittenBody (Value N) Limit} {x y : State N I} {s t : Next N I} → (b ≡ a) × (y ≡ x) → next_by same modules begins m callers a x ≡ Some s → next_by same modules begins m callers b y ≡ Some t → t ≡ s
   follows_alike m callers {a} {b} {x} {y} k p q = let e : next_by same modules begins m callers b y ≡ next_by same modules begins m callers a x = (λ i. next_by same modules begins m callers (k.0 i) (k.1 i)) in cc
 
   abbrev GoesOn : Next N I → Ended N → State N I → Type 0

@@ -9,14 +9,14 @@ use Rattle.esm_promise.specs.Outer.{Outer}
 use Rattle.esm_env.specs.Modules.{Modules}
 use Rattle.esm_tree.specs.Syntax.{Stmts}
 use Rattle.esm_tree.specs.Syntax.{Stmt as Statement}
-use Rattle.esm_values.specs.Plans.Comes.{Goes, Stops}
+use Rattle.esm_values.specs.Plans.Rewritten.{Goes, Stops}
 use Rattle.esm_values.specs.declared.errors.FaultKind.TheVariants as kinds
 use Rattle.esm_env.specs.Cells.{Reading as reading}
 use Rattle.esm_body.specs.Rest.{Rest, more}
 use Rattle.esm_body.specs.Rest.Part.{Whole, Tries}
 use Rattle.esm_body.specs.State.{State, Importing}
 use Rattle.esm_body.specs.Acts.{Inner, read_answer, throws_new, not_initialized}
-use Rattle.esm_body.specs.Moves.{Move, On, RewritesBody}
+use Rattle.esm_body.specs.BodyRewriting.{RewrittenBody, On, RewritesBody}
 use Rattle.esm_body.specs.Segment.{Active, Ended, Segment}
 use Rattle.esm_body.specs.Bodies.{StartsBody, RunsBody, ResumesBody}
 
@@ -38,7 +38,7 @@ itself g = g
 
 -- a rewriting, a segment, and each call for a body have one outcome
 pub record HaveOneOutcome : Type 0 where
-  pub rewriting : (f : Importer) (m : ℕ) (w one other : Inner ℕ (Modules ℕ)) (r : Rest (Value ℕ)) (a b : Move (Value ℕ) Limit)
+  pub rewriting : (f : Importer) (m : ℕ) (w one other : Inner ℕ (Modules ℕ)) (r : Rest (Value ℕ)) (a b : RewrittenBody (Value ℕ) Limit)
       → RewritesBody nat_eq itself (imports_by f) m w r a one → RewritesBody nat_eq itself (imports_by f) m w r b other
       → (b ≡ a) × (other ≡ one)
   pub segment : (f : Importer) (m : ℕ) (w one other : Here) (r : Rest (Value ℕ)) (callers : List (Active ℕ)) (a b : Ended ℕ)

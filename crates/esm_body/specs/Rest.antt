@@ -2,7 +2,7 @@
 -- remaining part. ECMA-262, Runtime Semantics: Evaluation of statements.
 use Rattle.std.specs.Prelude.{ℕ, Bool, true, false, List, Option, Some, None}
 use Rattle.esm_tree.specs.Syntax.{Init, absent, plain, awaited, Bindings, no_more, binding, Stmts, nothing, first}
-use Rattle.esm_values.specs.Display.{default_local}
+use Rattle.esm_base.specs.DefaultExport.{star_default}
 use Rattle.esm_tree.specs.Syntax.{Stmt as Statement}
 use Rattle.esm_tree.specs.Syntax.{Stmt as stmts}
 use Rattle.esm_values.specs.Operators.{Values}

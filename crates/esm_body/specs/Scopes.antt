@@ -5,20 +5,20 @@ use Rattle.esm_tree.specs.Syntax.{Stmts}
 use Rattle.esm_env.specs.Declarations.{Declaration, declared_in, FunctionCode}
 use Rattle.esm_env.specs.Cells.{Cell}
 
-pub record Slot (V : Type 0) : Type 0 where
+pub record NamedCell (V : Type 0) : Type 0 where
   pub name : List ℕ
   pub cell : Cell V
 
 abbrev pub Scope : Type 0 → Type 0
-Scope V = List (Slot V)
+Scope V = List (NamedCell V)
 
 module _ {V : Type 0} where
-  abbrev pub slot : List ℕ → Bool → Option V → Slot V
-  slot x constant value = record { name = x; cell = record { constant = constant; value = value } }
+  abbrev pub named_cell : List ℕ → Bool → Option V → NamedCell V
+  named_cell x constant value = record { name = x; cell = record { constant = constant; value = value } }
 
   -- an unset name
-  abbrev pub unset : Declaration → Slot V
-  unset d = slot d.name d.constant None
+  abbrev pub unset : Declaration → NamedCell V
+  unset d = named_cell d.name d.constant None
 
   -- the scope of these statements
   abbrev pub scope_of : Stmts → Scope V
@@ -27,8 +27,8 @@ module _ {V : Type 0} where
   -- ECMA-262, FunctionDeclarationInstantiation: a missing argument is undefined, further arguments are dropped
   abbrev pub parameters : V → List (List ℕ) → List V → Scope V
   parameters undefined [] vs = []
-  parameters undefined (x ∷ xs) [] = slot x false (Some undefined) ∷ parameters undefined xs []
-  parameters undefined (x ∷ xs) (v ∷ vs) = slot x false (Some v) ∷ parameters undefined xs vs
+  parameters undefined (x ∷ xs) [] = named_cell x false (Some undefined) ∷ parameters undefined xs []
+  parameters undefined (x ∷ xs) (v ∷ vs) = named_cell x false (Some v) ∷ parameters undefined xs vs
 
   -- the scope of a call
   abbrev pub call_scope : V → FunctionCode → List V → Scope V
@@ -36,7 +36,7 @@ module _ {V : Type 0} where
 
   abbrev pub caught_name : Option (List ℕ) → V → Scope V
   caught_name None v = []
-  caught_name (Some x) v = slot x false (Some v) ∷ []
+  caught_name (Some x) v = named_cell x false (Some v) ∷ []
 
   -- ECMA-262, CatchClauseEvaluation: the scope of a handler
   abbrev pub handler_scope : Option (List ℕ) → V → Stmts → Scope V
@@ -59,8 +59,8 @@ module _ {V : Type 0} where
   in_scopes [] x = None
   in_scopes (s ∷ ss) x = or_cell (in_scope s x) (in_scopes ss x)
 
-  abbrev pub set_by : Bool → Slot V → V → Scope V → Scope V → Scope V
-  set_by true s v rest later = slot s.name s.cell.constant (Some v) ∷ rest
+  abbrev pub set_by : Bool → NamedCell V → V → Scope V → Scope V → Scope V
+  set_by true s v rest later = named_cell s.name s.cell.constant (Some v) ∷ rest
   set_by false s v rest later = s ∷ later
 
   abbrev pub set_in : Scope V → List ℕ → V → Scope V

@@ -5,7 +5,7 @@ use Rattle.esm_base.specs.declared.limits.Limit.{Limit}
 use Rattle.esm_env.specs.Declarations.{FunctionCode}
 use Rattle.esm_values.specs.Value.{Value, Undefined, Func}
 use Rattle.esm_values.specs.Errors.{fault}
-use Rattle.esm_values.specs.Plans.{Comes as comes}
+use Rattle.esm_values.specs.Plans.{Rewritten as comes}
 use Rattle.esm_values.specs.declared.errors.FaultKind.TheVariants as kinds
 use Rattle.esm_expr_eval.specs.Terms.{Term}
 use Rattle.esm_expr_eval.specs.Terms.Term.{Val, Fails}
@@ -16,7 +16,7 @@ use Rattle.esm_body.specs.Rest.Part.{In}
 use Rattle.esm_body.specs.State.{State, Importing, new_error, with_error}
 use Rattle.esm_base.specs.declared.limits.TheConstants.{MAX_CALL_DEPTH}
 use Rattle.esm_body.specs.Acts.{modules_of}
-use Rattle.esm_body.specs.Moves.{Move, On, Gives, Waits, RewritesBody}
+use Rattle.esm_body.specs.BodyRewriting.{RewrittenBody, On, Gives, Waits, RewritesBody}
 
 -- a function or a body under way: the module in which it stands written, and what remains of it
 pub record Active (N : Type 0) : Type 0 where
@@ -49,8 +49,8 @@ called g v vs = None
 
 module _ {N I : Type 0} (same : N → N → Bool) (modules : I → Modules N) (begins : Importing N I) where
   -- a rewriting of what stands in no block
-  abbrev pub MovesAt : N → State N I → Rest (Value N) → Move (Value N) Limit → State N I → Type 0
-  MovesAt m w rest move after = RewritesBody same modules begins m (record { scopes = []; state = w }) rest move (record {
+  abbrev pub RewritesOutermost : N → State N I → Rest (Value N) → RewrittenBody (Value N) Limit → State N I → Type 0
+  RewritesOutermost m w rest move after = RewritesBody same modules begins m (record { scopes = []; state = w }) rest move (record {
     scopes =
         [];
     state = after;
@@ -79,7 +79,7 @@ module _ {N I : Type 0} (same : N → N → Bool) (modules : I → Modules N) (b
 
   -- what follows a rewriting, where these are the callers of what runs. ECMA-262, EvaluateCall and Return; own: at most
   -- MAX_CALL_DEPTH functions are active. There is no return from a body, and no await in a function
-  abbrev pub next_by : N → List (Active N) → Move (Value N) Limit → State N I → Option (Next N I)
+  abbrev pub next_by : N → List (Active N) → RewrittenBody (Value N) Limit → State N I → Option (Next N I)
   next_by m callers (On (comes.Goes s)) w = Some (Goes m s callers w)
   next_by m callers (On (comes.Leaves v)) w = throw_to v callers w
   next_by m callers (On (comes.Calls f vs s)) w = call_by (nat_lt (length callers) MAX_CALL_DEPTH) m s callers w
@@ -96,7 +96,7 @@ module _ {N I : Type 0} (same : N → N → Bool) (modules : I → Modules N) (b
     returns : {w after : State N I} {m : N} {c : Active N} {cs : List (Active N)} {how : Ended N}
         → Segment w c.at (fill_rest (Val Undefined) c.rest) cs how after → Segment w m end (c ∷ cs) how after
     goes : {w mid late after : State N I} {m n : N} {r s : Rest (Value N)} {callers others : List (Active N)} {how : Ended N}
-        (move : Move (Value N) Limit) → MovesAt m w r move mid → next_by m callers move mid ≡ Some (Goes n s others late)
+        (move : RewrittenBody (Value N) Limit) → RewritesOutermost m w r move mid → next_by m callers move mid ≡ Some (Goes n s others late)
         → Segment late n s others how after → Segment w m r callers how after
-    over : {w mid after : State N I} {m : N} {r : Rest (Value N)} {callers : List (Active N)} {how : Ended N} (move : Move (Value N) Limit)
-        → MovesAt m w r move mid → next_by m callers move mid ≡ Some (Over how after) → Segment w m r callers how after
+    over : {w mid after : State N I} {m : N} {r : Rest (Value N)} {callers : List (Active N)} {how : Ended N} (move : RewrittenBody (Value N) Limit)
+        → RewritesOutermost m w r move mid → next_by m callers move mid ≡ Some (Over how after) → Segment w m r callers how after

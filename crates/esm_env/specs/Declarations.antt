@@ -4,7 +4,7 @@ use Rattle.std.specs.Prelude.{ℕ, suc, Bool, true, false, List, [], ◌∷◌, 
 use Rattle.std.specs.List.{flat_map}
 use Rattle.std.specs.Str.{bytes_eq}
 use Rattle.esm_tree.specs.Syntax as x
-use Rattle.esm_values.specs.Display.{default_local}
+use Rattle.esm_base.specs.DefaultExport.{star_default}
 use Rattle.esm_tree.specs.Syntax.{Bindings, no_more, binding, Stmt, Stmts, nothing, first, Item}
 
 -- ECMA-262, FunctionDeclaration. A function without a name, which `export default` may have, is named `*default*`

@@ -27,10 +27,10 @@ target_in (Some (targets.Cell m x)) = Some (names.CellOf m.0 x)
 target_in (Some (targets.Whole m)) = Some (names.WholeOf m.0)
 
 -- what an import is bound to has a scope. A module whose linking was refused may have one in which this isn't so
-abbrev pub IsReached : Scopes → Option Target → Type 0
-IsReached e None = Unit {0}
-IsReached e (Some (targets.Cell m x)) = (s : ModuleScope) × (scope_in e m.0 ≡ Some s)
-IsReached e (Some (targets.Whole m)) = (s : ModuleScope) × (scope_in e m.0 ≡ Some s)
+abbrev pub HasScope : Scopes → Option Target → Type 0
+HasScope e None = Unit {0}
+HasScope e (Some (targets.Cell m x)) = (s : ModuleScope) × (scope_in e m.0 ≡ Some s)
+HasScope e (Some (targets.Whole m)) = (s : ModuleScope) × (scope_in e m.0 ≡ Some s)
 
 pub record IsFaithfulAt (g : Modules ℕ) (m : ℕ) (s : ModuleScope) : Type 0 where
   pub slots : (x : List ℕ) → SlotFits m (slot_in s.slots.items x) (initial (g.tree m) x)

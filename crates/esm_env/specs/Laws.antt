@@ -12,7 +12,7 @@ use Rattle.esm_env.specs.Reading.{IsReadingOf, IsMemberOf}
 use Rattle.esm_env.specs.Slots.{slot_in}
 use Rattle.esm_env.specs.Scopes.{Scopes, scope_in, import_of, cells_of, read_in}
 use Rattle.esm_env.specs.Makes.{slots_for}
-use Rattle.esm_env.specs.Faithful.{IsFaithful, IsReached, SlotFits}
+use Rattle.esm_env.specs.Faithful.{IsFaithful, HasScope, SlotFits}
 use Rattle.esm_env.specs.declared.scope.ModuleScope.{ModuleScope}
 
 -- an import is bound to one thing at most, and a name, and a member of a namespace, reads as one thing
@@ -27,7 +27,7 @@ pub record ReadsOne : Type 0 where
 -- what the code reads is what the name reads as, where an import of this name is bound to what has a scope
 abbrev pub ReadsRight : Type 0
 ReadsRight = (g : Modules ℕ) (e : Scopes) (m : ℕ) (s : ModuleScope) (x : List ℕ)
-    → IsFaithful g e → scope_in e m ≡ Some s → IsReached e (import_of (scope_in e m) x)
+    → IsFaithful g e → scope_in e m ≡ Some s → HasScope e (import_of (scope_in e m) x)
     → IsReadingOf g (cells_of e) m x (read_in e m x)
 
 -- a scope that was made from the tree fits it

@@ -6,7 +6,7 @@ pub mod Reading
 pub mod Writing
 pub mod Slots
 pub mod Scopes
-pub mod Told
+pub mod Calls
 pub mod Makes
 pub mod Faithful
 pub mod Laws

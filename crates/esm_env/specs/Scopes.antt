@@ -2,7 +2,7 @@
 use Rattle.std.specs.Prelude.{◌≡◌, ℕ, zero, suc, Bool, true, false, List, [], ◌∷◌, Option, Some, None, is_some}
 use Rattle.std.specs.Borrow.{Bor}
 use Rattle.std.specs.Str.{bytes_eq}
-use Rattle.esm_values.specs.Code.{Worth, value_of}
+use Rattle.esm_values.specs.Code.{CodeValue, value_of}
 use Rattle.esm_values.specs.declared.value.Value.{Value}
 use Rattle.esm_env.specs.Cells.{Cell, Cells, Reading, read_cell}
 use Rattle.esm_env.specs.Cells.{Reading as reading}
@@ -31,7 +31,7 @@ IsImport is x (Some r) = import_in is x ≡ Some r.now
 abbrev pub written_scope : ModuleScope → ℕ → Value → List Slot
 written_scope s at v = write_slot s.slots.items at v
 
-abbrev pub wrote_set : Bool → Option Worth → Wrote
+abbrev pub wrote_set : Bool → Option CodeValue → Wrote
 wrote_set constant None = wrote.Unset
 wrote_set true (Some v) = wrote.Constant
 wrote_set false (Some v) = wrote.Done
@@ -41,7 +41,7 @@ wrote_none true = wrote.Constant
 wrote_none false = wrote.Undeclared
 
 -- an unset cell is told before a constant one
-abbrev pub wrote_by : Option (Cell Worth) → Bool → Wrote
+abbrev pub wrote_by : Option (Cell CodeValue) → Bool → Wrote
 wrote_by (Some c) imports = wrote_set c.constant c.value
 wrote_by None imports = wrote_none imports
 
@@ -67,15 +67,15 @@ scope_in [] m = None
 scope_in (s ∷ ss) zero = s
 scope_in (s ∷ ss) (suc m) = scope_in ss m
 
-abbrev pub cell_by : Option ModuleScope → List ℕ → Option (Cell Worth)
+abbrev pub cell_by : Option ModuleScope → List ℕ → Option (Cell CodeValue)
 cell_by None x = None
 cell_by (Some s) x = cell_in (slot_in s.slots.items x)
 
 -- the cell of a name that the module itself declares
-abbrev pub own_cell : Scopes → ℕ → List ℕ → Option (Cell Worth)
+abbrev pub own_cell : Scopes → ℕ → List ℕ → Option (Cell CodeValue)
 own_cell e m x = cell_by (scope_in e m) x
 
-abbrev pub written_by : Option ModuleScope → List ℕ → Option Worth
+abbrev pub written_by : Option ModuleScope → List ℕ → Option CodeValue
 written_by None x = None
 written_by (Some s) x = written_in (slot_in s.slots.items x)
 
@@ -87,19 +87,19 @@ abbrev pub import_of : Option ModuleScope → List ℕ → Option Target
 import_of None x = None
 import_of (Some s) x = import_in s.imports.items x
 
-abbrev pub whole_of : Option ModuleScope → Reading Worth
+abbrev pub whole_of : Option ModuleScope → Reading CodeValue
 whole_of None = reading.Undeclared
 whole_of (Some s) = reading.Value (value_of s.namespace)
 
-abbrev pub read_import : Scopes → Option Target → Reading Worth
+abbrev pub read_import : Scopes → Option Target → Reading CodeValue
 read_import e None = reading.Undeclared
 read_import e (Some (targets.Cell m y)) = read_cell (own_cell e m.0 y)
 read_import e (Some (targets.Whole m)) = whole_of (scope_in e m.0)
 
-abbrev pub read_or : Option (Cell Worth) → Reading Worth → Reading Worth
+abbrev pub read_or : Option (Cell CodeValue) → Reading CodeValue → Reading CodeValue
 read_or (Some c) later = read_cell (Some c)
 read_or None later = later
 
 -- a name of the module, or of where its import is bound
-abbrev pub read_in : Scopes → ℕ → List ℕ → Reading Worth
+abbrev pub read_in : Scopes → ℕ → List ℕ → Reading CodeValue
 read_in e m x = read_or (own_cell e m x) (read_import e (import_of (scope_in e m) x))

@@ -3,7 +3,7 @@ ghost use Rattle.std.specs.Prelude.{◌≡◌, ◌<◌, ◌^◌, ℕ, [], length
 ghost use Rattle.std.specs.Arc.{arc_value};
 ghost use Rattle.esm_env.specs.Makes.{IsMade, OthersStay};
 ghost use Rattle.esm_env.specs.Scopes.{read_in, scope_in};
-ghost use Rattle.esm_env.specs.Told.{told_read, read_own, IsScope, IsTarget, IsWrittenIn, IsInitialised, scopes_of};
+ghost use Rattle.esm_env.specs.Calls.{told_read, read_own, IsScope, IsTarget, IsWrittenIn, IsInitialised, scopes_of};
 ghost use Rattle.esm_env.specs.Cells.{read_cell};
 ghost use Rattle.esm_env.specs.Slots.{slot_in, cell_in};
 

@@ -1,6 +1,7 @@
 -- The marks of a walk enter what wasn't entered, and pass and leave what was.
 use Rattle.std.proofs.Common.{◌≡◌, ℕ, Bool, true, false, List, [], ◌∷◌, ◌++◌, subst, sym, append_assoc}
-use Rattle.esm_realm.specs.Walk.{Mark, Visits, Passes, is_in}
+use Rattle.esm_realm.specs.Walk.{Mark, Visits, Passes}
+use Rattle.esm_base.specs.Lists.{is_in}
 use Rattle.esm_realm.specs.Walk.Mark.{Enter, Pass, Leave}
 use Rattle.esm_realm.specs.Walk.Visits.{known, fresh}
 use Rattle.esm_realm.specs.Walk.Passes.{all, next}

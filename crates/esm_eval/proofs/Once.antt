@@ -2,16 +2,17 @@
 use Rattle.std.proofs.Common.{◌≡◌, ℕ, true, false, List, [], ◌∷◌, ◌++◌, Option, Some, None, refl, ap, subst, sym, ◌∙◌, inl, inr}
 use Rattle.std.specs.Prelude.{◌⊎◌, Result, Ok}
 use Rattle.std.proofs.lemmas.List.{append-nil}
-use Rattle.esm_realm.specs.Walk.{Mark, is_in}
+use Rattle.esm_realm.specs.Walk.{Mark}
+use Rattle.esm_base.specs.Lists.{is_in, EachOnce}
 use Rattle.esm_realm.specs.Components.{opened_from}
 use Rattle.esm_realm.proofs.Urls.{not_true, not_both}
 use Rattle.esm_realm.proofs.Lists as lists
 use Rattle.esm_realm.proofs.Lists.{either, in_first, in_later, in_cons}
 use Rattle.esm_eval.specs.Nodes.{Phase, NotEntered, Evaluating, EvaluatingAsync, Evaluated, was_entered, Node, BodyCalls}
 use Rattle.esm_eval.specs.Evaluation.{Evaluation, IsLawful, IsSteady, IsAlike, phase, is_stamped, add_wait, wait_on, put_wait}
-use Rattle.esm_eval.specs.Evaluate.{End, Ends, Throws, Stops, ExecutesAsync, Executes, Leaves, Marks, Walks, EvaluatesRoot, Evaluates, enter, close, fail, keep, fulfill_by, closed_phase}
+use Rattle.esm_eval.specs.Evaluate.{WalkEnd, Ends, Throws, Stops, ExecutesAsync, Executes, Leaves, Marks, Walks, EvaluatesRoot, Evaluates, enter, close, fail, keep, fulfill_by, closed_phase}
 use Rattle.esm_eval.specs.Evaluate.Marks.{done, enters, passes, pass_throws, stays, component, leave_throws, leave_stops}
-use Rattle.esm_eval.specs.Begins.{EachOnce, First, BeginsOne, HaveBegunOnce}
+use Rattle.esm_eval.specs.Begins.{First, BeginsOne, HaveBegunOnce}
 use Rattle.esm_eval.proofs.Fits.{Fits, walk_fits}
 use Rattle.esm_eval.proofs.Paths.{Paths, walk_path}
 use Rattle.esm_eval.proofs.Amid.{In, Amid, of_between, not_entered}
@@ -145,16 +146,16 @@ module _ {N V W : Type 0} (E : Evaluation N V W) (L : IsLawful E) where
       calm_on w after path (quiet_close x (opened_from E.same opened x) w) (back_of w after (close_known E L w opened x a)) c
 
 module _ {N V W S : Type 0} (E : Evaluation N V W) (acts : BodyCalls N V W S) (L : IsLawful E) (steady : IsSteady E acts) (one : BeginsOne E acts) where
-  pub once_run : {w : W} {x : N} {end : End V S} {mid : W} → Executes E acts w x end mid → E.begun w x ≡ false → Executes E (First E acts) w x end mid
+  pub once_run : {w : W} {x : N} {end : WalkEnd V S} {mid : W} → Executes E acts w x end mid → E.begun w x ≡ false → Executes E (First E acts) w x end mid
   once_run (Executes.ends p) b = Executes.ends (b, p)
   once_run (Executes.throws v p) b = Executes.throws v (b, p)
   once_run (Executes.stops why p) b = Executes.stops why (b, p)
 
-  pub once_start : {w : W} {x : N} {end : End V S} {mid : W} → ExecutesAsync E acts w x end mid → E.begun w x ≡ false → ExecutesAsync E (First E acts) w x end mid
+  pub once_start : {w : W} {x : N} {end : WalkEnd V S} {mid : W} → ExecutesAsync E acts w x end mid → E.begun w x ≡ false → ExecutesAsync E (First E acts) w x end mid
   once_start {w} {x} (ExecutesAsync.starts p) b = ExecutesAsync.starts ((L.make_body_promise w x).begun x ∙ b, p)
   once_start {w} {x} (ExecutesAsync.stops why p) b = ExecutesAsync.stops why ((L.make_body_promise w x).begun x ∙ b, p)
 
-  once_leave : {w : W} {x : N} {end : End V S} {mid : W} → Leaves E acts w x end mid → E.begun w x ≡ false → Leaves E (First E acts) w x end mid
+  once_leave : {w : W} {x : N} {end : WalkEnd V S} {mid : W} → Leaves E acts w x end mid → E.begun w x ≡ false → Leaves E (First E acts) w x end mid
   once_leave (Leaves.runs n o r) b = Leaves.runs n o (once_run r b)
   once_leave {w} {x} (Leaves.starts n o r) b = Leaves.starts n o (once_start r ((L.add_stamp w x).begun x ∙ b))
   once_leave (Leaves.waiting n) b = Leaves.waiting n
@@ -165,7 +166,7 @@ module _ {N V W S : Type 0} (E : Evaluation N V W) (acts : BodyCalls N V W S) (L
     pub stamps : E.stamps v ≡ E.stamps w
     pub begun : (y : N) → E.begun v y ≡ true → (E.begun w y ≡ true) ⊎ (y ≡ x)
 
-  pub run_of : {w : W} {x : N} {end : End V S} {mid : W} → Executes E acts w x end mid → CallOf w mid x
+  pub run_of : {w : W} {x : N} {end : WalkEnd V S} {mid : W} → Executes E acts w x end mid → CallOf w mid x
   run_of (Executes.ends p) = let s = steady.call _ _ _ _ p in record { nodes = s.nodes; stamps = s.stamps; begun = one.call _ _ _ _ p }
   run_of (Executes.throws v p) = let s = steady.call _ _ _ _ p in record { nodes = s.nodes; stamps = s.stamps; begun = one.call _ _ _ _ p }
   run_of (Executes.stops why p) = let s = steady.call _ _ _ _ p in record { nodes = s.nodes; stamps = s.stamps; begun = one.call _ _ _ _ p }
@@ -179,7 +180,7 @@ module _ {N V W S : Type 0} (E : Evaluation N V W) (acts : BodyCalls N V W S) (L
         begun = λ y h. either (c.begun y h) (λ k. inl (sym (l.begun y) ∙ k)) inr;
       }
 
-  pub start_of : {w : W} {x : N} {end : End V S} {mid : W} → ExecutesAsync E acts w x end mid → CallOf w mid x
+  pub start_of : {w : W} {x : N} {end : WalkEnd V S} {mid : W} → ExecutesAsync E acts w x end mid → CallOf w mid x
   start_of {w} {x} {mid = mid} (ExecutesAsync.starts p) = let s = steady.call _ _ _ _ p in behind_promise w mid x (record { nodes = s.nodes; stamps = s.stamps; begun = one.call _ _ _ _ p })
   start_of {w} {x} {mid = mid} (ExecutesAsync.stops why p) = let s = steady.call _ _ _ _ p in behind_promise w mid x (record { nodes = s.nodes; stamps = s.stamps; begun = one.call _ _ _ _ p })
 
@@ -209,14 +210,14 @@ module _ {N V W S : Type 0} (E : Evaluation N V W) (acts : BodyCalls N V W S) (L
     distinct = l.distinct;
   }
 
-  left_by : {w : W} {x : N} {end : End V S} {mid : W} → Leaves E acts w x end mid → is_stamped E w x ≡ false → EachOnce E.same (E.stamps w) → LeftBy E L w mid x
+  left_by : {w : W} {x : N} {end : WalkEnd V S} {mid : W} → Leaves E acts w x end mid → is_stamped E w x ≡ false → EachOnce E.same (E.stamps w) → LeftBy E L w mid x
   left_by {w} {x} {mid = mid} (Leaves.runs n o r) u d = left_call w mid x (run_of r) d
   left_by {w} {x} {mid = mid} (Leaves.starts n o r) u d =
       let s = left_stamp w x u d in
       left_on w (E.add_stamp w x) mid x s (left_call (E.add_stamp w x) mid x (start_of r) s.distinct)
   left_by {w} {x} (Leaves.waiting n) u d = left_stamp w x u d
 
-  abbrev KeptCalm : End V S → W → Type 0
+  abbrev KeptCalm : WalkEnd V S → W → Type 0
   KeptCalm Ends after = Calm E L after []
   KeptCalm (Throws v) after = Calm E L after []
   KeptCalm (Stops why) after = Unit {0}
@@ -235,13 +236,13 @@ module _ {N V W S : Type 0} (E : Evaluation N V W) (acts : BodyCalls N V W S) (L
       unbegun : E.begun w x ≡ false
       calm : Calm E L mid rest
 
-    leaves : {w mid : W} {x : N} {end : End V S} (opened path rest seen : List N) → Leaves E acts w x end mid → path ≡ x ∷ rest → is_in E.same rest x ≡ false → was_entered (phase E w x) ≡ true → Calm E L w path → Left w mid x opened rest seen
+    leaves : {w mid : W} {x : N} {end : WalkEnd V S} (opened path rest seen : List N) → Leaves E acts w x end mid → path ≡ x ∷ rest → is_in E.same rest x ≡ false → was_entered (phase E w x) ≡ true → Calm E L w path → Left w mid x opened rest seen
     leaves {w} {mid} {x} opened path rest seen l e out b c =
         let c' : Calm E L w (x ∷ rest) = subst (λ p. Calm E L w p) e c in
         let s = c'.still x (in_first E.same L.own L.equal x rest) in
         record { unbegun = s.0; calm = calm_left E L w mid x rest b out (left_by l s.1 c'.distinct) c' }
 
-    marks_once : {w : W} {opened : List N} {ms : List (Mark N)} {end : End V S} {after : W} (seen path : List N) → Marks E acts to w opened ms end after → Fit seen ms → Path path ms → Known E acts L steady w seen → Amid E w opened → Calm E L w path
+    marks_once : {w : W} {opened : List N} {ms : List (Mark N)} {end : WalkEnd V S} {after : W} (seen path : List N) → Marks E acts to w opened ms end after → Fit seen ms → Path path ms → Known E acts L steady w seen → Amid E w opened → Calm E L w path
         → Marks E (First E acts) to w opened ms end after × KeptCalm end after
     marks_once {w} seen path done f ps k a c = (done, calm_drop E L w path c)
     marks_once {w} {opened} seen path (enters {x = x} p) f ps k a c =
@@ -284,7 +285,7 @@ module _ {N V W S : Type 0} (E : Evaluation N V W) (acts : BodyCalls N V W S) (L
   calm_keep w m c = calm_on E L w (keep E w m) [] (quiet_on E L w (E.make_promise w) (keep E w m) (quiet_alike E L w (E.make_promise w) (L.make_promise w)) (quiet_put E L (E.make_promise w) m (record (E.node w m) { promise = Some (E.next_promise w) })))
       (λ y h. sym ((keep_like E acts L steady w m).phases y) ∙ h) c
 
-  walks_once : {w : W} {m : N} {end : End V S} {after : W} → Walks E acts w m (keep E w m) end after → Amid E w [] → Calm E L w [] → Walks E (First E acts) w m (keep E w m) end after × KeptCalm end after
+  walks_once : {w : W} {m : N} {end : WalkEnd V S} {after : W} → Walks E acts w m (keep E w m) end after → Amid E w [] → Calm E L w [] → Walks E (First E acts) w m (keep E w m) end after × KeptCalm end after
   walks_once {w} {m} p a c =
       let to = E.targets w in
       let r = marks_once to p.closed [] p.leads (subst (λ ms. Fit to p.closed ms) (append-nil p.marks) (walk_fits E.same L.own L.equal to p.walk.1))

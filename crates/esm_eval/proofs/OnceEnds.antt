@@ -1,13 +1,13 @@
 -- No body begins twice: behind the end of a body.
 use Rattle.std.proofs.Common.{◌≡◌, true, false, List, [], ◌∷◌, Some, refl, ap, subst, sym, ◌∙◌, inl, inr}
 use Rattle.std.specs.Prelude.{◌⊎◌, Result, Ok}
-use Rattle.esm_realm.specs.Walk.{is_in}
+use Rattle.esm_base.specs.Lists.{is_in, EachOnce}
 use Rattle.esm_realm.proofs.Urls.{not_true, not_both}
 use Rattle.esm_realm.proofs.Lists.{either, in_first, in_later, in_cons}
 use Rattle.esm_eval.specs.Nodes.{NotEntered, Evaluated, was_entered, BodyCalls}
 use Rattle.esm_eval.specs.Evaluation.{Evaluation, IsLawful, IsSteady, phase}
 use Rattle.esm_eval.specs.BodyEnd.{IsReady, ReadyAmong, Rejects, RejectsAll, GoOn, Fulfills, finish, refuse}
-use Rattle.esm_eval.specs.Begins.{EachOnce, First, BeginsOne, HaveBegunOnce}
+use Rattle.esm_eval.specs.Begins.{First, BeginsOne, HaveBegunOnce}
 use Rattle.esm_eval.specs.Laws.{BeginsOnce}
 use Rattle.esm_eval.proofs.Amid.{In}
 use Rattle.esm_eval.proofs.EndsKeep.{Later, later_on, rejects_go, finished, kept_alike, refused_alike, among_ready, rejects_keep, fulfills_keep, go_on, ready_entered}

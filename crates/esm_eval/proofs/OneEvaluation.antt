@@ -6,7 +6,7 @@ use Rattle.esm_realm.specs.Components.{opened_from}
 use Rattle.esm_realm.proofs.OneWalk.{walk_alike}
 use Rattle.esm_eval.specs.Nodes.{BodyCalls}
 use Rattle.esm_eval.specs.Evaluation.{Evaluation, HasOneOutcome, phase, error_of, add_wait, wait_on}
-use Rattle.esm_eval.specs.Evaluate.{End, Throws, Stops, ExecutesAsync, Executes, Leaves, Marks, Walks, EvaluatesRoot, Evaluates, close, fail, keep, fulfill_by}
+use Rattle.esm_eval.specs.Evaluate.{WalkEnd, Throws, Stops, ExecutesAsync, Executes, Leaves, Marks, Walks, EvaluatesRoot, Evaluates, close, fail, keep, fulfill_by}
 use Rattle.esm_eval.specs.Evaluate.Marks.{done, enters, passes, pass_throws, stays, component, leave_throws, leave_stops}
 use Rattle.esm_eval.specs.BodyEnd.{ReadyAmong, Rejects, RejectsAll, GoOn, Fulfills, finish}
 use Rattle.esm_eval.specs.Laws.{OneEvaluation}
@@ -37,13 +37,13 @@ target_one : {A : Type 0} {o : Option A} {s t : A} → o ≡ Some s → o ≡ So
 target_one p q = cc
 
 module _ {N V W S : Type 0} (E : Evaluation N V W) (acts : BodyCalls N V W S) (h : HasOneOutcome E acts) where
-  starts_one : {w : W} {m : N} {a b : End V S} {x y : W} → ExecutesAsync E acts w m a x → ExecutesAsync E acts w m b y → (b ≡ a) × (y ≡ x)
+  starts_one : {w : W} {m : N} {a b : WalkEnd V S} {x y : W} → ExecutesAsync E acts w m a x → ExecutesAsync E acts w m b y → (b ≡ a) × (y ≡ x)
   starts_one (ExecutesAsync.starts p) (ExecutesAsync.starts q) = (refl, (h.one p q).1)
   starts_one (ExecutesAsync.starts p) (ExecutesAsync.stops why q) = let k = h.one p q in absurd cc
   starts_one (ExecutesAsync.stops why p) (ExecutesAsync.starts q) = let k = h.one p q in absurd cc
   starts_one (ExecutesAsync.stops why p) (ExecutesAsync.stops why' q) = let k = h.one p q in let e : why' ≡ why = cc in (ap (λ why. Stops why) e, k.1)
 
-  runs_one : {w : W} {m : N} {a b : End V S} {x y : W} → Executes E acts w m a x → Executes E acts w m b y → (b ≡ a) × (y ≡ x)
+  runs_one : {w : W} {m : N} {a b : WalkEnd V S} {x y : W} → Executes E acts w m a x → Executes E acts w m b y → (b ≡ a) × (y ≡ x)
   runs_one (Executes.ends p) (Executes.ends q) = (refl, (h.one p q).1)
   runs_one (Executes.ends p) (Executes.throws v q) = let k = h.one p q in absurd cc
   runs_one (Executes.ends p) (Executes.stops why q) = let k = h.one p q in absurd cc
@@ -54,7 +54,7 @@ module _ {N V W S : Type 0} (E : Evaluation N V W) (acts : BodyCalls N V W S) (h
   runs_one (Executes.stops why p) (Executes.throws v q) = let k = h.one p q in absurd cc
   runs_one (Executes.stops why p) (Executes.stops why' q) = let k = h.one p q in let e : why' ≡ why = cc in (ap (λ why. Stops why) e, k.1)
 
-  leaves_one : {w : W} {m : N} {a b : End V S} {x y : W} → Leaves E acts w m a x → Leaves E acts w m b y → (b ≡ a) × (y ≡ x)
+  leaves_one : {w : W} {m : N} {a b : WalkEnd V S} {x y : W} → Leaves E acts w m a x → Leaves E acts w m b y → (b ≡ a) × (y ≡ x)
   leaves_one (Leaves.runs n o p) (Leaves.runs m u q) = runs_one p q
   leaves_one (Leaves.runs n o p) (Leaves.starts m u q) = absurd cc
   leaves_one (Leaves.runs n o p) (Leaves.waiting m) = absurd cc
@@ -66,10 +66,10 @@ module _ {N V W S : Type 0} (E : Evaluation N V W) (acts : BodyCalls N V W S) (h
   leaves_one (Leaves.waiting n) (Leaves.waiting m) = (refl, refl)
 
   module _ (to : N → List N) where
-    marks_from : {w v x : W} {opened : List N} {ms : List (Mark N)} {a : End V S} → w ≡ v → Marks E acts to v opened ms a x → Marks E acts to w opened ms a x
+    marks_from : {w v x : W} {opened : List N} {ms : List (Mark N)} {a : WalkEnd V S} → w ≡ v → Marks E acts to v opened ms a x → Marks E acts to w opened ms a x
     marks_from {x = x} {opened = opened} {ms = ms} {a = a} e q = subst (λ w. Marks E acts to w opened ms a x) (sym e) q
 
-    marks_one : {w : W} {opened : List N} {ms : List (Mark N)} {a b : End V S} {x y : W} → Marks E acts to w opened ms a x → Marks E acts to w opened ms b y → (b ≡ a) × (y ≡ x)
+    marks_one : {w : W} {opened : List N} {ms : List (Mark N)} {a b : WalkEnd V S} {x y : W} → Marks E acts to w opened ms a x → Marks E acts to w opened ms b y → (b ≡ a) × (y ≡ x)
     marks_one done done = (refl, refl)
     marks_one (enters p) (enters q) = marks_one p q
     marks_one {w} (passes {x = x} t n p) (passes s m q) = let same = target_one t s in marks_one p (marks_from (ap (λ t. add_wait E w x (wait_on E w t)) same) q)
@@ -93,10 +93,10 @@ module _ {N V W S : Type 0} (E : Evaluation N V W) (acts : BodyCalls N V W S) (h
     marks_one (leave_stops why l) (leave_throws v k) = let e = (leaves_one l k).0 in absurd cc
     marks_one (leave_stops why l) (leave_stops why' k) = let e = leaves_one l k in let f : why' ≡ why = cc in (ap (λ why. Stops why) f, e.1)
 
-  abbrev Leads : W → List (Mark N) → End V S → W → W → Type 0
+  abbrev Leads : W → List (Mark N) → WalkEnd V S → W → W → Type 0
   Leads w ms a start x = Marks E acts (E.targets w) start [] ms a x
 
-  walks_one : {w start : W} {m : N} {a b : End V S} {x y : W} → Walks E acts w m start a x → Walks E acts w m start b y → (b ≡ a) × (y ≡ x)
+  walks_one : {w start : W} {m : N} {a b : WalkEnd V S} {x y : W} → Walks E acts w m start a x → Walks E acts w m start b y → (b ≡ a) × (y ≡ x)
   walks_one {w} {start} {b = b} {y = y} p q = marks_one (E.targets w) p.leads (subst (λ ms. Leads w ms b start y) (walk_alike E.same (E.targets w) (λ z. q.closed_is z ∙ sym (p.closed_is z)) q.walk p.walk) q.leads)
 
   root_one : {w : W} {m : N} {a b : Result ℕ S} {x y : W} → EvaluatesRoot E acts w m a x → EvaluatesRoot E acts w m b y → (b ≡ a) × (y ≡ x)

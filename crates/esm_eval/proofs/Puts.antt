@@ -3,7 +3,7 @@ use Rattle.std.proofs.Common.{◌≡◌, Bool, true, false, List, [], ◌∷◌,
 use Rattle.std.specs.Prelude.{◌⊎◌, if◌then◌else◌}
 use Rattle.std.specs.Option.{unwrap_or}
 use Rattle.std.proofs.lemmas.List.{append-nil}
-use Rattle.esm_realm.specs.Walk.{is_in}
+use Rattle.esm_base.specs.Lists.{is_in}
 use Rattle.esm_realm.specs.Components.{opened_before, opened_from}
 use Rattle.esm_realm.proofs.Urls.{cases, not_both}
 use Rattle.esm_realm.proofs.Lists as lists

@@ -1,6 +1,6 @@
 -- Between two calls a module that waits has a wait that isn't done.
 use Rattle.std.proofs.Common.{◌≡◌, true, [], ap, sym, ◌∙◌}
-use Rattle.esm_realm.specs.Walk.{is_in}
+use Rattle.esm_base.specs.Lists.{is_in}
 use Rattle.esm_eval.specs.Nodes.{BodyCalls}
 use Rattle.esm_eval.specs.Evaluation.{Evaluation}
 use Rattle.esm_eval.specs.Waiting.{IsBetweenCalls, IsOpening}

@@ -2,13 +2,14 @@
 use Rattle.std.proofs.Common.{◌≡◌, ℕ, true, false, List, [], ◌∷◌, Some, ap, subst, sym, ◌∙◌, inl, inr}
 use Rattle.std.specs.Prelude.{◌⊎◌, ◌||◌, Ok}
 use Rattle.std.proofs.lemmas.List.{append-nil}
-use Rattle.esm_realm.specs.Walk.{Mark, is_in}
+use Rattle.esm_realm.specs.Walk.{Mark}
+use Rattle.esm_base.specs.Lists.{is_in}
 use Rattle.esm_realm.specs.Components.{opened_from}
 use Rattle.esm_realm.proofs.Urls.{cases, not_both}
 use Rattle.esm_realm.proofs.Lists.{in_first}
 use Rattle.esm_eval.specs.Nodes.{Phase, NotEntered, Evaluating, EvaluatingAsync, Evaluated, was_entered, Node, BodyCalls}
 use Rattle.esm_eval.specs.Evaluation.{Evaluation, IsLawful, IsSteady, IsSteadyCall, IsAlike, phase, waits, add_wait, wait_on}
-use Rattle.esm_eval.specs.Evaluate.{End, Ends, Throws, Stops, ExecutesAsync, Executes, Leaves, Marks, Walks, EvaluatesRoot, Evaluates, enter, close, keep, fulfill_by}
+use Rattle.esm_eval.specs.Evaluate.{WalkEnd, Ends, Throws, Stops, ExecutesAsync, Executes, Leaves, Marks, Walks, EvaluatesRoot, Evaluates, enter, close, keep, fulfill_by}
 use Rattle.esm_eval.specs.Evaluate.Marks.{done, enters, passes, pass_throws, stays, component, leave_throws, leave_stops}
 use Rattle.esm_eval.specs.Waiting.{IsBetweenCalls}
 use Rattle.esm_eval.proofs.Fits.{Fits, walk_fits}
@@ -65,7 +66,7 @@ module _ {N V W S : Type 0} (E : Evaluation N V W) (acts : BodyCalls N V W S) (L
       no_throw : {w : W} {x : N} {v : V} {mid : W} {C : Type 0} → ExecutesAsync E acts w x (Throws v) mid → C
       no_throw p = elim p [ ]
 
-  abbrev Kept : End V S → W → Type 0
+  abbrev Kept : WalkEnd V S → W → Type 0
   Kept Ends after = Amid E after []
   Kept (Throws v) after = Amid E after []
   Kept (Stops why) after = Unit {0}
@@ -89,7 +90,7 @@ module _ {N V W S : Type 0} (E : Evaluation N V W) (acts : BodyCalls N V W S) (L
     pub has : (w : W) (seen : List N) (x : N) → Known w seen → is_in E.same seen x ≡ true → was_entered (phase E w x) ≡ true
     has w seen x k h = sym (k x) ∙ h
 
-    pub marks_keep : {w : W} {opened : List N} {ms : List (Mark N)} {end : End V S} {after : W} (seen : List N) → Marks E acts to w opened ms end after → Fit seen ms → Known w seen → Amid E w opened → Kept end after
+    pub marks_keep : {w : W} {opened : List N} {ms : List (Mark N)} {end : WalkEnd V S} {after : W} (seen : List N) → Marks E acts to w opened ms end after → Fit seen ms → Known w seen → Amid E w opened → Kept end after
     marks_keep seen done f k a = a
     marks_keep {w} {opened} seen (enters {x = x} p) f k a =
         marks_keep (x ∷ seen) p f.1 (known_enter w seen x k) (amid_enter E L w opened x (not_entered (phase E w x) (sym (k x) ∙ f.0)) a)
@@ -123,7 +124,7 @@ module _ {N V W S : Type 0} (E : Evaluation N V W) (acts : BodyCalls N V W S) (L
   pub keep_keeps : (w : W) (m : N) → Amid E w [] → Amid E (keep E w m) []
   keep_keeps w m a = amid_like E w (keep E w m) [] (keep_like w m) (keep_grown w m) a
 
-  walks_keep : {w : W} {m : N} {end : End V S} {after : W} → Walks E acts w m (keep E w m) end after → Amid E w [] → Kept end after
+  walks_keep : {w : W} {m : N} {end : WalkEnd V S} {after : W} → Walks E acts w m (keep E w m) end after → Amid E w [] → Kept end after
   walks_keep {w} {m} p a = marks_keep (E.targets w) p.closed p.leads
       (subst (λ ms. Fit (E.targets w) p.closed ms) (append-nil p.marks) (walk_fits E.same L.own L.equal (E.targets w) p.walk.1))
       (λ y. p.closed_is y ∙ sym (ap was_entered ((keep_like w m).phases y))) (keep_keeps w m a)

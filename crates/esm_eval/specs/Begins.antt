@@ -1,6 +1,6 @@
 -- No body begins twice.
 use Rattle.std.specs.Prelude.{◌≡◌, ◌⊎◌, Bool, true, false, List, [], ◌∷◌, Result}
-use Rattle.esm_realm.specs.Walk.{is_in}
+use Rattle.esm_base.specs.Lists.{is_in}
 use Rattle.esm_eval.specs.Nodes.{NotEntered, Call, CallAnswer, BodyCalls, module_of}
 use Rattle.esm_eval.specs.Evaluation.{Evaluation, phase}
 use Rattle.esm_eval.specs.Waiting.{IsBetweenCalls}

@@ -1,7 +1,7 @@
 -- What evaluation reads and writes of a world W: any kind of record that has these parts.
 use Rattle.std.specs.Prelude.{◌≡◌, ℕ, Bool, true, false, List, [], ◌∷◌, ◌++◌, if◌then◌else◌, Option, Some, None, Result, Ok}
 use Rattle.std.specs.Option.{unwrap_or, option_or}
-use Rattle.esm_realm.specs.Walk.{is_in}
+use Rattle.esm_base.specs.Lists.{is_in}
 use Rattle.esm_eval.specs.Nodes.{Phase, Evaluating, was_entered, Node, Call, CallAnswer, BodyCalls, module_of}
 
 pub record Evaluation (N V W : Type 0) : Type 0 where

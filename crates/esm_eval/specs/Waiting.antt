@@ -1,6 +1,6 @@
 -- What holds of evaluation between two of its calls.
 use Rattle.std.specs.Prelude.{◌≡◌, ◌≢◌, true, false, [], None}
-use Rattle.esm_realm.specs.Walk.{is_in}
+use Rattle.esm_base.specs.Lists.{is_in}
 use Rattle.esm_eval.specs.Nodes.{NotEntered, Evaluating, EvaluatingAsync}
 use Rattle.esm_eval.specs.Evaluation.{Evaluation, phase, waits, waiters, is_done, is_stamped, root_of}
 

@@ -8,14 +8,14 @@ use Rattle.esm_expr_eval.specs.Terms.{Term, Terms, term, terms, compared_terms, 
 use Rattle.esm_expr_eval.specs.Terms.Term.{Val, Waits, Fails, Or, And, Sum, Post, Equal, Not, Print, NewError, Import}
 use Rattle.esm_expr_eval.specs.Terms.Terms.{more}
 use Rattle.esm_expr_eval.specs.Terms.Compared.{compared}
-use Rattle.esm_expr_eval.specs.Terms.Links.{member, call}
-use Rattle.esm_values.specs.Code.{Worth, value_of, values_of, numbered}
+use Rattle.esm_expr_eval.specs.Terms.LinkTerms.{member, call}
+use Rattle.esm_values.specs.Code.{CodeValue, value_of, values_of, numbered}
 use Rattle.esm_expr_eval.specs.Rewriting.{Rewrites as step}
-use Rattle.esm_expr_eval.specs.Ends.{Leads, End}
+use Rattle.esm_expr_eval.specs.Ends.{Leads, TermEnd}
 use Rattle.esm_expr_eval.proofs.Steps.{leaves}
-use Rattle.esm_expr_eval.specs.Frames.{behind, plug, around, GoesOn, Tells, arguments_of, operands_of}
+use Rattle.esm_expr_eval.specs.Frames.{behind, plug, around, GoesOn, EndsTurn, arguments_of, operands_of}
 use Rattle.esm_expr_eval.specs.Parts.{from, links_from, links_of}
-use Rattle.esm_expr_eval.specs.Machine.{Comes_to, IsGiven}
+use Rattle.esm_expr_eval.specs.Machine.{LeadsToMove, IsGiven}
 use Rattle.esm_expr_eval.specs.declared.frame.Focus.{Focus}
 use Rattle.esm_expr_eval.specs.declared.frame.Focus.TheVariants as focus
 use Rattle.esm_values.specs.declared.value.Value.{Value}
@@ -24,13 +24,13 @@ use Rattle.esm_expr_eval.specs.declared.frame.Frame.TheVariants as f
 use Rattle.esm_expr_eval.specs.declared.world.ExprEnd.{ExprEnd}
 use Rattle.esm_expr_eval.specs.declared.world.ExprEnd.TheVariants as ends
 
-module _ {W S : Type 0} (url : W → List ℕ) (acts : Acting W Worth S) where
-  pub ended : (exprs : List ast.Expr) (w mid after : W) (t u : Term Worth) (frames : List Frame) (rest : Term Worth) (end : ExprEnd S) → GoesOn url acts w t mid u → Tells url acts exprs mid u (Err end) after frames → Comes_to url acts w t (Err end) after rest
+module _ {W S : Type 0} (url : W → List ℕ) (acts : Acting W CodeValue S) where
+  pub ended : (exprs : List ast.Expr) (w mid after : W) (t u : Term CodeValue) (frames : List Frame) (rest : Term CodeValue) (end : ExprEnd S) → GoesOn url acts w t mid u → EndsTurn url acts exprs mid u (Err end) after frames → LeadsToMove url acts w t (Err end) after rest
   ended exprs w mid after t u frames rest (ends.Stopped why) g h = g _ _ h
   ended exprs w mid after t u frames rest ends.Memory g h = tt
 
 -- what hasn't begun holds no call under way
-module _ (p : Term Worth) where
+module _ (p : Term CodeValue) where
   mutual
     fill_term : (e : ast.Expr) → fill p (term numbered e) ≡ term numbered e
     fill_term (ast.Text s) = refl
@@ -63,11 +63,11 @@ module _ (p : Term Worth) where
     fill_ls (ast.member x ls) = ap (λ ls. member x ls) (fill_ls ls)
     fill_ls (ast.call es ls) = λ i. call (fill_terms es i) (fill_ls ls i)
 
-  fill_behind : (vs : List Worth) (es : Terms Worth) → fill_all p (behind vs es) ≡ behind vs (fill_all p es)
+  fill_behind : (vs : List CodeValue) (es : Terms CodeValue) → fill_all p (behind vs es) ≡ behind vs (fill_all p es)
   fill_behind [] es = refl
   fill_behind (u ∷ vs) es = ap (λ es. more (Val u) es) (fill_behind vs es)
 
-  fill_plug : (exprs : List ast.Expr) (frame : Frame) (t : Term Worth) → fill p (plug exprs frame t) ≡ plug exprs frame (fill p t)
+  fill_plug : (exprs : List ast.Expr) (frame : Frame) (t : Term CodeValue) → fill p (plug exprs frame t) ≡ plug exprs frame (fill p t)
   fill_plug exprs (f.Or at n) t = ap (λ es. Or (fill p t) es) (fill_terms _)
   fill_plug exprs (f.And at n) t = ap (λ es. And (fill p t) es) (fill_terms _)
   fill_plug exprs (f.Equal at n) t = ap (λ cs. Equal (fill p t) cs) (fill_cs _)
@@ -87,7 +87,7 @@ module _ (p : Term Worth) where
   fill_plug exprs f.NewError t = refl
   fill_plug exprs f.Import t = refl
 
-  pub fill_around : (exprs : List ast.Expr) (frames : List Frame) (t : Term Worth) → fill p (around exprs frames t) ≡ around exprs frames (fill p t)
+  pub fill_around : (exprs : List ast.Expr) (frames : List Frame) (t : Term CodeValue) → fill p (around exprs frames t) ≡ around exprs frames (fill p t)
   unfolding around
   fill_around exprs [] t = refl
   fill_around exprs (frame ∷ frames) t = fill_plug exprs frame (around exprs frames t) ∙ ap (plug exprs frame) (fill_around exprs frames t)
@@ -98,6 +98,6 @@ is_waits v (focus.Value u) h = absurd h
 is_waits v focus.Waits h = refl
 
 -- a throw of the call under way is a throw of the whole, so that the frames may be dropped
-module _ {W S : Type 0} (url : W → List ℕ) (acts : Acting W Worth S) where
-  pub thrown_through : (exprs : List ast.Expr) (frames : List Frame) (w : W) (v : Worth) → Leads numbered url acts w (fill (Fails v) (around exprs frames Waits)) (End.Thrown v) w
+module _ {W S : Type 0} (url : W → List ℕ) (acts : Acting W CodeValue S) where
+  pub thrown_through : (exprs : List ast.Expr) (frames : List Frame) (w : W) (v : CodeValue) → Leads numbered url acts w (fill (Fails v) (around exprs frames Waits)) (TermEnd.Thrown v) w
   thrown_through exprs frames w v = rw (fill_around (Fails v) exprs frames Waits) (leaves url acts exprs frames step.fails)

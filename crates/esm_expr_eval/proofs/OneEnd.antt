@@ -1,19 +1,19 @@
 -- An expression leads to one end where each call on the world has one outcome.
 use Rattle.std.proofs.Common.{◌≡◌, ℕ, List, refl, ap, subst}
 use Rattle.std.specs.Prelude.{Result}
-use Rattle.esm_values.specs.Acts.{Act, Answer}
+use Rattle.esm_values.specs.Acts.{Act, AnswerTo}
 use Rattle.esm_values.specs.Plans.{Acting}
-use Rattle.esm_values.specs.Code.{Worth, numbered}
+use Rattle.esm_values.specs.Code.{CodeValue, numbered}
 use Rattle.esm_values.specs.Operators.{Values}
 use Rattle.esm_values.proofs.Follows.{ActsOne}
 use Rattle.esm_expr_eval.specs.Terms.{Term}
-use Rattle.esm_expr_eval.specs.Ends.{End, Thrown, Call, Stopped, Leads}
+use Rattle.esm_expr_eval.specs.Ends.{TermEnd, Thrown, Call, Stopped, Leads}
 use Rattle.esm_expr_eval.specs.Ends.Leads.{value, goes, throws, calls, stopped}
 use Rattle.esm_expr_eval.specs.Laws.{ActsOnce, RewritesOnce}
 use Rattle.esm_expr_eval.proofs.Unique.{no_step, step_one}
 
 module _ {W V S : Type 0} (values : Values V) (url : W → List ℕ) (acts : Acting W V S) (h : ActsOne acts) where
-  pub leads_one : {w x y : W} {t : Term V} {c d : End V S} → Leads values url acts w t c x → Leads values url acts w t d y → (d ≡ c) × (y ≡ x)
+  pub leads_one : {w x y : W} {t : Term V} {c d : TermEnd V S} → Leads values url acts w t c x → Leads values url acts w t d y → (d ≡ c) × (y ≡ x)
   leads_one value value = (refl, refl)
   leads_one value (goes s b) = absurd (no_step values url acts s)
   leads_one value (throws s) = absurd (no_step values url acts s)
@@ -52,8 +52,8 @@ module _ {W V S : Type 0} (values : Values V) (url : W → List ℕ) (acts : Act
       let same : r ≡ why = cc in
       (ap Stopped same, e.1)
 
-module _ {W S : Type 0} (url : W → List ℕ) (acts : Acting W Worth S) where
-  once : ActsOnce acts → {w x y : W} {a : Act Worth} {r s : Result (Answer a) S} → acts w a r x → acts w a s y → (s ≡ r) × (y ≡ x)
+module _ {W S : Type 0} (url : W → List ℕ) (acts : Acting W CodeValue S) where
+  once : ActsOnce acts → {w x y : W} {a : Act CodeValue} {r s : Result (AnswerTo a) S} → acts w a r x → acts w a s y → (s ≡ r) × (y ≡ x)
   once k {w} {x} {y} {a} {r} {s} p q = k.once w x y a r s p q
 
   one_of : ActsOnce acts → ActsOne acts

@@ -2,11 +2,11 @@
 use Rattle.std.proofs.Common.{◌≡◌, ℕ, ◌+◌, List, [], ◌∷◌, ◌++◌, length, refl, ap, arith}
 use Rattle.esm_tree.specs.Syntax as ast
 use Rattle.esm_expr_eval.specs.Terms.{Term}
-use Rattle.esm_values.specs.Code.{Worth}
+use Rattle.esm_values.specs.Code.{CodeValue}
 use Rattle.esm_expr_eval.specs.Frames.{plug, around, IsFrame, AreFrames, frame_work, frames_work}
 use Rattle.esm_expr_eval.specs.declared.frame.Frame.{Frame}
 
-pub around_push : (exprs : List ast.Expr) (frames : List Frame) (frame : Frame) (t : Term Worth) → around exprs (frames ++ frame ∷ []) t ≡ around exprs frames (plug exprs frame t)
+pub around_push : (exprs : List ast.Expr) (frames : List Frame) (frame : Frame) (t : Term CodeValue) → around exprs (frames ++ frame ∷ []) t ≡ around exprs frames (plug exprs frame t)
 unfolding around
 around_push exprs [] frame t = refl
 around_push exprs (f ∷ frames) frame t = ap (plug exprs f) (around_push exprs frames frame t)
@@ -26,12 +26,12 @@ unfolding AreFrames
 frames_pop n [] frame all = (tt, all.0)
 frames_pop n (f ∷ frames) frame all = let r = frames_pop n frames frame all.1 in ((all.0, r.0), r.1)
 
-pub around_none : (exprs : List ast.Expr) (frames : List Frame) (t : Term Worth) → length frames ≡ 0 → around exprs frames t ≡ t
+pub around_none : (exprs : List ast.Expr) (frames : List Frame) (t : Term CodeValue) → length frames ≡ 0 → around exprs frames t ≡ t
 unfolding around
 around_none exprs [] t h = refl
 around_none exprs (f ∷ frames) t h = absurd (omega (arith, h))
 
-pub around_empty : (exprs : List ast.Expr) (t : Term Worth) → around exprs [] t ≡ t
+pub around_empty : (exprs : List ast.Expr) (t : Term CodeValue) → around exprs [] t ≡ t
 unfolding around
 around_empty exprs t = refl
 

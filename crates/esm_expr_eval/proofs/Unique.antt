@@ -1,13 +1,13 @@
 -- A rewriting has one outcome where each call on the world has one.
 use Rattle.std.proofs.Common.{◌≡◌, ℕ, List, ◌∷◌, refl, ap, subst, sym}
-use Rattle.esm_values.specs.Plans.{Acting, Comes, inside, Follows}
+use Rattle.esm_values.specs.Plans.{Acting, Rewritten, inside, Follows}
 use Rattle.esm_values.specs.Operators.{Values}
 use Rattle.esm_values.proofs.Follows.{ActsOne, follows_one}
 use Rattle.esm_expr_eval.specs.Terms.{Term, Terms}
 use Rattle.esm_expr_eval.specs.Terms.Term.{Val, Or, And, Equal, Sum, Not, Post, Print, NewError, Import}
 use Rattle.esm_expr_eval.specs.Terms.Terms.{more}
 use Rattle.esm_expr_eval.specs.Terms.Compared.{compared}
-use Rattle.esm_expr_eval.specs.Terms.Links.{call}
+use Rattle.esm_expr_eval.specs.Terms.LinkTerms.{call}
 use Rattle.esm_expr_eval.specs.Rewriting.{AreValues, Rewrites, RewritesIn, called}
 use Rattle.esm_expr_eval.specs.Rewriting.AreValues.{nil, cons}
 use Rattle.esm_expr_eval.specs.Rewriting.Rewrites.{fails, name, or_in, or, and_in, and, equal_in, equal_right, equal, equal_end, sum_in, sum_right, joins, sum_end, not_in, not_of, post_in, member_of, arguments, call_of, post_end, print_in, print, error_in, error, import_in, begins, own_url}
@@ -18,17 +18,17 @@ values_one nil nil = refl
 values_one (cons {v = v} a) (cons b) = ap (λ vs. v ∷ vs) (values_one a b)
 
 module _ {W V S : Type 0} (values : Values V) (url : W → List ℕ) (acts : Acting W V S) where
-  pub no_step : {w after : W} {v : V} {c : Comes V S (Term V)} → Rewrites values url acts w (Val v) c after → ⊥
+  pub no_step : {w after : W} {v : V} {c : Rewritten V S (Term V)} → Rewrites values url acts w (Val v) c after → ⊥
   no_step s = elim s [ ]
 
-  no_steps : {w after : W} {es : Terms V} {vs : List V} {c : Comes V S (Terms V)} → AreValues es vs → RewritesIn values url acts w es c after → ⊥
+  no_steps : {w after : W} {es : Terms V} {vs : List V} {c : Rewritten V S (Terms V)} → AreValues es vs → RewritesIn values url acts w es c after → ⊥
   no_steps nil s = elim s [ ]
   no_steps (cons a) (first s) = no_step s
   no_steps (cons a) (later s) = no_steps a s
 
   module _ (h : ActsOne acts) where
     mutual
-      pub step_one : {w x y : W} {t : Term V} {c d : Comes V S (Term V)} → Rewrites values url acts w t c x → Rewrites values url acts w t d y → (d ≡ c) × (y ≡ x)
+      pub step_one : {w x y : W} {t : Term V} {c d : Rewritten V S (Term V)} → Rewrites values url acts w t c x → Rewrites values url acts w t d y → (d ≡ c) × (y ≡ x)
       step_one fails fails = (refl, refl)
       step_one (name a) (name b) = follows_one acts h a b
       step_one (or_in {es = es} s) (or_in t) = let r = step_one s t in (ap (inside (λ e. Or e es)) r.0, r.1)
@@ -96,7 +96,7 @@ module _ {W V S : Type 0} (values : Values V) (url : W → List ℕ) (acts : Act
       step_one (begins a) (begins b) = follows_one acts h a b
       step_one own_url own_url = (refl, refl)
 
-      pub steps_one : {w x y : W} {es : Terms V} {c d : Comes V S (Terms V)} → RewritesIn values url acts w es c x → RewritesIn values url acts w es d y → (d ≡ c) × (y ≡ x)
+      pub steps_one : {w x y : W} {es : Terms V} {c d : Rewritten V S (Terms V)} → RewritesIn values url acts w es c x → RewritesIn values url acts w es d y → (d ≡ c) × (y ≡ x)
       steps_one (first {es = es} s) (first t) = let r = step_one s t in (ap (inside (λ e. more e es)) r.0, r.1)
       steps_one (first s) (later t) = absurd (no_step s)
       steps_one (later s) (first t) = absurd (no_step t)

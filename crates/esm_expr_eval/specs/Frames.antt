@@ -3,18 +3,18 @@ use Rattle.std.specs.Prelude.{◌≡◌, Bool, ℕ, ◌+◌, ◌<◌, ◌^◌, l
 use Rattle.esm_tree.specs.Syntax as ast
 use Rattle.esm_tree.specs.Flat.{part}
 use Rattle.esm_tree.specs.declared.node.ExprId.{ExprId}
-use Rattle.esm_values.specs.Plans.{Acting, Comes, Plan, Follows}
-use Rattle.esm_values.specs.Plans.Comes.{Goes, Leaves, Calls, Stops}
+use Rattle.esm_values.specs.Plans.{Acting, Rewritten, Plan, Follows}
+use Rattle.esm_values.specs.Plans.Rewritten.{Goes, Leaves, Calls, Stops}
 use Rattle.esm_values.specs.Operators.{Look, is_text, shown, operand}
-use Rattle.esm_values.specs.Code.{Worth, value_of, values_of, numbered}
-use Rattle.esm_expr_eval.specs.Terms.{Term, Terms, Compared, Links, term, terms, compared_terms, links}
+use Rattle.esm_values.specs.Code.{CodeValue, value_of, values_of, numbered}
+use Rattle.esm_expr_eval.specs.Terms.{Term, Terms, Compared, LinkTerms, term, terms, compared_terms, links}
 use Rattle.esm_expr_eval.specs.Terms.Term.{Val, Waits, Or, And, Equal, Sum, Not, Post, Print, NewError, Import}
 use Rattle.esm_expr_eval.specs.Terms.Terms.{more}
 use Rattle.esm_expr_eval.specs.Terms.Compared.{compared}
-use Rattle.esm_expr_eval.specs.Terms.Links.{call}
+use Rattle.esm_expr_eval.specs.Terms.LinkTerms.{call}
 use Rattle.esm_expr_eval.specs.Parts.{operands, from, compared_of, compared_from, links_of, links_from, arguments}
 use Rattle.esm_expr_eval.specs.Rewriting.{called, printed}
-use Rattle.esm_expr_eval.specs.Ends.{Leads, End}
+use Rattle.esm_expr_eval.specs.Ends.{Leads, TermEnd}
 use Rattle.esm_expr_eval.specs.declared.sums.Shown.{Shown}
 use Rattle.esm_expr_eval.specs.declared.world.Out.{Out}
 use Rattle.esm_expr_eval.specs.declared.world.Out.TheVariants as o
@@ -28,30 +28,30 @@ use Rattle.esm_expr_eval.specs.declared.world.ExprEnd.{ExprEnd}
 use Rattle.esm_expr_eval.specs.declared.world.ExprEnd.TheVariants as ends
 
 -- these values as arguments, then these arguments
-abbrev pub behind : List Worth → Terms Worth → Terms Worth
+abbrev pub behind : List CodeValue → Terms CodeValue → Terms CodeValue
 behind [] es = es
 behind (v ∷ vs) es = more (Val v) (behind vs es)
 
 abbrev pub operands_of : List ast.Expr → ExprId → ast.Exprs
 operands_of exprs at = operands (part exprs at)
 
-abbrev pub rest_operands : List ast.Expr → ExprId → ℕ → Terms Worth
+abbrev pub rest_operands : List ast.Expr → ExprId → ℕ → Terms CodeValue
 rest_operands exprs at n = terms numbered (from n (operands_of exprs at))
 
 abbrev pub comparisons_of : List ast.Expr → ExprId → ast.Compared
 comparisons_of exprs at = compared_of (part exprs at)
 
-abbrev pub rest_compared : List ast.Expr → ExprId → ℕ → Compared Worth
+abbrev pub rest_compared : List ast.Expr → ExprId → ℕ → Compared CodeValue
 rest_compared exprs at n = compared_terms numbered (compared_from n (comparisons_of exprs at))
 
-abbrev pub rest_links : List ast.Expr → ExprId → ℕ → Links Worth
+abbrev pub rest_links : List ast.Expr → ExprId → ℕ → LinkTerms CodeValue
 rest_links exprs at n = links numbered (links_from n (links_of (part exprs at)))
 
 abbrev pub arguments_of : List ast.Expr → ExprId → ℕ → ast.Exprs
 arguments_of exprs at link = arguments (links_from link (links_of (part exprs at)))
 
 -- the part in its place
-abbrev pub plug : List ast.Expr → Frame → Term Worth → Term Worth
+abbrev pub plug : List ast.Expr → Frame → Term CodeValue → Term CodeValue
 plug exprs (f.Or at n) t = Or t (rest_operands exprs at n)
 plug exprs (f.And at n) t = And t (rest_operands exprs at n)
 plug exprs (f.Equal at n) t = Equal t (rest_compared exprs at n)
@@ -68,11 +68,11 @@ plug exprs f.NewError t = NewError t
 plug exprs f.Import t = Import t
 
 -- in all frames, the outermost first
-unfoldable pub around : List ast.Expr → List Frame → Term Worth → Term Worth
+unfoldable pub around : List ast.Expr → List Frame → Term CodeValue → Term CodeValue
 around exprs [] t = t
 around exprs (frame ∷ frames) t = plug exprs frame (around exprs frames t)
 
-abbrev pub at_focus : List ast.Expr → Focus → Term Worth
+abbrev pub at_focus : List ast.Expr → Focus → Term CodeValue
 at_focus exprs (focus.Begin id) = term numbered (part exprs id)
 at_focus exprs (focus.Value v) = Val (value_of v)
 at_focus exprs focus.Waits = Waits
@@ -170,42 +170,42 @@ focus_work exprs (focus.Begin id) = size (part exprs id)
 focus_work exprs (focus.Value v) = 0
 focus_work exprs focus.Waits = 0
 
-module _ {W S : Type 0} (url : W → List ℕ) (acts : Acting W Worth S) where
+module _ {W S : Type 0} (url : W → List ℕ) (acts : Acting W CodeValue S) where
   -- what the second leads to, the first leads to
-  abbrev pub GoesOn : W → Term Worth → W → Term Worth → Type 0
-  GoesOn w t v u = (end : End Worth S) (after : W) → Leads numbered url acts v u end after → Leads numbered url acts w t end after
+  abbrev pub GoesOn : W → Term CodeValue → W → Term CodeValue → Type 0
+  GoesOn w t v u = (end : TermEnd CodeValue S) (after : W) → Leads numbered url acts v u end after → Leads numbered url acts w t end after
 
   -- how one turn ends
-  abbrev pub Tells : List ast.Expr → W → Term Worth → Result Next (ExprEnd S) → W → List Frame → Type 0
-  Tells exprs w t (Ok (next.Focus f)) after frames = GoesOn w t after (around exprs frames (at_focus exprs f))
-  Tells exprs w t (Ok (next.Done v)) after frames = Leads numbered url acts w t (End.Value (value_of v)) after
-  Tells exprs w t (Ok (next.Thrown v)) after frames = Leads numbered url acts w t (End.Thrown (value_of v)) after
-  Tells exprs w t (Ok (next.Call f vs)) after frames = Leads numbered url acts w t (End.Call (value_of f) (values_of vs.items)
+  abbrev pub EndsTurn : List ast.Expr → W → Term CodeValue → Result Next (ExprEnd S) → W → List Frame → Type 0
+  EndsTurn exprs w t (Ok (next.Focus f)) after frames = GoesOn w t after (around exprs frames (at_focus exprs f))
+  EndsTurn exprs w t (Ok (next.Done v)) after frames = Leads numbered url acts w t (TermEnd.Value (value_of v)) after
+  EndsTurn exprs w t (Ok (next.Thrown v)) after frames = Leads numbered url acts w t (TermEnd.Thrown (value_of v)) after
+  EndsTurn exprs w t (Ok (next.Call f vs)) after frames = Leads numbered url acts w t (TermEnd.Call (value_of f) (values_of vs.items)
       (around exprs frames Waits)) after
-  Tells exprs w t (Err (ends.Stopped why)) after frames = Leads numbered url acts w t (End.Stopped why) after
-  Tells exprs w t (Err ends.Memory) after frames = Unit {0}
+  EndsTurn exprs w t (Err (ends.Stopped why)) after frames = Leads numbered url acts w t (TermEnd.Stopped why) after
+  EndsTurn exprs w t (Err ends.Memory) after frames = Unit {0}
 
   -- what is planned of a value comes to this answer
-  abbrev pub Answers : W → ((Worth → Term Worth) → Plan Worth S (Term Worth)) → Result Out (ExprEnd S) → W → Type 0
-  Answers w plan (Ok (o.Value v)) after = (rest : Worth → Term Worth) → Follows acts w (plan rest) (Goes (rest (value_of v))) after
-  Answers w plan (Ok (o.Thrown v)) after = (rest : Worth → Term Worth) → Follows acts w (plan rest) (Leaves (value_of v)) after
-  Answers w plan (Err (ends.Stopped why)) after = (rest : Worth → Term Worth) → Follows acts w (plan rest) (Stops why) after
-  Answers w plan (Err ends.Memory) after = Unit {0}
+  abbrev pub AnswersPlan : W → ((CodeValue → Term CodeValue) → Plan CodeValue S (Term CodeValue)) → Result Out (ExprEnd S) → W → Type 0
+  AnswersPlan w plan (Ok (o.Value v)) after = (rest : CodeValue → Term CodeValue) → Follows acts w (plan rest) (Goes (rest (value_of v))) after
+  AnswersPlan w plan (Ok (o.Thrown v)) after = (rest : CodeValue → Term CodeValue) → Follows acts w (plan rest) (Leaves (value_of v)) after
+  AnswersPlan w plan (Err (ends.Stopped why)) after = (rest : CodeValue → Term CodeValue) → Follows acts w (plan rest) (Stops why) after
+  AnswersPlan w plan (Err ends.Memory) after = Unit {0}
 
   -- a call of these values comes to this answer, and its frame is there
-  abbrev pub IsCalled : W → List Frame → Frame → Worth → List Worth → Result Next (ExprEnd S) → W → List Frame → Type 0
+  abbrev pub IsCalled : W → List Frame → Frame → CodeValue → List CodeValue → Result Next (ExprEnd S) → W → List Frame → Type 0
   IsCalled w old frame f vs (Ok (next.Focus part)) after new = ⊥
   IsCalled w old frame f vs (Ok (next.Done v)) after new = ⊥
-  IsCalled w old frame f vs (Ok (next.Thrown v)) after new = (ls : Links Worth)
+  IsCalled w old frame f vs (Ok (next.Thrown v)) after new = (ls : LinkTerms CodeValue)
       → Follows acts w (called numbered f vs ls) (Leaves (value_of v)) after
   IsCalled w old frame f vs (Ok (next.Call g us)) after new = (value_of g ≡ f) × (values_of us.items ≡ vs) × (new ≡ old ++ frame ∷ [])
-      × ((ls : Links Worth) → Follows acts w (called numbered f vs ls) (Calls f vs (Post Waits ls)) after)
-  IsCalled w old frame f vs (Err (ends.Stopped why)) after new = (ls : Links Worth)
+      × ((ls : LinkTerms CodeValue) → Follows acts w (called numbered f vs ls) (Calls f vs (Post Waits ls)) after)
+  IsCalled w old frame f vs (Err (ends.Stopped why)) after new = (ls : LinkTerms CodeValue)
       → Follows acts w (called numbered f vs ls) (Stops why) after
   IsCalled w old frame f vs (Err ends.Memory) after new = Unit {0}
 
   -- what was printed comes to this answer
-  abbrev pub IsPrinted : W → List Worth → Result Next (ExprEnd S) → W → Type 0
+  abbrev pub IsPrinted : W → List CodeValue → Result Next (ExprEnd S) → W → Type 0
   IsPrinted w vs (Ok (next.Focus (focus.Value v))) after = Follows acts w (printed numbered vs) (Goes (Val (value_of v))) after
   IsPrinted w vs (Ok (next.Focus (focus.Begin id))) after = ⊥
   IsPrinted w vs (Ok (next.Focus focus.Waits)) after = ⊥
@@ -216,10 +216,10 @@ module _ {W S : Type 0} (url : W → List ℕ) (acts : Acting W Worth S) where
   IsPrinted w vs (Err ends.Memory) after = Unit {0}
 
   -- an operand of a sum is seen so, after what is asked for that
-  abbrev pub Sees : W → Worth → Result (Option Shown) (ExprEnd S) → W → Type 0
-  Sees w v (Ok s) mid = (l : Look) × IsShown l s × ((next : Look → Plan Worth S (Term Worth)) (c : Comes Worth S (Term Worth)) (after : W)
+  abbrev pub Sees : W → CodeValue → Result (Option Shown) (ExprEnd S) → W → Type 0
+  Sees w v (Ok s) mid = (l : Look) × IsShown l s × ((next : Look → Plan CodeValue S (Term CodeValue)) (c : Rewritten CodeValue S (Term CodeValue)) (after : W)
       → Follows acts mid (next l) c after → Follows acts w (operand numbered v (numbered.look v) next) c after)
-  Sees w v (Err (ends.Stopped why)) after = (next : Look → Plan Worth S (Term Worth))
+  Sees w v (Err (ends.Stopped why)) after = (next : Look → Plan CodeValue S (Term CodeValue))
       → Follows acts w (operand numbered v (numbered.look v) next) (Stops why) after
   Sees w v (Err ends.Memory) after = Unit {0}
 

@@ -5,8 +5,8 @@ use Rattle.esm_values.specs.Plans.{Acting}
 use Rattle.std.specs.Arc.{arc_value}
 use Rattle.esm_expr_eval.specs.Terms.{Term, fill}
 use Rattle.esm_expr_eval.specs.Terms.Term.{Val, Waits}
-use Rattle.esm_expr_eval.specs.Ends.{Leads, End}
-use Rattle.esm_values.specs.Code.{Worth, value_of, values_of, numbered}
+use Rattle.esm_expr_eval.specs.Ends.{Leads, TermEnd}
+use Rattle.esm_values.specs.Code.{CodeValue, value_of, values_of, numbered}
 use Rattle.esm_expr_eval.specs.Frames.{around, at_focus, AreFrames, IsFocus}
 use Rattle.esm_values.specs.declared.value.Value.{Value}
 use Rattle.esm_expr_eval.specs.declared.frame.Frame.{Frame}
@@ -18,26 +18,26 @@ use Rattle.esm_expr_eval.specs.declared.machine.Move.TheVariants as move
 use Rattle.esm_expr_eval.specs.declared.world.ExprEnd.{ExprEnd}
 use Rattle.esm_expr_eval.specs.declared.world.ExprEnd.TheVariants as ends
 
-module _ {W S : Type 0} (url : W → List ℕ) (acts : Acting W Worth S) where
+module _ {W S : Type 0} (url : W → List ℕ) (acts : Acting W CodeValue S) where
   -- the answer is that to which rewriting leads, and behind a call the rest is what remains
-  abbrev pub Comes_to : W → Term Worth → Result Move (ExprEnd S) → W → Term Worth → Type 0
-  Comes_to w t (Ok (move.Value v)) after rest = Leads numbered url acts w t (End.Value (value_of v)) after
-  Comes_to w t (Ok (move.Thrown v)) after rest = Leads numbered url acts w t (End.Thrown (value_of v)) after
-  Comes_to w t (Ok (move.Call f vs)) after rest = Leads numbered url acts w t (End.Call (value_of f) (values_of vs.items) rest) after
-  Comes_to w t (Err (ends.Stopped why)) after rest = Leads numbered url acts w t (End.Stopped why) after
-  Comes_to w t (Err ends.Memory) after rest = Unit {0}
+  abbrev pub LeadsToMove : W → Term CodeValue → Result Move (ExprEnd S) → W → Term CodeValue → Type 0
+  LeadsToMove w t (Ok (move.Value v)) after rest = Leads numbered url acts w t (TermEnd.Value (value_of v)) after
+  LeadsToMove w t (Ok (move.Thrown v)) after rest = Leads numbered url acts w t (TermEnd.Thrown (value_of v)) after
+  LeadsToMove w t (Ok (move.Call f vs)) after rest = Leads numbered url acts w t (TermEnd.Call (value_of f) (values_of vs.items) rest) after
+  LeadsToMove w t (Err (ends.Stopped why)) after rest = Leads numbered url acts w t (TermEnd.Stopped why) after
+  LeadsToMove w t (Err ends.Memory) after rest = Unit {0}
 
-  abbrev pub Moves : List ast.Expr → W → Term Worth → Result Move (ExprEnd S) → W → List Frame → Type 0
-  Moves exprs w t r after frames = Comes_to w t r after (around exprs frames Waits)
+  abbrev pub FramesLeadToMove : List ast.Expr → W → Term CodeValue → Result Move (ExprEnd S) → W → List Frame → Type 0
+  FramesLeadToMove exprs w t r after frames = LeadsToMove w t r after (around exprs frames Waits)
 
-abbrev pub Stays : {S : Type 0} → List ast.Expr → Result Move (ExprEnd S) → List Frame → Type 0
-Stays exprs (Ok (move.Value v)) frames = Unit {0}
-Stays exprs (Ok (move.Thrown v)) frames = Unit {0}
-Stays exprs (Ok (move.Call f vs)) frames = AreFrames (length exprs) frames
-Stays exprs (Err end) frames = Unit {0}
+abbrev pub KeepsFrames : {S : Type 0} → List ast.Expr → Result Move (ExprEnd S) → List Frame → Type 0
+KeepsFrames exprs (Ok (move.Value v)) frames = Unit {0}
+KeepsFrames exprs (Ok (move.Thrown v)) frames = Unit {0}
+KeepsFrames exprs (Ok (move.Call f vs)) frames = AreFrames (length exprs) frames
+KeepsFrames exprs (Err end) frames = Unit {0}
 
 -- what remains
-abbrev pub rest_of : ExprFrame → Term Worth
+abbrev pub rest_of : ExprFrame → Term CodeValue
 rest_of s = around (arc_value s.tree).exprs s.frames.items (at_focus (arc_value s.tree).exprs s.focus)
 
 abbrev pub IsSound : ExprFrame → Type 0
@@ -52,7 +52,7 @@ IsGiven (Some v) focus.Waits = Unit {0}
 IsGiven (Some v) (focus.Begin id) = ⊥
 IsGiven (Some v) (focus.Value u) = ⊥
 
-abbrev pub with_given : Option Value → Term Worth → Term Worth
+abbrev pub with_given : Option Value → Term CodeValue → Term CodeValue
 with_given None t = t
 with_given (Some v) t = fill (Val (value_of v)) t
 

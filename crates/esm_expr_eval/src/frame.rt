@@ -4,7 +4,7 @@ ghost use Rattle.esm_tree.specs.Flat.{part};
 ghost use Rattle.esm_values.specs.Code.{numbered, value_of, values_of};
 ghost use Rattle.esm_values.specs.Operators.{look_of, is_func};
 ghost use Rattle.esm_values.specs.Operators as operators;
-ghost use Rattle.esm_expr_eval.specs.Frames.{around, plug, AreFrames, IsFrame, frames_work, frame_work, Tells, Keeps, IsCalled, IsPrinted, Begins, size};
+ghost use Rattle.esm_expr_eval.specs.Frames.{around, plug, AreFrames, IsFrame, frames_work, frame_work, EndsTurn, Keeps, IsCalled, IsPrinted, Begins, size};
 ghost use Rattle.esm_expr_eval.specs.Terms.{Term, term};
 ghost use Rattle.esm_expr_eval.specs.Terms.Term.{Val};
 
@@ -97,7 +97,7 @@ fn or_on<W: World>(
 ) -> Result<Next, ExprEnd<W::Stop>>
     requires at { at.0 < length tree.now.exprs }
     requires frames { AreFrames (length tree.now.exprs) frames.old.items }
-    ensures tells { Tells W.url_of W.acts tree.now.exprs world.old
+    ensures tells { EndsTurn W.url_of W.acts tree.now.exprs world.old
         (around tree.now.exprs frames.old.items (plug tree.now.exprs (Frame.Or at next)
         (Val (value_of value)))) result world.new frames.new.items }
     ensures keeps { Keeps tree.now.exprs (frames_work tree.now.exprs frames.old.items + frame_work
@@ -127,7 +127,7 @@ fn and_on<W: World>(
 ) -> Result<Next, ExprEnd<W::Stop>>
     requires at { at.0 < length tree.now.exprs }
     requires frames { AreFrames (length tree.now.exprs) frames.old.items }
-    ensures tells { Tells W.url_of W.acts tree.now.exprs world.old
+    ensures tells { EndsTurn W.url_of W.acts tree.now.exprs world.old
         (around tree.now.exprs frames.old.items (plug tree.now.exprs (Frame.And at next)
         (Val (value_of value)))) result world.new frames.new.items }
     ensures keeps { Keeps tree.now.exprs (frames_work tree.now.exprs frames.old.items + frame_work
@@ -157,7 +157,7 @@ fn equal_on<W: World>(
 ) -> Result<Next, ExprEnd<W::Stop>>
     requires at { at.0 < length tree.now.exprs }
     requires frames { AreFrames (length tree.now.exprs) frames.old.items }
-    ensures tells { Tells W.url_of W.acts tree.now.exprs world.old
+    ensures tells { EndsTurn W.url_of W.acts tree.now.exprs world.old
         (around tree.now.exprs frames.old.items (plug tree.now.exprs (Frame.Equal at next)
         (Val (value_of value)))) result world.new frames.new.items }
     ensures keeps { Keeps tree.now.exprs (frames_work tree.now.exprs frames.old.items + frame_work
@@ -190,7 +190,7 @@ fn compared_on<W: World>(
 ) -> Result<Next, ExprEnd<W::Stop>>
     requires at { at.0 < length tree.now.exprs }
     requires frames { AreFrames (length tree.now.exprs) frames.old.items }
-    ensures tells { Tells W.url_of W.acts tree.now.exprs world.old
+    ensures tells { EndsTurn W.url_of W.acts tree.now.exprs world.old
         (around tree.now.exprs frames.old.items (plug tree.now.exprs
         (Frame.Compared at next alike left) (Val (value_of value))))
         result world.new frames.new.items }
@@ -217,7 +217,7 @@ fn sum_on<W: World>(
 ) -> Result<Next, ExprEnd<W::Stop>>
     requires at { at.0 < length tree.now.exprs }
     requires frames { AreFrames (length tree.now.exprs) frames.old.items }
-    ensures tells { Tells W.url_of W.acts tree.now.exprs world.old
+    ensures tells { EndsTurn W.url_of W.acts tree.now.exprs world.old
         (around tree.now.exprs frames.old.items (plug tree.now.exprs (Frame.Sum at next)
         (Val (value_of value)))) result world.new frames.new.items }
     ensures keeps { Keeps tree.now.exprs (frames_work tree.now.exprs frames.old.items + frame_work
@@ -243,7 +243,7 @@ fn added_on<W: World>(
 ) -> Result<Next, ExprEnd<W::Stop>>
     requires at { at.0 < length tree.now.exprs }
     requires frames { AreFrames (length tree.now.exprs) frames.old.items }
-    ensures tells { Tells W.url_of W.acts tree.now.exprs world.old
+    ensures tells { EndsTurn W.url_of W.acts tree.now.exprs world.old
         (around tree.now.exprs frames.old.items (plug tree.now.exprs (Frame.Added at next left)
         (Val (value_of value)))) result world.new frames.new.items }
     ensures keeps { Keeps tree.now.exprs (frames_work tree.now.exprs frames.old.items + frame_work
@@ -274,7 +274,7 @@ fn post_on<W: World>(
 ) -> Result<Next, ExprEnd<W::Stop>>
     requires at { at.0 < length tree.now.exprs }
     requires frames { AreFrames (length tree.now.exprs) frames.old.items }
-    ensures tells { Tells W.url_of W.acts tree.now.exprs world.old
+    ensures tells { EndsTurn W.url_of W.acts tree.now.exprs world.old
         (around tree.now.exprs frames.old.items (plug tree.now.exprs (Frame.Post at next)
         (Val (value_of value)))) result world.new frames.new.items }
     ensures keeps { Keeps tree.now.exprs (frames_work tree.now.exprs frames.old.items + frame_work
@@ -323,7 +323,7 @@ fn arguments_on<W: World>(
     requires at { at.0 < length tree.now.exprs }
     requires room { link + 1 < 2 ^ 64 }
     requires frames { AreFrames (length tree.now.exprs) frames.old.items }
-    ensures tells { Tells W.url_of W.acts tree.now.exprs world.old
+    ensures tells { EndsTurn W.url_of W.acts tree.now.exprs world.old
         (around tree.now.exprs frames.old.items (plug tree.now.exprs
         (Frame.Arguments at link next callee values) (Val (value_of value))))
         result world.new frames.new.items }
@@ -396,7 +396,7 @@ fn print_on<W: World>(
 ) -> Result<Next, ExprEnd<W::Stop>>
     requires at { at.0 < length tree.now.exprs }
     requires frames { AreFrames (length tree.now.exprs) frames.old.items }
-    ensures tells { Tells W.url_of W.acts tree.now.exprs world.old
+    ensures tells { EndsTurn W.url_of W.acts tree.now.exprs world.old
         (around tree.now.exprs frames.old.items (plug tree.now.exprs (Frame.Print at next values)
         (Val (value_of value)))) result world.new frames.new.items }
     ensures keeps { Keeps tree.now.exprs (frames_work tree.now.exprs frames.old.items + frame_work
@@ -433,7 +433,7 @@ fn not_on<W: World>(
     world: &mut W,
 ) -> Result<Next, ExprEnd<W::Stop>>
     requires frames { AreFrames (length tree.now.exprs) frames.old.items }
-    ensures tells { Tells W.url_of W.acts tree.now.exprs world.old
+    ensures tells { EndsTurn W.url_of W.acts tree.now.exprs world.old
         (around tree.now.exprs frames.old.items (plug tree.now.exprs Frame.Not
         (Val (value_of value)))) result world.new frames.new.items }
     ensures keeps { Keeps tree.now.exprs (frames_work tree.now.exprs frames.old.items + frame_work
@@ -453,7 +453,7 @@ fn error_on<W: World>(
     world: &mut W,
 ) -> Result<Next, ExprEnd<W::Stop>>
     requires frames { AreFrames (length tree.now.exprs) frames.old.items }
-    ensures tells { Tells W.url_of W.acts tree.now.exprs world.old
+    ensures tells { EndsTurn W.url_of W.acts tree.now.exprs world.old
         (around tree.now.exprs frames.old.items (plug tree.now.exprs Frame.NewError
         (Val (value_of value)))) result world.new frames.new.items }
     ensures keeps { Keeps tree.now.exprs (frames_work tree.now.exprs frames.old.items + frame_work
@@ -479,7 +479,7 @@ fn import_on<W: World>(
     world: &mut W,
 ) -> Result<Next, ExprEnd<W::Stop>>
     requires frames { AreFrames (length tree.now.exprs) frames.old.items }
-    ensures tells { Tells W.url_of W.acts tree.now.exprs world.old
+    ensures tells { EndsTurn W.url_of W.acts tree.now.exprs world.old
         (around tree.now.exprs frames.old.items (plug tree.now.exprs Frame.Import
         (Val (value_of value)))) result world.new frames.new.items }
     ensures keeps { Keeps tree.now.exprs (frames_work tree.now.exprs frames.old.items + frame_work
@@ -506,7 +506,7 @@ pub fn begin<W: World>(
 ) -> Result<Next, ExprEnd<W::Stop>>
     requires id { id.0 < length tree.now.exprs }
     requires frames { AreFrames (length tree.now.exprs) frames.old.items }
-    ensures tells { Tells W.url_of W.acts tree.now.exprs world.old
+    ensures tells { EndsTurn W.url_of W.acts tree.now.exprs world.old
         (around tree.now.exprs frames.old.items (term numbered (part tree.now.exprs id)))
         result world.new frames.new.items }
     ensures keeps { Keeps tree.now.exprs (frames_work tree.now.exprs frames.old.items + size
@@ -562,7 +562,7 @@ pub fn go_on<W: World>(
 ) -> Result<Next, ExprEnd<W::Stop>>
     requires frame { IsFrame (length tree.now.exprs) frame }
     requires frames { AreFrames (length tree.now.exprs) frames.old.items }
-    ensures tells { Tells W.url_of W.acts tree.now.exprs world.old
+    ensures tells { EndsTurn W.url_of W.acts tree.now.exprs world.old
         (around tree.now.exprs frames.old.items (plug tree.now.exprs frame (Val (value_of value))))
         result world.new frames.new.items }
     ensures keeps { Keeps tree.now.exprs (frames_work tree.now.exprs frames.old.items + frame_work

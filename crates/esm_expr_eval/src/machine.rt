@@ -2,8 +2,8 @@
 ghost use Rattle.std.specs.Prelude.{◌≡◌, ◌+◌, ◌<◌, length, IfOk, None};
 ghost use Rattle.std.specs.Arc.{arc_value};
 ghost use Rattle.esm_tree.specs.Flat.{part};
-ghost use Rattle.esm_expr_eval.specs.Frames.{around, at_focus, AreFrames, IsFocus, frames_work, focus_work, Tells, Keeps};
-ghost use Rattle.esm_expr_eval.specs.Machine.{Moves, Stays, Comes_to, rest_of, IsSound, IsGiven, with_given, StaysSound};
+ghost use Rattle.esm_expr_eval.specs.Frames.{around, at_focus, AreFrames, IsFocus, frames_work, focus_work, EndsTurn, Keeps};
+ghost use Rattle.esm_expr_eval.specs.Machine.{FramesLeadToMove, KeepsFrames, LeadsToMove, rest_of, IsSound, IsGiven, with_given, StaysSound};
 ghost use Rattle.esm_expr_eval.specs.Terms.{term};
 ghost use Rattle.esm_values.specs.Code.{numbered};
 
@@ -46,7 +46,7 @@ fn turn<W: World>(
 ) -> Result<Next, ExprEnd<W::Stop>>
     requires focus { IsFocus (length tree.now.exprs) focus }
     requires frames { AreFrames (length tree.now.exprs) frames.old.items }
-    ensures tells { Tells W.url_of W.acts tree.now.exprs world.old
+    ensures tells { EndsTurn W.url_of W.acts tree.now.exprs world.old
         (around tree.now.exprs frames.old.items (at_focus tree.now.exprs focus))
         result world.new frames.new.items }
     ensures keeps { Keeps tree.now.exprs (frames_work tree.now.exprs frames.old.items + focus_work
@@ -74,10 +74,10 @@ fn run<W: World>(
 ) -> Result<Move, ExprEnd<W::Stop>>
     requires focus { IsFocus (length tree.now.exprs) focus }
     requires frames { AreFrames (length tree.now.exprs) frames.old.items }
-    ensures moves { Moves W.url_of W.acts tree.now.exprs world.old
+    ensures moves { FramesLeadToMove W.url_of W.acts tree.now.exprs world.old
         (around tree.now.exprs frames.old.items (at_focus tree.now.exprs focus))
         result world.new frames.new.items }
-    ensures stays { Stays tree.now.exprs result frames.new.items }
+    ensures stays { KeepsFrames tree.now.exprs result frames.new.items }
 {
     let mut part = focus;
     loop {
@@ -115,7 +115,7 @@ impl ExprFrame {
     ) -> Result<Move, ExprEnd<W::Stop>>
         requires sound { IsSound self.old }
         requires given { IsGiven given self.old.focus }
-        ensures moves { Comes_to W.url_of W.acts world.old (with_given given (rest_of self.old))
+        ensures moves { LeadsToMove W.url_of W.acts world.old (with_given given (rest_of self.old))
             result world.new (rest_of self.new) }
         ensures sound { StaysSound result self.new }
     {

@@ -1,6 +1,6 @@
 // What operators make of values.
 ghost use Rattle.std.specs.Prelude.{◌≡◌, Some, None, codes, ◌||◌, []};
-ghost use Rattle.esm_expr_eval.specs.Frames.{Answers, Sees, IsShown, Copied};
+ghost use Rattle.esm_expr_eval.specs.Frames.{AnswersPlan, Sees, IsShown, Copied};
 ghost use Rattle.esm_values.specs.Operators.{Look, look_of, faults, made, joined, sum, new_error, error_of};
 ghost use Rattle.esm_values.specs.Code.{numbered, value_of};
 
@@ -24,7 +24,7 @@ pub fn throws<W: World>(
     message: &str,
     world: &mut W,
 ) -> Result<Out, ExprEnd<W::Stop>>
-    ensures { Answers W.url_of W.acts world.old (λ rest. faults numbered kind message.now)
+    ensures { AnswersPlan W.url_of W.acts world.old (λ rest. faults numbered kind message.now)
         result world.new }
 {
     match world.fault(kind, message) {
@@ -68,7 +68,7 @@ fn see<W: World>(
 
 /// A text of a sum: its length is looked at first, then 64 of its bytes cost a step.
 fn make<W: World>(text: RcText, world: &mut W) -> Result<Out, ExprEnd<W::Stop>>
-    ensures { Answers W.url_of W.acts world.old (λ rest. made numbered rest (Some text))
+    ensures { AnswersPlan W.url_of W.acts world.old (λ rest. made numbered rest (Some text))
         result world.new }
 {
     let len = text.as_str().len();
@@ -96,7 +96,7 @@ fn made_of<W: World>(
     world: &mut W,
 ) -> Result<Out, ExprEnd<W::Stop>>
     ensures { (l : Look) (m : Look) → IsShown l left → IsShown m right
-        → Answers W.url_of W.acts world.old (λ rest. made numbered rest (joined l m))
+        → AnswersPlan W.url_of W.acts world.old (λ rest. made numbered rest (joined l m))
         result world.new }
 {
     match left {
@@ -124,7 +124,7 @@ pub fn sum_of<W: World>(
     right: &Value,
     world: &mut W,
 ) -> Result<Out, ExprEnd<W::Stop>>
-    ensures { Answers W.url_of W.acts world.old (λ rest. sum numbered (value_of left.now)
+    ensures { AnswersPlan W.url_of W.acts world.old (λ rest. sum numbered (value_of left.now)
         (value_of right.now) rest) result world.new }
 {
     match see(alloc, left, world) {
@@ -138,7 +138,7 @@ pub fn sum_of<W: World>(
 
 /// A new error with this message.
 fn error_with<W: World>(message: &str, world: &mut W) -> Result<Out, ExprEnd<W::Stop>>
-    ensures { Answers W.url_of W.acts world.old (λ rest. new_error numbered rest message.now)
+    ensures { AnswersPlan W.url_of W.acts world.old (λ rest. new_error numbered rest message.now)
         result world.new }
 {
     match world.fault(FaultKind::Error, message) {
@@ -149,7 +149,7 @@ fn error_with<W: World>(message: &str, world: &mut W) -> Result<Out, ExprEnd<W::
 
 /// `new Error` of a value, behind its step.
 pub fn error_from<W: World>(value: &Value, world: &mut W) -> Result<Out, ExprEnd<W::Stop>>
-    ensures { Answers W.url_of W.acts world.old (λ rest. error_of numbered rest (value_of value.now)
+    ensures { AnswersPlan W.url_of W.acts world.old (λ rest. error_of numbered rest (value_of value.now)
         (look_of (value_of value.now))) result world.new }
 {
     match value {

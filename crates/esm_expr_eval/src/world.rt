@@ -22,8 +22,8 @@ pub enum ExprEnd<T> {
 /// What an expression reads and does outside itself. Each call is one step of the relation `acts`.
 pub trait World: Drop {
     ghost use Rattle.std.specs.Prelude.{◌≡◌, ℕ, List, Result, map};
-    ghost use Rattle.esm_values.specs.Code.{Worth, value_of, values_of, valued};
-    ghost use Rattle.esm_values.specs.Acts.{Act, Answer};
+    ghost use Rattle.esm_values.specs.Code.{CodeValue, value_of, values_of, valued};
+    ghost use Rattle.esm_values.specs.Acts.{Act, AnswerTo};
     ghost use Rattle.esm_values.specs.Acts.{Act as act};
     ghost use Rattle.esm_expr_eval.specs.Instance.{said};
 
@@ -31,7 +31,7 @@ pub trait World: Drop {
     type Stop: Drop;
 
     /// One step: what is held, the call, its answer, and what is held afterwards.
-    ghost acts: { Self → (a : Act Worth) → Result (Answer a) Self.Stop → Self → Type 0 };
+    ghost acts: { Self → (a : Act CodeValue) → Result (AnswerTo a) Self.Stop → Self → Type 0 };
 
     /// The URL of the module in which the expression stands written.
     ghost url_of: { Self → List ℕ };

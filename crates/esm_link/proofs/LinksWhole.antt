@@ -1,13 +1,14 @@
 -- Without a fault each module that the walk has left is closed.
 use Rattle.std.proofs.Common.{◌≡◌, Bool, true, List, [], ◌∷◌, ◌++◌, None, subst, sym}
-use Rattle.esm_realm.specs.Walk.{Mark, is_in}
+use Rattle.esm_realm.specs.Walk.{Mark}
+use Rattle.esm_base.specs.Lists.{is_in, IsSameness}
 use Rattle.esm_realm.specs.Components.{opened_before, opened_from}
 use Rattle.esm_realm.proofs.OneWalk.{walk_one}
 use Rattle.esm_realm.proofs.Lists.{either, in_left, in_right, in_split, in_first, in_cons, split_is}
 use Rattle.esm_env.specs.Modules.{Modules}
-use Rattle.esm_link.specs.Link.{targets, Links}
-use Rattle.esm_link.specs.Link.Links.{done, enters, passes, stays, component}
-use Rattle.esm_link.specs.Laws.{Decides, LinksWhole, entered}
+use Rattle.esm_link.specs.Link.{targets, LinksMarks}
+use Rattle.esm_link.specs.Link.LinksMarks.{done, enters, passes, stays, component}
+use Rattle.esm_link.specs.Laws.{LinksWhole, entered}
 
 module _ {N : Type 0} (same : N → N → Bool) (g : Modules N) (d : Decides N same) where
   abbrev In : List N → N → Type 0
@@ -19,7 +20,7 @@ module _ {N : Type 0} (same : N → N → Bool) (g : Modules N) (d : Decides N s
     closes : (y : N) → In closed y → In after y
     enters_all : (y : N) → In (entered ms) y → In after y
 
-  links_all : {opened closed : List N} {ms : List (Mark N)} {after : List N} → Links same g opened closed ms None after → All opened closed ms after
+  links_all : {opened closed : List N} {ms : List (Mark N)} {after : List N} → LinksMarks same g opened closed ms None after → All opened closed ms after
   links_all done = record { opens = λ y h. cc; closes = λ y h. h; enters_all = λ y h. cc }
   links_all (enters {opened = opened} {x = x} {ms = ms} p) =
       let a = links_all p in

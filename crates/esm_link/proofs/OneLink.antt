@@ -8,8 +8,8 @@ use Rattle.esm_realm.specs.Walk.{Mark}
 use Rattle.esm_realm.proofs.OneWalk.{walk_one}
 use Rattle.esm_link.specs.Faults.{FaultAt, ExportFault, ImportFault, FirstFault, export_fault, import_fault}
 use Rattle.esm_link.specs.Faults.FirstFault.{of_exports, of_imports}
-use Rattle.esm_link.specs.Link.{targets, Links, IsLinking}
-use Rattle.esm_link.specs.Link.Links.{done, enters, passes, fails, stays, component}
+use Rattle.esm_link.specs.Link.{targets, LinksMarks, IsLinking}
+use Rattle.esm_link.specs.Link.LinksMarks.{done, enters, passes, fails, stays, component}
 use Rattle.esm_link.specs.Laws.{OneLinking}
 
 module _ {N : Type 0} (g : Modules N) (x : N) where
@@ -42,7 +42,7 @@ module _ {N : Type 0} (g : Modules N) (x : N) where
   fault_one (of_imports p h) (of_imports q k) = import_one h k
 
 module _ {N : Type 0} (same : N → N → Bool) (g : Modules N) where
-  links_one : {opened closed x y : List N} {ms : List (Mark N)} {a b : Option (FaultAt N)} → Links same g opened closed ms a x → Links same g opened closed ms b y → (b ≡ a) × (y ≡ x)
+  links_one : {opened closed x y : List N} {ms : List (Mark N)} {a b : Option (FaultAt N)} → LinksMarks same g opened closed ms a x → LinksMarks same g opened closed ms b y → (b ≡ a) × (y ≡ x)
   links_one done done = (refl, refl)
   links_one (enters p) (enters q) = links_one p q
   links_one (passes p) (passes q) = links_one p q
@@ -57,7 +57,7 @@ module _ {N : Type 0} (same : N → N → Bool) (g : Modules N) where
   links_one (component n c p) (component m d q) = links_one p q
 
   pub linking_one : {closed x y : List N} {root : N} {a b : Option (FaultAt N)} → IsLinking same g closed root a x → IsLinking same g closed root b y → (b ≡ a) × (y ≡ x)
-  linking_one {closed} {y = y} {b = b} p q = links_one p.links (subst (λ ms. Links same g [] closed ms b y) (walk_one same (targets g) q.walk p.walk) q.links)
+  linking_one {closed} {y = y} {b = b} p q = links_one p.links (subst (λ ms. LinksMarks same g [] closed ms b y) (walk_one same (targets g) q.walk p.walk) q.links)
 
 pub one_linking : (N : Type 0) → OneLinking N
 one_linking N same g closed root one other x y p q = linking_one same g p q

@@ -16,7 +16,7 @@ use Rattle.esm_resolve.specs.declared.graph.Resolution.TheVariants.{Missing}
 use Rattle.esm_env.specs.Modules.{entries, graph, Exports}
 use Rattle.esm_link.specs.Faults.{ExportFault, ImportFault, FirstFault}
 use Rattle.esm_link.specs.Link.{targets}
-use Rattle.esm_link.specs.Link.Links.{enters, passes, fails, component}
+use Rattle.esm_link.specs.Link.LinksMarks.{enters, passes, fails, component}
 use Rattle.esm_link.specs.Examples.{unbound, unbound_x, needy, needy_n, UnboundCycle, ClosedBeforeFault}
 
 no_member : {A : Type 0} (x : A) → Contains [] x → ⊥

@@ -1,6 +1,7 @@
 -- The laws of linking, for modules with names of any kind.
 use Rattle.std.specs.Prelude.{◌≡◌, Bool, true, List, [], ◌∷◌, Option, None}
-use Rattle.esm_realm.specs.Walk.{Mark, Enter, Pass, Leave, IsWalkOf, is_in}
+use Rattle.esm_realm.specs.Walk.{Mark, Enter, Pass, Leave, IsWalkOf}
+use Rattle.esm_base.specs.Lists.{is_in}
 use Rattle.esm_env.specs.Modules.{Modules}
 use Rattle.esm_link.specs.Faults.{FaultAt}
 use Rattle.esm_link.specs.Link.{targets, IsLinking}

@@ -15,28 +15,28 @@ module _ {N : Type 0} (g : Modules N) where
   targets x = targets_from x 0 (entries g x).requests
 
 module _ {N : Type 0} (same : N → N → Bool) (g : Modules N) where
-  -- Links opened closed marks fault after: with these modules on the stack, and those closed, the marks of the walk come to this fault,
+  -- LinksMarks opened closed marks fault after: with these modules on the stack, and those closed, the marks of the walk come to this fault,
   -- or to none, and then the modules of `after` are closed
-  pub data Links : List N → List N → List (Mark N) → Option (FaultAt N) → List N → Type 0 where
-    done : {closed : List N} → Links [] closed [] None closed
+  pub data LinksMarks : List N → List N → List (Mark N) → Option (FaultAt N) → List N → Type 0 where
+    done : {closed : List N} → LinksMarks [] closed [] None closed
     enters : {opened closed after : List N} {x : N} {ms : List (Mark N)} {f : Option (FaultAt N)}
-        → Links (opened ++ x ∷ []) closed ms f after → Links opened closed (Enter x ∷ ms) f after
+        → LinksMarks (opened ++ x ∷ []) closed ms f after → LinksMarks opened closed (Enter x ∷ ms) f after
     passes : {opened closed after : List N} {x : N} {i : ℕ} {ms : List (Mark N)} {f : Option (FaultAt N)}
-        → Links opened closed ms f after → Links opened closed (Pass x i ∷ ms) f after
+        → LinksMarks opened closed ms f after → LinksMarks opened closed (Pass x i ∷ ms) f after
     -- InitializeEnvironment throws: Link makes each module of the stack Unlinked again
     fails : {opened closed : List N} {x : N} {ms : List (Mark N)} {f : FaultAt N} → FirstFault g x (Some f)
-        → Links opened closed (Leave x ∷ ms) (Some f) closed
+        → LinksMarks opened closed (Leave x ∷ ms) (Some f) closed
     stays : {opened closed after : List N} {x : N} {ms : List (Mark N)} {f : Option (FaultAt N)} → FirstFault g x None
-        → closes same (targets g) opened x ≡ false → Links opened closed ms f after → Links opened closed (Leave x ∷ ms) f after
+        → closes same (targets g) opened x ≡ false → LinksMarks opened closed ms f after → LinksMarks opened closed (Leave x ∷ ms) f after
     -- the modules of the component are linked
     component : {opened closed after : List N} {x : N} {ms : List (Mark N)} {f : Option (FaultAt N)} → FirstFault g x None
         → closes same (targets g) opened x ≡ true
-        → Links (opened_before same opened x) (closed ++ opened_from same opened x) ms f after
-        → Links opened closed (Leave x ∷ ms) f after
+        → LinksMarks (opened_before same opened x) (closed ++ opened_from same opened x) ms f after
+        → LinksMarks opened closed (Leave x ∷ ms) f after
 
   -- linking the root, where the modules of `closed` are all those that aren't Unlinked: the first fault in the order in which modules
   -- are left, or none. What `after` has beyond `closed` is Linked then, and every other module is as it was
   pub record IsLinking (closed : List N) (root : N) (fault : Option (FaultAt N)) (after : List N) : Type 0 where
     pub marks : List (Mark N)
     pub walk : IsWalkOf same (targets g) closed root marks
-    pub links : Links [] closed marks fault after
+    pub links : LinksMarks [] closed marks fault after

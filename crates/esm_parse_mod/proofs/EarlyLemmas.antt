@@ -14,7 +14,8 @@ use Rattle.esm_tree.specs.declared.node.ImportBinding.{ImportBinding}
 use Rattle.esm_tree.specs.declared.node.ExportSpecifier.{ExportSpecifier}
 use Rattle.esm_tree.specs.Syntax.{Expr, Stmt, Item}
 use Rattle.esm_tree.specs.Flat.{stmt_of, item_of, item_need, items_of, items_need, AllAtMost}
-use Rattle.esm_grammar.specs.Names.{Text, has_text, declared_names}
+use Rattle.esm_grammar.specs.Names.{has_text, declared_names}
+use Rattle.esm_base.specs.Urls.{Text}
 use Rattle.esm_grammar.specs.EarlyErrors.{exported_of, exported_names, declared_of, module_names, statement_exported, listed_of, listed_in, item_scopes, module_scopes, exports_twice, lists_no_name, lists_undeclared, declares_twice, declares_twice_inside, declares_parameter, exports_then, has_early_error, has_repeat}
 use Rattle.esm_parse_mod.specs.Inner.Names.{any_clashes, is_unlisted, any_item_wrong, texts, IsSetOf}
 use Rattle.esm_parse_mod.proofs.NamesLemmas.{any_append, any_both, scope_errors}

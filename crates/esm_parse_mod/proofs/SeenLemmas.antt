@@ -11,7 +11,8 @@ use Rattle.std.specs.Str.{bytes_eq}
 use Rattle.std.specs.Borrow.{Bor}
 use Rattle.std.specs.List.{list_any}
 use Rattle.std.proofs.lemmas.Slice.Eq.{bytes_eq-Decides}
-use Rattle.esm_grammar.specs.Names.{Text, has_text}
+use Rattle.esm_grammar.specs.Names.{has_text}
+use Rattle.esm_base.specs.Urls.{Text}
 use Rattle.esm_tree.specs.Syntax.{Expr, Stmt, Stmts}
 use Rattle.esm_tree.specs.Flat.{stmt_of, stmt_part, stmt_parts, stmts_need, AllStmtsBelow, item_of}
 use Rattle.esm_tree.specs.declared.node.StmtId.{StmtId}

@@ -2,7 +2,7 @@
 use Rattle.std.proofs.Common.{◌≡◌, Bool, true, false, List, [], ◌∷◌, ◌++◌, refl, ap, subst, sym, ◌∙◌, inl, inr}
 use Rattle.std.specs.Prelude.{◌⊎◌, ◌||◌}
 use Rattle.std.specs.List.{list_any}
-use Rattle.esm_realm.specs.Walk.{is_in}
+use Rattle.esm_base.specs.Lists.{is_in}
 use Rattle.esm_realm.specs.Components.{opened_before, before_by, opened_from, onwards_by}
 use Rattle.esm_realm.proofs.Urls.{cases, or_true, or_left, or_cases, or_false, both_false, not_both}
 

@@ -4,7 +4,8 @@
 use Rattle.std.specs.Prelude.{◌≡◌, ℕ, Bool, true, false, not, nat_eq, List, [], ◌∷◌, ◌++◌}
 use Rattle.std.specs.List.{list_any}
 use Rattle.esm_base.specs.Urls.{Url, same_url}
-use Rattle.esm_realm.specs.Walk.{Mark, Enter, Pass, Leave, is_in, IsWalkOf}
+use Rattle.esm_realm.specs.Walk.{Mark, Enter, Pass, Leave, IsWalkOf}
+use Rattle.esm_base.specs.Lists.{is_in}
 
 module _ {N : Type 0} (same : N → N → Bool) where
   abbrev pub before_by : Bool → N → List N → List N

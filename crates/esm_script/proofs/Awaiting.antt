@@ -13,7 +13,7 @@ use Rattle.esm_tree.specs.declared.node.ItemNode.{ItemNode}
 use Rattle.esm_tree.specs.declared.node.ItemNode.TheVariants as i
 use Rattle.esm_tree.specs.Syntax.{Expr, Stmt}
 use Rattle.esm_tree.specs.Flat.{init_of, bindings_of, stmt_of, stmt_part, stmt_parts, AllStmtsBelow, item_of, items_of}
-use Rattle.esm_grammar.specs.Names.{Text}
+use Rattle.esm_base.specs.Urls.{Text}
 use Rattle.esm_ast.specs.Entries.{init_awaits, bindings_await, stmt_awaits, stmts_await, item_awaits}
 use Rattle.esm_script.proofs.Items.{at_is, past}
 

@@ -14,7 +14,8 @@ use Rattle.esm_tree.specs.declared.node.ItemNode.{ItemNode}
 use Rattle.esm_tree.specs.declared.node.ItemNode.TheVariants as i
 use Rattle.esm_tree.specs.Syntax.{Expr, Stmt}
 use Rattle.esm_tree.specs.Flat.{bindings_of, stmt_of, item_of, items_of, item_need, AllAtMost}
-use Rattle.esm_grammar.specs.Names.{Text, names_of, declared_names}
+use Rattle.esm_grammar.specs.Names.{names_of, declared_names}
+use Rattle.esm_base.specs.Urls.{Text}
 use Rattle.esm_ast.specs.declared.entries.ImportEntry.{ImportEntry}
 use Rattle.esm_ast.specs.declared.entries.LocalExport.{LocalExport}
 use Rattle.esm_ast.specs.declared.entries.IndirectExport.{IndirectExport}

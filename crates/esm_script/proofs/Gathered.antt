@@ -2,7 +2,7 @@
 use Rattle.std.proofs.Common.{◌≡◌, List, ap, ◌∙◌}
 use Rattle.std.specs.List.{list_any}
 use Rattle.esm_tree.specs.Syntax.{Item}
-use Rattle.esm_grammar.specs.Names.{Text}
+use Rattle.esm_base.specs.Urls.{Text}
 use Rattle.esm_ast.specs.declared.entries.ImportEntry.{ImportEntry}
 use Rattle.esm_ast.specs.Entries.{EntryLists, requests_of, all_imports, all_exports, locals_of, indirects_of, stars_of, item_awaits, entries_with, entries_of}
 

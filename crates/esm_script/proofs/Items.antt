@@ -11,7 +11,7 @@ use Rattle.esm_tree.specs.declared.node.ItemNode.{ItemNode}
 use Rattle.esm_tree.specs.declared.node.ItemNode.TheVariants as i
 use Rattle.esm_tree.specs.Syntax.{Stmt, Item, ExportAll}
 use Rattle.esm_tree.specs.Flat.{item_of, items_of}
-use Rattle.esm_grammar.specs.Names.{Text}
+use Rattle.esm_base.specs.Urls.{Text}
 use Rattle.esm_ast.specs.declared.entries.ImportEntry.{ImportEntry}
 use Rattle.esm_ast.specs.Entries.{request_of, add_request, requests_after, imports_of, all_imports, stars_of}
 

@@ -5,7 +5,8 @@ ghost use Rattle.esm_tree.specs.Syntax.{Expr};
 ghost use Rattle.esm_grammar.specs.Names.{names_of};
 ghost use Rattle.esm_ast.specs.declared.entries.ImportEntry.{ImportEntry as Entry};
 ghost use Rattle.esm_ast.specs.Entries as entries;
-ghost use Rattle.esm_ast.specs.Entries.{default_export, or_star_default, star_default, own_export, statement_exports, all_exports, locals_of, indirects_of};
+ghost use Rattle.esm_ast.specs.Entries.{default_export, own_export, statement_exports, all_exports, locals_of, indirects_of};
+ghost use Rattle.esm_base.specs.DefaultExport.{or_star_default, star_default};
 ghost use Rattle.esm_script.specs.Inner.{Adds, IsIndexOf};
 
 use crate::index::ImportIndex;

@@ -1,16 +1,16 @@
 -- What is asked of a world has one outcome where each call has one.
 use Rattle.std.proofs.Common.{◌≡◌, refl, ap, subst}
 use Rattle.std.specs.Prelude.{Result}
-use Rattle.esm_values.specs.Acts.{Act, Answer}
-use Rattle.esm_values.specs.Plans.{Acting, Comes, Plan, Follows}
-use Rattle.esm_values.specs.Plans.Comes.{Stops}
+use Rattle.esm_values.specs.Acts.{Act, AnswerTo}
+use Rattle.esm_values.specs.Plans.{Acting, Rewritten, Plan, Follows}
+use Rattle.esm_values.specs.Plans.Rewritten.{Stops}
 use Rattle.esm_values.specs.Plans.Follows.{ends, asks, stops}
 
 pub record ActsOne {W V S : Type 0} (acts : Acting W V S) : Type 0 where
-  pub one : {w x y : W} {a : Act V} {r s : Result (Answer a) S} → acts w a r x → acts w a s y → (s ≡ r) × (y ≡ x)
+  pub one : {w x y : W} {a : Act V} {r s : Result (AnswerTo a) S} → acts w a r x → acts w a s y → (s ≡ r) × (y ≡ x)
 
 module _ {W V S A : Type 0} (acts : Acting W V S) (h : ActsOne acts) where
-  pub follows_one : {w x y : W} {p : Plan V S A} {c d : Comes V S A} → Follows acts w p c x → Follows acts w p d y → (d ≡ c) × (y ≡ x)
+  pub follows_one : {w x y : W} {p : Plan V S A} {c d : Rewritten V S A} → Follows acts w p c x → Follows acts w p d y → (d ≡ c) × (y ≡ x)
   follows_one ends ends = (refl, refl)
   follows_one {y = y} {d = d} (asks {mid = mid} {next = next} r a f) (asks s b g) =
       let k = h.one a b in

@@ -21,11 +21,11 @@ pub data Act (V : Type 0) : Type 0 where
   Import : (of : V) → Act V
 
 -- the answer of each
-abbrev pub Answer : {V : Type 0} → Act V → Type 0
-Answer {V} (Read name) = Completion V
-Answer {V} (Member of name) = Completion V
-Answer {V} (Display of) = List ℕ
-Answer {V} (Print vs) = Unit {0}
-Answer {V} (Fault kind message) = V
-Answer {V} (Step steps) = Unit {0}
-Answer {V} (Import of) = V
+abbrev pub AnswerTo : {V : Type 0} → Act V → Type 0
+AnswerTo {V} (Read name) = Completion V
+AnswerTo {V} (Member of name) = Completion V
+AnswerTo {V} (Display of) = List ℕ
+AnswerTo {V} (Print vs) = Unit {0}
+AnswerTo {V} (Fault kind message) = V
+AnswerTo {V} (Step steps) = Unit {0}
+AnswerTo {V} (Import of) = V

@@ -9,10 +9,10 @@ use Rattle.esm_values.specs.declared.value.Ran.{Ran}
 use Rattle.esm_values.specs.declared.value.Ran.TheVariants as r
 
 -- a value of the language whose modules have numbers
-abbrev pub Worth : Type 0
-Worth = value.Value ℕ
+abbrev pub CodeValue : Type 0
+CodeValue = value.Value ℕ
 
-abbrev pub value_of : Value → Worth
+abbrev pub value_of : Value → CodeValue
 value_of v.Undefined = value.Undefined
 value_of (v.Bool b) = value.Truth b
 value_of (v.Text t) = value.Text t
@@ -21,17 +21,17 @@ value_of (v.Error e) = value.Error e.0
 value_of (v.Namespace m) = value.Namespace m.0
 value_of (v.Promise p) = value.Promise p.0
 
-abbrev pub values_of : List Value → List Worth
+abbrev pub values_of : List Value → List CodeValue
 values_of vs = map value_of vs
 
-abbrev pub ran_of : Ran → ran.Ran Worth
+abbrev pub ran_of : Ran → ran.Ran CodeValue
 ran_of r.Normal = ran.Normal
 ran_of (r.Thrown v) = ran.Thrown (value_of v)
 
 -- the language over values with numbered modules
-abbrev pub numbered : Values Worth
+abbrev pub numbered : Values CodeValue
 numbered = values nat_eq
 
-abbrev pub valued : {S : Type 0} → Result Value S → Result Worth S
+abbrev pub valued : {S : Type 0} → Result Value S → Result CodeValue S
 valued (Ok v) = Ok (value_of v)
 valued (Err why) = Err why

@@ -7,7 +7,7 @@ use Rattle.esm_values.specs.Display.{truth_text}
 use Rattle.esm_values.specs.Completion.{Completion, Normal, Throw}
 use Rattle.esm_values.specs.Acts.Act.{Display, Fault, Step}
 use Rattle.esm_values.specs.Plans.{Plan}
-use Rattle.esm_values.specs.Plans.Comes.{Goes, Leaves}
+use Rattle.esm_values.specs.Plans.Rewritten.{Goes, Leaves}
 use Rattle.esm_values.specs.Plans.Plan.{Ends, Asks}
 use Rattle.esm_values.specs.declared.errors.FaultKind.{FaultKind}
 use Rattle.esm_values.specs.declared.errors.FaultKind.TheVariants as kinds

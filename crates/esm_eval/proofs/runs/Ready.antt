@@ -1,7 +1,7 @@
 -- A module that is ready and throws, state by state.
 use Rattle.std.proofs.Common.{◌≡◌, true, false, [], ◌∷◌, Some, None, refl}
 use Rattle.std.specs.Prelude.{Ok}
-use Rattle.esm_realm.specs.Walk.{is_in}
+use Rattle.esm_base.specs.Lists.{is_in}
 use Rattle.esm_realm.specs.Walk.Mark.{Enter, Pass, Leave}
 use Rattle.esm_realm.specs.Walk.Visits.{known, fresh}
 use Rattle.esm_realm.specs.Walk.Passes.{all, next}

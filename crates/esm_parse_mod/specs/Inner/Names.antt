@@ -8,7 +8,8 @@ use Rattle.esm_tree.specs.Syntax.{Item}
 use Rattle.std.specs.List.{list_any}
 use Rattle.std.specs.Borrow.{Bor}
 use Rattle.esm_tree.specs.declared.node.LexicalBinding.{LexicalBinding}
-use Rattle.esm_grammar.specs.Names.{Text, has_text}
+use Rattle.esm_grammar.specs.Names.{has_text}
+use Rattle.esm_base.specs.Urls.{Text}
 use Rattle.esm_grammar.specs.EarlyErrors.{Scope, has_repeat, listed_of, item_scopes}
 
 unfoldable pub texts : List (Bor Text) → List Text

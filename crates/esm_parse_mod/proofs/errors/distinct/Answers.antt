@@ -6,7 +6,7 @@ use Rattle.std.specs.Cmp.Lexicographic.{slice_cmp}
 use Rattle.std.specs.BTreeMap.{is_at}
 use Rattle.std.specs.BTreeSet.{contains}
 use Rattle.std.proofs.lemmas.Map.Text.{is_eq-slice_cmp}
-use Rattle.esm_grammar.specs.Names.{Text}
+use Rattle.esm_base.specs.Urls.{Text}
 use Rattle.esm_parse_mod.proofs.StatementLemmas.{not_so, so}
 use Rattle.esm_parse_mod.proofs.NamesLemmas.{at_is, past, get_or_any}
 use Rattle.esm_parse_mod.proofs.SeenLemmas.{Seen, seen_none, seen_twice, seen_more, seen_all, seen_same}

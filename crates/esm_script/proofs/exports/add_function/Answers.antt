@@ -1,4 +1,4 @@
-use Rattle.esm_ast.specs.Entries.{or_star_default}
+use Rattle.esm_base.specs.DefaultExport.{or_star_default}
 use Rattle.esm_script.proofs.exports.add_function.Goals as goal
 
 pub returns-in_ok-local-in-Some : goal.returns-in_ok-local-in-Some

@@ -1,4 +1,4 @@
-use Rattle.esm_ast.specs.Entries.{star_default}
+use Rattle.esm_base.specs.DefaultExport.{star_default}
 use Rattle.esm_script.proofs.exports.add_value.Goals as goal
 
 pub returns : goal.returns

@@ -2,7 +2,7 @@
 use Rattle.std.specs.Prelude.{◌≡◌, ℕ, List, Option, Some, None}
 use Rattle.esm_env.specs.declared.envs.Envs.{Envs}
 use Rattle.std.specs.Borrow.{Bor}
-use Rattle.esm_values.specs.Code.{Worth, value_of}
+use Rattle.esm_values.specs.Code.{CodeValue, value_of}
 use Rattle.esm_values.specs.declared.value.Value.{Value}
 use Rattle.esm_env.specs.Cells.{Reading, read_cell}
 use Rattle.esm_env.specs.Cells.{Reading as reading}
@@ -14,7 +14,7 @@ use Rattle.esm_env.specs.declared.scope.Read.TheVariants as reads
 use Rattle.esm_env.specs.declared.scope.Wrote.{Wrote}
 use Rattle.esm_env.specs.declared.scope.Wrote.TheVariants as wrote
 
-abbrev pub told_read : Read → Reading Worth
+abbrev pub told_read : Read → Reading CodeValue
 told_read (reads.Value r) = reading.Value (value_of r.now)
 told_read reads.Unset = reading.Unset
 told_read reads.Undeclared = reading.Undeclared
@@ -27,7 +27,7 @@ abbrev pub IsTarget : Scopes → ℕ → List ℕ → Option (Bor Target) → Ty
 IsTarget e m x None = import_of (scope_in e m) x ≡ None
 IsTarget e m x (Some r) = import_of (scope_in e m) x ≡ Some r.now
 
-abbrev pub read_own : Scopes → ℕ → List ℕ → Reading Worth
+abbrev pub read_own : Scopes → ℕ → List ℕ → Reading CodeValue
 read_own e m x = read_cell (own_cell e m x)
 
 abbrev pub IsWrittenBy : Option ModuleScope → List ℕ → Value → Wrote → Option ModuleScope → Type 0
