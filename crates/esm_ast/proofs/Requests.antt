@@ -190,6 +190,8 @@ names_requests items =
     let imports = imports_below requests items asked in
     record {
       imports = imports;
-      indirects = indirects_below requests _ (all_below requests (all_imports requests items) imports items asked);
-      stars = stars_below requests items asked;
+      exports = record {
+        indirects = indirects_below requests _ (all_below requests (all_imports requests items) imports items asked);
+        stars = stars_below requests items asked;
+      };
     }

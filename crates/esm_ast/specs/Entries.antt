@@ -2,6 +2,7 @@
 -- ECMA-262, ModuleRequests, ImportEntries, ExportEntries, and the sorting of export entries in ParseModule.
 use Rattle.std.specs.Prelude.{ℕ, ◌<◌, Bool, true, false, ◌||◌, List, [], ◌∷◌, ◌++◌, map, All, codes, bytes_eq, Option, Some, None, if◌then◌else◌}
 use Rattle.std.specs.List.{list_any, position_or_len}
+use Rattle.esm_base.specs.DefaultExport.{star_default, or_star_default}
 use Rattle.esm_tree.specs.declared.node.Wanted.{Wanted}
 use Rattle.esm_tree.specs.declared.node.Wanted.TheVariants.{Named, Whole}
 use Rattle.esm_tree.specs.declared.node.ImportBinding.{ImportBinding}
@@ -25,11 +26,15 @@ pub record EntryLists : Type 0 where
 abbrev pub no_entries : EntryLists
 no_entries = record { requests = []; imports = []; locals = []; indirects = []; stars = []; awaits = false }
 
--- each place of a request that these entries name is one of so many requests
-pub record NamesRequests (entries : EntryLists) (requests : ℕ) : Type 0 where
-  pub imports : All (λ (i : ImportEntry). i.request < requests) entries.imports
+-- each place of a request that the exports of other modules name is one of so many requests
+pub record ExportsNameRequests (entries : EntryLists) (requests : ℕ) : Type 0 where
   pub indirects : All (λ (i : IndirectExport). i.request < requests) entries.indirects
   pub stars : All (λ (i : ℕ). i < requests) entries.stars
+
+-- and each place that the imports name
+pub record NamesRequests (entries : EntryLists) (requests : ℕ) : Type 0 where
+  pub imports : All (λ (i : ImportEntry). i.request < requests) entries.imports
+  pub exports : ExportsNameRequests entries requests
 
 -- ---- requests
 
@@ -83,9 +88,6 @@ import_named (e ∷ es) name = if bytes_eq e.local name then Some e else import_
 
 -- ---- exports
 
-unfoldable pub star_default : Text
-star_default = codes "*default*"
-
 -- what an export entry is: of the module's own binding, or of another module's
 pub data Export : Type 0 where
   Local : LocalExport → Export
@@ -122,10 +124,6 @@ default_export local = local_export (codes "default") local
 unfoldable pub statement_exports : Stmt → List Export
 statement_exports (Default v) = default_export star_default ∷ []
 statement_exports s = map own_export (declared_names s)
-
-unfoldable pub or_star_default : Option Text → Text
-or_star_default None = star_default
-or_star_default (Some n) = n
 
 -- ECMA-262, ExportEntries of an item, `export *` aside
 unfoldable pub exports_of : List Text → List ImportEntry → Item → List Export

@@ -1,6 +1,5 @@
 -- URLs as texts. A module is named by its URL.
 use Rattle.std.specs.Prelude.{◌≡◌, ℕ, Bool, true, false, ◌&&◌, List, length, nat_le, bytes_eq, Option, None, Some}
-use Rattle.std.specs.List.{list_any}
 use Rattle.std.specs.Ordering.{nat_cmp}
 use Rattle.std.specs.Cmp.Lexicographic.{slice_cmp}
 use Rattle.std.specs.Result.{result_ok}
@@ -8,6 +7,7 @@ use Rattle.std.specs.declared.cmp.Ordering.{Ordering}
 use Rattle.url.specs.Parser.{parse_url}
 use Rattle.url.specs.Parts.{Parts, serialize}
 use Rattle.esm_base.specs.declared.limits.TheConstants.{MAX_URL_BYTES}
+use Rattle.esm_base.specs.Lists.{is_in}
 
 -- the bytes of a text
 abbrev pub Text : Type 0
@@ -26,7 +26,7 @@ same_url = bytes_eq
 
 -- the list has the URL
 abbrev pub has : List Url → Url → Bool
-has urls u = list_any (bytes_eq u) urls
+has urls u = is_in bytes_eq urls u
 
 -- URL Standard, URL parser: the URL that a text is, against a base where there is one
 abbrev pub url_of : Option Parts → Text → Option Parts

@@ -61,8 +61,9 @@ module _ {N I : Type 0} (same : N → N → Bool) (modules : I → Modules N) (b
         → Follows (Performs same modules begins m) w (Asks (act.Step 1) (λ _. Ends (Goes (begin (values same) s rest)))) c after
         → RewritesBody w (more (Whole s) rest) (On c) after
     -- the expression of a statement is evaluated, by its own rules
-    does : {w after : Inner N I} {purpose : Use} {e : Term (Value N)} {rest : Rest (Value N)} {c : Rewritten (Value N) Limit (Term (Value N))}
-        → RewritesTerm w e c after → RewritesBody w (more (Does purpose e) rest) (On (inside (λ e. more (Does purpose e) rest) c)) after
+    does : {w after : Inner N I} {purpose : Use} {e : Term (Value N)} {rest : Rest (Value N)}
+        {c : Rewritten (Value N) Limit (Term (Value N))} → RewritesTerm w e c after
+        → RewritesBody w (more (Does purpose e) rest) (On (inside (λ e. more (Does purpose e) rest) c)) after
     -- ECMA-262, ExpressionStatement
     drops : {w : Inner N I} {v : Value N} {rest : Rest (Value N)} → RewritesBody w (more (Does Drops (Val v)) rest) (On (Goes rest)) w
     -- ECMA-262, LexicalDeclaration, InitializeReferencedBinding

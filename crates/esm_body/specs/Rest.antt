@@ -61,7 +61,7 @@ module _ {V : Type 0} (values : Values V) where
   begin (stmts.Block ss) rest = more (block ss) rest
   begin (stmts.Const bs) rest = does_bindings bs rest
   begin (stmts.Let bs) rest = does_bindings bs rest
-  begin (stmts.Default value) rest = more (does_init (Sets default_local) value) rest
+  begin (stmts.Default value) rest = more (does_init (Sets star_default) value) rest
   begin (stmts.Assign x init) rest = more (does_init (Writes x) init) rest
   begin (stmts.If e ss) rest = more (Does (Chooses ss nothing) (term values e)) rest
   begin (stmts.IfElse e ss others) rest = more (Does (Chooses ss others) (term values e)) rest

@@ -1,5 +1,6 @@
 -- The scopes of blocks, functions and handlers. ECMA-262, Declarative Environment Records.
 use Rattle.std.specs.Prelude.{ℕ, Bool, true, false, List, [], ◌∷◌, ◌++◌, map, Option, Some, None}
+use Rattle.std.specs.Option.{option_or}
 use Rattle.std.specs.Str.{bytes_eq}
 use Rattle.esm_tree.specs.Syntax.{Stmts}
 use Rattle.esm_env.specs.Declarations.{Declaration, declared_in, FunctionCode}
@@ -50,14 +51,10 @@ module _ {V : Type 0} where
   in_scope [] x = None
   in_scope (s ∷ ss) x = cell_by (bytes_eq s.name x) s.cell (in_scope ss x)
 
-  abbrev pub or_cell : Option (Cell V) → Option (Cell V) → Option (Cell V)
-  or_cell None later = later
-  or_cell (Some c) later = Some c
-
   -- the cell of the innermost scope that declares the name
   abbrev pub in_scopes : List (Scope V) → List ℕ → Option (Cell V)
   in_scopes [] x = None
-  in_scopes (s ∷ ss) x = or_cell (in_scope s x) (in_scopes ss x)
+  in_scopes (s ∷ ss) x = option_or (in_scope s x) (in_scopes ss x)
 
   abbrev pub set_by : Bool → NamedCell V → V → Scope V → Scope V → Scope V
   set_by true s v rest later = named_cell s.name s.cell.constant (Some v) ∷ rest

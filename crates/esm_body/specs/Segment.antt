@@ -98,5 +98,6 @@ module _ {N I : Type 0} (same : N → N → Bool) (modules : I → Modules N) (b
     goes : {w mid late after : State N I} {m n : N} {r s : Rest (Value N)} {callers others : List (Active N)} {how : Ended N}
         (move : RewrittenBody (Value N) Limit) → RewritesOutermost m w r move mid → next_by m callers move mid ≡ Some (Goes n s others late)
         → Segment late n s others how after → Segment w m r callers how after
-    over : {w mid after : State N I} {m : N} {r : Rest (Value N)} {callers : List (Active N)} {how : Ended N} (move : RewrittenBody (Value N) Limit)
-        → RewritesOutermost m w r move mid → next_by m callers move mid ≡ Some (Over how after) → Segment w m r callers how after
+    over : {w mid after : State N I} {m : N} {r : Rest (Value N)} {callers : List (Active N)} {how : Ended N}
+        (move : RewrittenBody (Value N) Limit) → RewritesOutermost m w r move mid → next_by m callers move mid ≡ Some (Over how after)
+        → Segment w m r callers how after

@@ -10,7 +10,8 @@ use Rattle.esm_env.specs.Cells.{Cell, or_function, cell_by, cell_at, read_cell}
 use Rattle.esm_env.specs.Cells.{Reading as reading}
 use Rattle.esm_env.specs.Reading.{IsReadingOf, read_target}
 use Rattle.esm_env.specs.Reading.IsReadingOf.{own, bound}
-use Rattle.esm_env.specs.Slots.{slot_in, cell_in, written_in, valued_by, first_of}
+use Rattle.std.specs.Option.{option_or}
+use Rattle.esm_env.specs.Slots.{slot_in, cell_in, written_in, valued_by}
 use Rattle.esm_env.specs.Scopes.{Scopes, scope_in, own_cell, import_in, import_of, read_import, read_or, cells_of, read_in}
 use Rattle.esm_env.specs.Faithful.{SlotFits, target_in, HasScope, IsFaithful}
 use Rattle.esm_env.specs.Laws.{ReadsRight}
@@ -19,13 +20,12 @@ use Rattle.esm_env.specs.declared.scope.Target.{Target}
 use Rattle.esm_env.specs.declared.scope.Target.TheVariants as targets
 use Rattle.esm_env.specs.declared.scope.ModuleScope.{ModuleScope}
 
-unset_cell : (s : Slot) (written function : Option Value) → function ≡ None → first_of written function ≡ valued_by written
+unset_cell : (s : Slot) (written function : Option Value) → function ≡ None → option_or (valued_by written) (valued_by function) ≡ valued_by written
 unset_cell s None function e = rw e refl
 unset_cell s (Some v) function e = refl
 
-function_cell : (m index : ℕ) (written function : Option Value) → valued_by function ≡ Some (Func m index) → first_of written function ≡ Some (or_function (valued_by written) m index)
-function_cell m index None None e = cc
-function_cell m index None (Some v) e = e
+function_cell : (m index : ℕ) (written function : Option Value) → valued_by function ≡ Some (Func m index) → option_or (valued_by written) (valued_by function) ≡ Some (or_function (valued_by written) m index)
+function_cell m index None function e = e
 function_cell m index (Some w) function e = refl
 
 -- a slot that begins as the tree says is the cell

@@ -4,7 +4,7 @@ use Rattle.std.specs.Prelude.{ℕ, suc, Bool, true, false, List, [], ◌∷◌, 
 use Rattle.std.specs.List.{flat_map}
 use Rattle.std.specs.Str.{bytes_eq}
 use Rattle.esm_tree.specs.Syntax as x
-use Rattle.esm_base.specs.DefaultExport.{star_default}
+use Rattle.esm_base.specs.DefaultExport.{star_default, or_star_default}
 use Rattle.esm_tree.specs.Syntax.{Bindings, no_more, binding, Stmt, Stmts, nothing, first, Item}
 
 -- ECMA-262, FunctionDeclaration. A function without a name, which `export default` may have, is named `*default*`
@@ -30,7 +30,7 @@ declared_by constant (binding name value bs) = record { name = name; constant = 
 abbrev pub declares : Stmt → List Declaration
 declares (x.Const bs) = declared_by true bs
 declares (x.Let bs) = declared_by false bs
-declares (x.Default value) = record { name = default_local; constant = true } ∷ []
+declares (x.Default value) = record { name = star_default; constant = true } ∷ []
 declares _ = []
 
 -- the names that a list of statements declares by itself
@@ -38,16 +38,12 @@ abbrev pub declared_in : Stmts → List Declaration
 declared_in nothing = []
 declared_in (first s ss) = declares s ++ declared_in ss
 
-abbrev pub or_default : Option (List ℕ) → List ℕ
-or_default None = default_local
-or_default (Some name) = name
-
 abbrev pub function_code : List ℕ → List (List ℕ) → Stmts → FunctionCode
 function_code name parameters body = record { name = name; parameters = parameters; body = body }
 
 abbrev pub functions_by : Item → List FunctionCode
 functions_by (x.ExportFunction name ps ss) = function_code name ps ss ∷ []
-functions_by (x.ExportDefaultFunction name ps ss) = function_code (or_default name) ps ss ∷ []
+functions_by (x.ExportDefaultFunction name ps ss) = function_code (or_star_default name) ps ss ∷ []
 functions_by (x.Function name ps ss) = function_code name ps ss ∷ []
 functions_by _ = []
 

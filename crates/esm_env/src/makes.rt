@@ -43,6 +43,7 @@ fn declare(
 }
 
 /// Adds the names that a statement declares by itself.
+#[tactic(auto, unfolding(esm_base::specs::DefaultExport::star_default))]
 fn declare_stmt(alloc: Global, slots: &mut Vec<Slot>, stmt: &StmtNode) -> Result<(), Memory>
     ensures { (exprs : _) (stmts : _) → OnOk result (slots.new.items ≡ slots.old.items
         ++ unset_slots (declares (flat.stmt_of exprs stmts stmt.now))) }
@@ -106,6 +107,7 @@ fn declare_body(alloc: Global, slots: &mut Vec<Slot>, tree: &Tree) -> Result<(),
 }
 
 /// The name of the function that an item declares.
+#[tactic(auto, unfolding(esm_base::specs::DefaultExport::star_default, esm_base::specs::DefaultExport::or_star_default))]
 fn function_name(item: &ItemNode) -> Option<&str>
     ensures { (stmts : _) → names_by (flat.item_of stmts item.now) ≡ one_name result }
 {

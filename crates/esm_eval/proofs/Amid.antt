@@ -153,13 +153,13 @@ module _ {N V W : Type 0} (E : Evaluation N V W) where
     undone = λ y h. l.dones y ∙ a.undone y (sym (l.phases y) ∙ h);
     shut = λ y z h k. l.dones z ∙ a.shut y z h (in_like _ (l.all_waits y) k);
     moves = λ y h k. either (split y k) (λ q. moves y (a.moves y h q)) (λ q. subst (λ z. (E.begun v z ≡ true) ⊎ HasWait v z) (sym q) m);
-    stamped = λ y h. in_like _ (sym s) (lists.in_left E.same L.own L.equal (E.stamps w) (x ∷ []) y (a.stamped y (sym (l.phases y) ∙ h)));
+    stamped = λ y h. in_like _ (sym s) (lists.in_left E.same L.names.own L.names.equal (E.stamps w) (x ∷ []) y (a.stamped y (sym (l.phases y) ∙ h)));
     joined = λ x y h. in_like _ (sym (l.all_waiters y)) (a.joined x y (in_like _ (l.all_waits x) h));
     waiting = λ x h b e. open_wait_like w v l x (a.waiting x (sym (l.phases x) ∙ h) (not_true (E.begun w x) (λ k. not_both (E.begun v x) (g x k) b)) (sym (root_error_like w v l x) ∙ e));
   }
     where
       split : (y : N) → is_stamped E v y ≡ true → (is_stamped E w y ≡ true) ⊎ (y ≡ x)
-      split y k = either (lists.in_split E.same L.own L.equal (E.stamps w) (x ∷ []) y (in_like _ s k)) inl (λ q. either (lists.in_cons E.same L.own L.equal x [] y q) inr (λ z. cc))
+      split y k = either (lists.in_split E.same L.names.own L.names.equal (E.stamps w) (x ∷ []) y (in_like _ s k)) inl (λ q. either (lists.in_cons E.same L.names.own L.names.equal x [] y q) inr (λ z. cc))
 
       moves : (y : N) → (E.begun w y ≡ true) ⊎ HasWait w y → (E.begun v y ≡ true) ⊎ HasWait v y
       moves y (inl b) = inl (g y b)

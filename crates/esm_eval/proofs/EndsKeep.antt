@@ -101,7 +101,7 @@ module _ {N V W : Type 0} (E : Evaluation N V W) where
     done_put w x n y h = either (put_at E L w x n y) (λ q. inr q.0) (λ q. inl (sym (ap (λ m. m.done) q.1) ∙ h))
 
     over_put : (w : W) (x : N) (n : Node N V) → n.phase ≡ Evaluated → phase E (E.put w x n) x ≡ Evaluated
-    over_put w x n p = either (put_at E L w x n x) (λ q. ap (λ m. m.phase) q.1 ∙ p) (λ q. absurd (not_both (E.same x x) (L.own x) q.0))
+    over_put w x n p = either (put_at E L w x n x) (λ q. ap (λ m. m.phase) q.1 ∙ p) (λ q. absurd (not_both (E.same x x) (L.names.own x) q.0))
 
     pub record Finished (w v : W) (x : N) : Type 0 where
       pub later : Later w v
@@ -156,7 +156,7 @@ module _ {N V W : Type 0} (E : Evaluation N V W) where
     rejected_next : (w u v : W) (x : N) (xs : List N) → Rejected w u x → RejectedAll u v xs → RejectedAll w v (x ∷ xs)
     rejected_next w u v x xs r q = record {
       later = later_on w u v r.later q.later;
-      now = λ z h. either (in_cons E.same L.own L.equal x xs z h) (λ e. subst (λ t. phase E v t ≡ Evaluated) (sym e) (stays_over q.later x r.now)) (q.now z);
+      now = λ z h. either (in_cons E.same L.names.own L.names.equal x xs z h) (λ e. subst (λ t. phase E v t ≡ Evaluated) (sym e) (stays_over q.later x r.now)) (q.now z);
       dones = λ y h. either (q.dones y h) (λ d. either (r.dones y d) inl (λ o. inr (over_on w q.later y o))) (λ o. inr (over_from v r.later y o));
     }
 
@@ -210,13 +210,13 @@ module _ {N V W : Type 0} (E : Evaluation N V W) where
 
     pub among_ready : {w : W} {zs xs : List N} → ReadyAmong E w zs xs → (y : N) → In E xs y → IsReady E w y
     among_ready ReadyAmong.none y h = cc
-    among_ready {w} (ReadyAmong.kept {x = x} {ys = ys} r p) y h = either (in_cons E.same L.own L.equal x ys y h) (λ e. subst (λ z. IsReady E w z) (sym e) r) (among_ready p y)
+    among_ready {w} (ReadyAmong.kept {x = x} {ys = ys} r p) y h = either (in_cons E.same L.names.own L.names.equal x ys y h) (λ e. subst (λ z. IsReady E w z) (sym e) r) (among_ready p y)
     among_ready (ReadyAmong.dropped n p) y h = among_ready p y h
 
     ready_among : {w : W} {zs xs : List N} → ReadyAmong E w zs xs → (y : N) → In E zs y → IsReady E w y → In E xs y
     ready_among ReadyAmong.none y h r = h
-    ready_among (ReadyAmong.kept {x = x} {xs = zs} {ys = ys} r p) y h s = either (in_cons E.same L.own L.equal x zs y h) (λ e. subst (λ z. In E (x ∷ ys) z) (sym e) (in_first E.same L.own L.equal x ys)) (λ k. in_later E.same L.own L.equal x ys y (ready_among p y k s))
-    ready_among {w} (ReadyAmong.dropped {x = x} {xs = zs} n p) y h s = either (in_cons E.same L.own L.equal x zs y h) (λ e. absurd (n (subst (λ z. IsReady E w z) e s))) (λ k. ready_among p y k s)
+    ready_among (ReadyAmong.kept {x = x} {xs = zs} {ys = ys} r p) y h s = either (in_cons E.same L.names.own L.names.equal x zs y h) (λ e. subst (λ z. In E (x ∷ ys) z) (sym e) (in_first E.same L.names.own L.names.equal x ys)) (λ k. in_later E.same L.names.own L.names.equal x ys y (ready_among p y k s))
+    ready_among {w} (ReadyAmong.dropped {x = x} {xs = zs} n p) y h s = either (in_cons E.same L.names.own L.names.equal x zs y h) (λ e. absurd (n (subst (λ z. IsReady E w z) e s))) (λ k. ready_among p y k s)
 
     pub ready_entered : {w : W} {y : N} → IsReady E w y → was_entered (phase E w y) ≡ true
     ready_entered (IsReady.ready s p b f r) = ap was_entered p
@@ -226,9 +226,9 @@ module _ {N V W : Type 0} (E : Evaluation N V W) where
     open_or_over v (z ∷ zs) = by (cases (is_done E v z)) (open_or_over v zs)
       where
         by : (is_done E v z ≡ true) ⊎ (is_done E v z ≡ false) → ((y : N) × In E zs y × (is_done E v y ≡ false)) ⊎ ((y : N) → In E zs y → is_done E v y ≡ true) → ((y : N) × In E (z ∷ zs) y × (is_done E v y ≡ false)) ⊎ ((y : N) → In E (z ∷ zs) y → is_done E v y ≡ true)
-        by (inr d) r = inl (z, in_first E.same L.own L.equal z zs, d)
-        by (inl d) (inl h) = inl (h.0, in_later E.same L.own L.equal z zs h.0 h.1, h.2)
-        by (inl d) (inr h) = inr (λ y k. either (in_cons E.same L.own L.equal z zs y k) (λ e. subst (λ t. is_done E v t ≡ true) (sym e) d) (h y))
+        by (inr d) r = inl (z, in_first E.same L.names.own L.names.equal z zs, d)
+        by (inl d) (inl h) = inl (h.0, in_later E.same L.names.own L.names.equal z zs h.0 h.1, h.2)
+        by (inl d) (inr h) = inr (λ y k. either (in_cons E.same L.names.own L.names.equal z zs y k) (λ e. subst (λ t. is_done E v t ≡ true) (sym e) d) (h y))
 
     pub record Went (w v : W) (xs : List N) : Type 0 where
       pub later : Later w v
@@ -247,10 +247,10 @@ module _ {N V W : Type 0} (E : Evaluation N V W) where
     went_on : (w u v : W) (x : N) (xs : List N) → WereEntered w xs → One w u x → Went u v xs → Went w v (x ∷ xs)
     went_on w u v x xs b o q = record {
       later = later_on w u v o.later q.later;
-      now = λ z h. either (in_cons E.same L.own L.equal x xs z h) (λ e. subst (λ t. (phase E v t ≡ Evaluated) ⊎ (E.begun v t ≡ true)) (sym e) (either o.now (λ k. inl (stays_over q.later x k)) (λ k. inr (q.later.grown.begun x k)))) (q.now z);
+      now = λ z h. either (in_cons E.same L.names.own L.names.equal x xs z h) (λ e. subst (λ t. (phase E v t ≡ Evaluated) ⊎ (E.begun v t ≡ true)) (sym e) (either o.now (λ k. inl (stays_over q.later x k)) (λ k. inr (q.later.grown.begun x k)))) (q.now z);
       dones = λ y h. either (q.dones y h)
-          (λ d. either (o.dones y d) inl (λ k. inr (either k (λ j. inl (subst (λ t. In E (x ∷ xs) t) (sym j.0) (in_first E.same L.own L.equal x xs), j.1)) (λ j. inr (over_on w q.later y j)))))
-          (λ k. inr (either k (λ j. inl (in_later E.same L.own L.equal x xs y j.0, sym (o.later.awaits y (b y j.0)) ∙ j.1)) (λ j. inr (over_from v o.later y j))));
+          (λ d. either (o.dones y d) inl (λ k. inr (either k (λ j. inl (subst (λ t. In E (x ∷ xs) t) (sym j.0) (in_first E.same L.names.own L.names.equal x xs), j.1)) (λ j. inr (over_on w q.later y j)))))
+          (λ k. inr (either k (λ j. inl (in_later E.same L.names.own L.names.equal x xs y j.0, sym (o.later.awaits y (b y j.0)) ∙ j.1)) (λ j. inr (over_from v o.later y j))));
     }
 
 module _ {N V W S : Type 0} (E : Evaluation N V W) (acts : BodyCalls N V W S) (L : IsLawful E) (steady : IsSteady E acts) where
@@ -289,10 +289,10 @@ module _ {N V W S : Type 0} (E : Evaluation N V W) (acts : BodyCalls N V W S) (L
       }
 
   rest_entered : (w u : W) (x : N) (xs : List N) → Later E w u → WereEntered E L w (x ∷ xs) → WereEntered E L u xs
-  rest_entered w u x xs l b y h = stays_entered E l y (b y (in_later E.same L.own L.equal x xs y h))
+  rest_entered w u x xs l b y h = stays_entered E l y (b y (in_later E.same L.names.own L.names.equal x xs y h))
 
   tail_entered : (w : W) (x : N) (xs : List N) → WereEntered E L w (x ∷ xs) → WereEntered E L w xs
-  tail_entered w x xs b y h = b y (in_later E.same L.own L.equal x xs y h)
+  tail_entered w x xs b y h = b y (in_later E.same L.names.own L.names.equal x xs y h)
 
   pub go_on : {w : W} {xs : List N} {v : W} → GoOn E acts w xs (Ok tt) v → WereEntered E L w xs → Went E L w v xs
   go_on {w} GoOn.none b = record { later = later_same E w; now = λ x h. cc; dones = λ y h. inl h }
@@ -327,10 +327,10 @@ module _ {N V W S : Type 0} (E : Evaluation N V W) (acts : BodyCalls N V W S) (L
     are_over x a (y ∷ ys) d j = by (went.dones y (d y here)) (are_over x a ys (λ z h. d z (later z h)) (λ z h. j z (later z h)))
       where
         here : In E (y ∷ ys) y
-        here = in_first E.same L.own L.equal y ys
+        here = in_first E.same L.names.own L.names.equal y ys
 
         later : (z : N) → In E ys z → In E (y ∷ ys) z
-        later z h = in_later E.same L.own L.equal y ys z h
+        later z h = in_later E.same L.names.own L.names.equal y ys z h
 
         by : (is_done E mid y ≡ true) ⊎ ((In E xs y × (E.awaits mid y ≡ false)) ⊎ AllOver E mid v y) → AreOver E mid ys → AreOver E mid (y ∷ ys)
         by (inl k) rest = AreOver.done k rest

@@ -86,7 +86,7 @@ module _ {N V W : Type 0} (E : Evaluation N V W) (L : IsLawful E) where
   calm_enter w path x f c = record {
     unbegun = λ y h. q.begun y ∙ c.unbegun y (back y h);
     unstamped = λ y h. stamped_quiet w (enter E w x) q.stamps y ∙ c.unstamped y (back y h);
-    still = λ y h. let k = either (in_cons E.same L.own L.equal x path y h) (λ e. subst (λ z. (E.begun w z ≡ false) × (is_stamped E w z ≡ false)) (sym e) (c.unbegun x f, c.unstamped x f)) (c.still y) in
+    still = λ y h. let k = either (in_cons E.same L.names.own L.names.equal x path y h) (λ e. subst (λ z. (E.begun w z ≡ false) × (is_stamped E w z ≡ false)) (sym e) (c.unbegun x f, c.unstamped x f)) (c.still y) in
         (q.begun y ∙ k.0, stamped_quiet w (enter E w x) q.stamps y ∙ k.1);
     distinct = subst (λ xs. EachOnce E.same xs) (sym q.stamps) c.distinct;
   }
@@ -102,10 +102,10 @@ module _ {N V W : Type 0} (E : Evaluation N V W) (L : IsLawful E) where
 
   snoc_distinct : (xs : List N) (x : N) → is_in E.same xs x ≡ false → EachOnce E.same xs → EachOnce E.same (xs ++ x ∷ [])
   snoc_distinct [] x h d = (refl, tt)
-  snoc_distinct (y ∷ ys) x h d = (lists.out_both E.same L.own L.equal ys (x ∷ []) y d.0 one, snoc_distinct ys x (not_true (is_in E.same ys x) (λ k. not_both (is_in E.same (y ∷ ys) x) (in_later E.same L.own L.equal y ys x k) h)) d.1)
+  snoc_distinct (y ∷ ys) x h d = (lists.out_both E.same L.names.own L.names.equal ys (x ∷ []) y d.0 one, snoc_distinct ys x (not_true (is_in E.same ys x) (λ k. not_both (is_in E.same (y ∷ ys) x) (in_later E.same L.names.own L.names.equal y ys x k) h)) d.1)
     where
       one : is_in E.same (x ∷ []) y ≡ false
-      one = not_true (is_in E.same (x ∷ []) y) (λ k. either (in_cons E.same L.own L.equal x [] y k) (λ e. not_both (is_in E.same (y ∷ ys) x) (subst (λ z. is_in E.same (z ∷ ys) x ≡ true) (sym e) (in_first E.same L.own L.equal x ys)) h) (λ k. cc))
+      one = not_true (is_in E.same (x ∷ []) y) (λ k. either (in_cons E.same L.names.own L.names.equal x [] y k) (λ e. not_both (is_in E.same (y ∷ ys) x) (subst (λ z. is_in E.same (z ∷ ys) x ≡ true) (sym e) (in_first E.same L.names.own L.names.equal x ys)) h) (λ k. cc))
 
   -- x is left: it alone may have got an order, and its body alone may have begun
   pub record LeftBy (w v : W) (x : N) : Type 0 where
@@ -119,8 +119,8 @@ module _ {N V W : Type 0} (E : Evaluation N V W) (L : IsLawful E) where
     unbegun = λ y h. not_true (E.begun v y) (λ k. either (l.begun y k) (λ i. not_both (E.begun w y) i (c.unbegun y (back y h))) (λ e. other y h e));
     unstamped = λ y h. not_true (is_stamped E v y) (λ k. either (l.stamped y k) (λ i. not_both (is_stamped E w y) i (c.unstamped y (back y h))) (λ e. other y h e));
     still = λ y h. (
-      not_true (E.begun v y) (λ k. either (l.begun y k) (λ i. not_both (E.begun w y) i (c.still y (in_later E.same L.own L.equal x rest y h)).0) (λ e. apart y h e)),
-      not_true (is_stamped E v y) (λ k. either (l.stamped y k) (λ i. not_both (is_stamped E w y) i (c.still y (in_later E.same L.own L.equal x rest y h)).1) (λ e. apart y h e)),
+      not_true (E.begun v y) (λ k. either (l.begun y k) (λ i. not_both (E.begun w y) i (c.still y (in_later E.same L.names.own L.names.equal x rest y h)).0) (λ e. apart y h e)),
+      not_true (is_stamped E v y) (λ k. either (l.stamped y k) (λ i. not_both (is_stamped E w y) i (c.still y (in_later E.same L.names.own L.names.equal x rest y h)).1) (λ e. apart y h e)),
     );
     distinct = l.distinct;
   }
@@ -190,7 +190,7 @@ module _ {N V W S : Type 0} (E : Evaluation N V W) (acts : BodyCalls N V W S) (L
       record {
         nodes = s.nodes;
         begun = λ y h. inl (sym (s.begun y) ∙ h);
-        stamped = λ y h. either (lists.in_split E.same L.own L.equal (E.stamps w) (x ∷ []) y (subst (λ xs. is_in E.same xs y ≡ true) s.stamps h)) inl (λ k. either (in_cons E.same L.own L.equal x [] y k) inr (λ z. cc));
+        stamped = λ y h. either (lists.in_split E.same L.names.own L.names.equal (E.stamps w) (x ∷ []) y (subst (λ xs. is_in E.same xs y ≡ true) s.stamps h)) inl (λ k. either (in_cons E.same L.names.own L.names.equal x [] y k) inr (λ z. cc));
         distinct = subst (λ xs. EachOnce E.same xs) (sym s.stamps) (snoc_distinct E L (E.stamps w) x u d);
       }
 
@@ -224,10 +224,10 @@ module _ {N V W S : Type 0} (E : Evaluation N V W) (acts : BodyCalls N V W S) (L
 
   module _ (to : N → List N) where
     abbrev Fit : List N → List (Mark N) → Type 0
-    Fit = Fits E.same L.own L.equal to
+    Fit = Fits E.same L.names.own L.names.equal to
 
     abbrev Path : List N → List (Mark N) → Type 0
-    Path = Paths E.same L.own L.equal to
+    Path = Paths E.same L.names.own L.names.equal to
 
     begins : (w : W) (seen : List N) (x : N) → Known E acts L steady w seen → is_in E.same seen x ≡ true → was_entered (phase E w x) ≡ true
     begins w seen x k h = sym (k x) ∙ h
@@ -239,7 +239,7 @@ module _ {N V W S : Type 0} (E : Evaluation N V W) (acts : BodyCalls N V W S) (L
     leaves : {w mid : W} {x : N} {end : WalkEnd V S} (opened path rest seen : List N) → Leaves E acts w x end mid → path ≡ x ∷ rest → is_in E.same rest x ≡ false → was_entered (phase E w x) ≡ true → Calm E L w path → Left w mid x opened rest seen
     leaves {w} {mid} {x} opened path rest seen l e out b c =
         let c' : Calm E L w (x ∷ rest) = subst (λ p. Calm E L w p) e c in
-        let s = c'.still x (in_first E.same L.own L.equal x rest) in
+        let s = c'.still x (in_first E.same L.names.own L.names.equal x rest) in
         record { unbegun = s.0; calm = calm_left E L w mid x rest b out (left_by l s.1 c'.distinct) c' }
 
     marks_once : {w : W} {opened : List N} {ms : List (Mark N)} {end : WalkEnd V S} {after : W} (seen path : List N) → Marks E acts to w opened ms end after → Fit seen ms → Path path ms → Known E acts L steady w seen → Amid E w opened → Calm E L w path
@@ -288,8 +288,8 @@ module _ {N V W S : Type 0} (E : Evaluation N V W) (acts : BodyCalls N V W S) (L
   walks_once : {w : W} {m : N} {end : WalkEnd V S} {after : W} → Walks E acts w m (keep E w m) end after → Amid E w [] → Calm E L w [] → Walks E (First E acts) w m (keep E w m) end after × KeptCalm end after
   walks_once {w} {m} p a c =
       let to = E.targets w in
-      let r = marks_once to p.closed [] p.leads (subst (λ ms. Fit to p.closed ms) (append-nil p.marks) (walk_fits E.same L.own L.equal to p.walk.1))
-      (subst (λ ms. Path to [] ms) (append-nil p.marks) (walk_path E.same L.own L.equal to p.walk.1))
+      let r = marks_once to p.closed [] p.leads (subst (λ ms. Fit to p.closed ms) (append-nil p.marks) (walk_fits E.same L.names.own L.names.equal to p.walk.1))
+      (subst (λ ms. Path to [] ms) (append-nil p.marks) (walk_path E.same L.names.own L.names.equal to p.walk.1))
       (λ y. p.closed_is y ∙ sym (ap was_entered ((keep_like E acts L steady w m).phases y))) (keep_keeps E acts L steady w m a) (calm_keep w m c) in
       (record { closed = p.closed; closed_is = p.closed_is; marks = p.marks; walk = p.walk; leads = r.0 }, r.1)
 

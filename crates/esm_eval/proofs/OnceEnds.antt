@@ -36,8 +36,8 @@ module _ {N V W : Type 0} (E : Evaluation N V W) (L : IsLawful E) where
 
   among_in : {w : W} {zs xs : List N} → ReadyAmong E w zs xs → (y : N) → In E xs y → In E zs y
   among_in ReadyAmong.none y h = h
-  among_in (ReadyAmong.kept {x = x} {xs = zs} {ys = ys} r p) y h = either (in_cons E.same L.own L.equal x ys y h) (λ e. subst (λ z. In E (x ∷ zs) z) (sym e) (in_first E.same L.own L.equal x zs)) (λ k. in_later E.same L.own L.equal x zs y (among_in p y k))
-  among_in (ReadyAmong.dropped {x = x} {xs = zs} n p) y h = in_later E.same L.own L.equal x zs y (among_in p y h)
+  among_in (ReadyAmong.kept {x = x} {xs = zs} {ys = ys} r p) y h = either (in_cons E.same L.names.own L.names.equal x ys y h) (λ e. subst (λ z. In E (x ∷ zs) z) (sym e) (in_first E.same L.names.own L.names.equal x zs)) (λ k. in_later E.same L.names.own L.names.equal x zs y (among_in p y k))
+  among_in (ReadyAmong.dropped {x = x} {xs = zs} n p) y h = in_later E.same L.names.own L.names.equal x zs y (among_in p y h)
 
   among_distinct : {w : W} {zs xs : List N} → ReadyAmong E w zs xs → EachOnce E.same zs → EachOnce E.same xs
   among_distinct ReadyAmong.none d = tt
@@ -61,17 +61,17 @@ module _ {N V W : Type 0} (E : Evaluation N V W) (L : IsLawful E) where
   began_on : (w u v : W) (x : N) (xs : List N) → Began w u (x ∷ []) → Began u v xs → Began w v (x ∷ xs)
   began_on w u v x xs k l = record {
     stamps = l.stamps ∙ k.stamps;
-    begun = λ y h. either (l.begun y h) (λ i. either (k.begun y i) inl (λ j. inr (either (in_cons E.same L.own L.equal x [] y j) (λ e. subst (λ z. In E (x ∷ xs) z) (sym e) (in_first E.same L.own L.equal x xs)) (λ z. cc)))) (λ i. inr (in_later E.same L.own L.equal x xs y i));
+    begun = λ y h. either (l.begun y h) (λ i. either (k.begun y i) inl (λ j. inr (either (in_cons E.same L.names.own L.names.equal x [] y j) (λ e. subst (λ z. In E (x ∷ xs) z) (sym e) (in_first E.same L.names.own L.names.equal x xs)) (λ z. cc)))) (λ i. inr (in_later E.same L.names.own L.names.equal x xs y i));
   }
 
   rest_unbegun : (w u : W) (x : N) (xs : List N) → EachOnce E.same (x ∷ xs) → Unbegun w (x ∷ xs) → Began w u (x ∷ []) → Unbegun u xs
   unfolding Unbegun
-  rest_unbegun w u x xs d b k y h = not_true (E.begun u y) (λ i. either (k.begun y i) (λ j. not_both (E.begun w y) j (b y (in_later E.same L.own L.equal x xs y h)))
-      (λ j. either (in_cons E.same L.own L.equal x [] y j) (λ e. not_both (is_in E.same xs x) (subst (λ z. In E xs z) e h) d.0) (λ z. cc)))
+  rest_unbegun w u x xs d b k y h = not_true (E.begun u y) (λ i. either (k.begun y i) (λ j. not_both (E.begun w y) j (b y (in_later E.same L.names.own L.names.equal x xs y h)))
+      (λ j. either (in_cons E.same L.names.own L.names.equal x [] y j) (λ e. not_both (is_in E.same xs x) (subst (λ z. In E xs z) e h) d.0) (λ z. cc)))
 
 module _ {N V W S : Type 0} (E : Evaluation N V W) (acts : BodyCalls N V W S) (L : IsLawful E) (steady : IsSteady E acts) (one : BeginsOne E acts) where
   began_call : (w v : W) (x : N) → CallOf E acts L steady one w v x → Began E L w v (x ∷ [])
-  began_call w v x c = record { stamps = c.stamps; begun = λ y h. either (c.begun y h) inl (λ e. inr (subst (λ z. In E (x ∷ []) z) (sym e) (in_first E.same L.own L.equal x []))) }
+  began_call w v x c = record { stamps = c.stamps; begun = λ y h. either (c.begun y h) inl (λ e. inr (subst (λ z. In E (x ∷ []) z) (sym e) (in_first E.same L.names.own L.names.equal x []))) }
 
   began_then : (w u v : W) (x : N) → Began E L w u (x ∷ []) → IsQuiet E L u v → Began E L w v (x ∷ [])
   began_then w u v x k q = record { stamps = q.stamps ∙ k.stamps; begun = λ y h. k.begun y (sym (q.begun y) ∙ h) }
@@ -86,21 +86,21 @@ module _ {N V W S : Type 0} (E : Evaluation N V W) (acts : BodyCalls N V W S) (L
   go_once {w} {v = v} (GoOn.starts {mid = mid} {x = x} {xs = xs} n o s p) d b =
       let k = began_call w mid x (start_of E acts L steady one s) in
       let r = go_once p d.1 (rest_unbegun E L w mid x xs d b k) in
-      (GoOn.starts n o (once_start E acts L steady one s (b x (in_first E.same L.own L.equal x xs))) r.0, began_on E L w mid v x xs k r.1)
+      (GoOn.starts n o (once_start E acts L steady one s (b x (in_first E.same L.names.own L.names.equal x xs))) r.0, began_on E L w mid v x xs k r.1)
   go_once {w} {v = v} (GoOn.runs {mid = mid} {x = x} {xs = xs} n o s p) d b =
       let k = began_then w mid (finish E mid x) x (began_call w mid x (run_of E acts L steady one s)) (quiet_finish E L mid x) in
       let r = go_once p d.1 (rest_unbegun E L w (finish E mid x) x xs d b k) in
-      (GoOn.runs n o (once_run E acts L steady one s (b x (in_first E.same L.own L.equal x xs))) r.0, began_on E L w (finish E mid x) v x xs k r.1)
+      (GoOn.runs n o (once_run E acts L steady one s (b x (in_first E.same L.names.own L.names.equal x xs))) r.0, began_on E L w (finish E mid x) v x xs k r.1)
   go_once {w} {v = v} (GoOn.throws {mid = mid} {late = late} {x = x} {xs = xs} u n o s q p) d b =
       let k = began_then w mid late x (began_call w mid x (run_of E acts L steady one s)) (quiet_rejects E L q) in
       let r = go_once p d.1 (rest_unbegun E L w late x xs d b k) in
-      (GoOn.throws u n o (once_run E acts L steady one s (b x (in_first E.same L.own L.equal x xs))) q r.0, began_on E L w late v x xs k r.1)
+      (GoOn.throws u n o (once_run E acts L steady one s (b x (in_first E.same L.names.own L.names.equal x xs))) q r.0, began_on E L w late v x xs k r.1)
   go_once {w} {v = v} (GoOn.start_stops {x = x} {xs = xs} why n o s) d b = (
-    GoOn.start_stops why n o (once_start E acts L steady one s (b x (in_first E.same L.own L.equal x xs))),
+    GoOn.start_stops why n o (once_start E acts L steady one s (b x (in_first E.same L.names.own L.names.equal x xs))),
     began_on E L w v v x xs (began_call w v x (start_of E acts L steady one s)) (record { stamps = refl; begun = λ y h. inl h }),
   )
   go_once {w} {v = v} (GoOn.run_stops {x = x} {xs = xs} why n o s) d b = (
-    GoOn.run_stops why n o (once_run E acts L steady one s (b x (in_first E.same L.own L.equal x xs))),
+    GoOn.run_stops why n o (once_run E acts L steady one s (b x (in_first E.same L.names.own L.names.equal x xs))),
     began_on E L w v v x xs (began_call w v x (run_of E acts L steady one s)) (record { stamps = refl; begun = λ y h. inl h }),
   )
 

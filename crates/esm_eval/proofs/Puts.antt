@@ -20,8 +20,8 @@ module _ {N V W : Type 0} (E : Evaluation N V W) (L : IsLawful E) where
   put_at w x n y = by (cases (E.same y x)) (cases (E.same x y))
     where
       by : (E.same y x ≡ true) ⊎ (E.same y x ≡ false) → (E.same x y ≡ true) ⊎ (E.same x y ≡ false) → ((y ≡ x) × (E.node (E.put w x n) y ≡ n)) ⊎ ((E.same y x ≡ false) × (E.node (E.put w x n) y ≡ E.node w y))
-      by (inl h) q = let e : y ≡ x = L.equal y x h in inl (e, (L.put w x n).node y ∙ ap (λ b. if b then n else E.node w y) (subst (λ z. E.same x z ≡ true) (sym e) (L.own x)))
-      by (inr h) (inl k) = let e : x ≡ y = L.equal x y k in absurd (not_both (E.same y x) (subst (λ z. E.same z x ≡ true) e (L.own x)) h)
+      by (inl h) q = let e : y ≡ x = L.names.equal y x h in inl (e, (L.put w x n).node y ∙ ap (λ b. if b then n else E.node w y) (subst (λ z. E.same x z ≡ true) (sym e) (L.names.own x)))
+      by (inr h) (inl k) = let e : x ≡ y = L.names.equal x y k in absurd (not_both (E.same y x) (subst (λ z. E.same z x ≡ true) e (L.names.own x)) h)
       by (inr h) (inr k) = inr (h, (L.put w x n).node y ∙ ap (λ b. if b then n else E.node w y) k)
 
   pub same_field : {A : Type 0} (f : Node N V → A) (w : W) (x : N) (n : Node N V) → f n ≡ f (E.node w x) → (y : N) → f (E.node (E.put w x n) y) ≡ f (E.node w y)
@@ -84,8 +84,8 @@ module _ {N V W : Type 0} (E : Evaluation N V W) (L : IsLawful E) where
 
   pub amid_enter : (w : W) (opened : List N) (x : N) → phase E w x ≡ NotEntered → Amid E w opened → Amid E (enter E w x) (opened ++ x ∷ [])
   amid_enter w opened x fresh a = record {
-    open_is = λ y h. either (at y) (λ q. subst (λ z. In E (opened ++ x ∷ []) z) (sym q.0) last) (λ q. lists.in_left E.same L.own L.equal opened (x ∷ []) y (a.open_is y (sym (ap (λ m. m.phase) q.1) ∙ h)));
-    entered = λ y h. either (at y) (λ q. ap (λ m. was_entered m.phase) q.1) (λ q. ap (λ m. was_entered m.phase) q.1 ∙ either (was y h) (a.entered y) (λ e. absurd (not_both (E.same y x) (subst (λ z. E.same z x ≡ true) (sym e) (L.own x)) q.0)));
+    open_is = λ y h. either (at y) (λ q. subst (λ z. In E (opened ++ x ∷ []) z) (sym q.0) last) (λ q. lists.in_left E.same L.names.own L.names.equal opened (x ∷ []) y (a.open_is y (sym (ap (λ m. m.phase) q.1) ∙ h)));
+    entered = λ y h. either (at y) (λ q. ap (λ m. was_entered m.phase) q.1) (λ q. ap (λ m. was_entered m.phase) q.1 ∙ either (was y h) (a.entered y) (λ e. absurd (not_both (E.same y x) (subst (λ z. E.same z x ≡ true) (sym e) (L.names.own x)) q.0)));
     unstamped = λ y h. put_stamped w x n y ∙ a.unstamped y (still y h);
     new = λ y h. dones w x n refl refl refl y ∙ a.new y (still y h);
     free = λ y h. all_waits w x n refl refl refl y ∙ a.free y (still y h);
@@ -104,10 +104,10 @@ module _ {N V W : Type 0} (E : Evaluation N V W) (L : IsLawful E) where
       at y = put_at w x n y
 
       last : In E (opened ++ x ∷ []) x
-      last = lists.in_right E.same L.own L.equal opened (x ∷ []) x (lists.in_first E.same L.own L.equal x [])
+      last = lists.in_right E.same L.names.own L.names.equal opened (x ∷ []) x (lists.in_first E.same L.names.own L.names.equal x [])
 
       was : (y : N) → In E (opened ++ x ∷ []) y → In E opened y ⊎ (y ≡ x)
-      was y h = either (lists.in_split E.same L.own L.equal opened (x ∷ []) y h) inl (λ q. either (lists.in_cons E.same L.own L.equal x [] y q) inr (λ z. cc))
+      was y h = either (lists.in_split E.same L.names.own L.names.equal opened (x ∷ []) y h) inl (λ q. either (lists.in_cons E.same L.names.own L.names.equal x [] y q) inr (λ z. cc))
 
       still : (y : N) → phase E (E.put w x n) y ≡ NotEntered → phase E w y ≡ NotEntered
       still y h = either (at y) (λ q. let e = sym (ap (λ m. m.phase) q.1) ∙ h in cc) (λ q. sym (ap (λ m. m.phase) q.1) ∙ h)
@@ -161,14 +161,14 @@ module _ {N V W : Type 0} (E : Evaluation N V W) (L : IsLawful E) where
       only_async false h = cc
 
       more : (z : N) → In E (bs ++ ys) z → In E (bs ++ y ∷ ys) z
-      more z h = either (lists.in_split E.same L.own L.equal bs ys z h) (lists.in_left E.same L.own L.equal bs (y ∷ ys) z) (λ k. lists.in_right E.same L.own L.equal bs (y ∷ ys) z (lists.in_later E.same L.own L.equal y ys z k))
+      more z h = either (lists.in_split E.same L.names.own L.names.equal bs ys z h) (lists.in_left E.same L.names.own L.names.equal bs (y ∷ ys) z) (λ k. lists.in_right E.same L.names.own L.names.equal bs (y ∷ ys) z (lists.in_later E.same L.names.own L.names.equal y ys z k))
 
       less : (z : N) → E.same z y ≡ false → In E (bs ++ y ∷ ys) z → In E (bs ++ ys) z
-      less z o h = either (lists.in_split E.same L.own L.equal bs (y ∷ ys) z h) (lists.in_left E.same L.own L.equal bs ys z)
-          (λ k. either (lists.in_cons E.same L.own L.equal y ys z k) (λ e. absurd (not_both (E.same z y) (subst (λ u. E.same u y ≡ true) (sym e) (L.own y)) o)) (lists.in_right E.same L.own L.equal bs ys z))
+      less z o h = either (lists.in_split E.same L.names.own L.names.equal bs (y ∷ ys) z h) (lists.in_left E.same L.names.own L.names.equal bs ys z)
+          (λ k. either (lists.in_cons E.same L.names.own L.names.equal y ys z k) (λ e. absurd (not_both (E.same z y) (subst (λ u. E.same u y ≡ true) (sym e) (L.names.own y)) o)) (lists.in_right E.same L.names.own L.names.equal bs ys z))
 
       here : In E (bs ++ y ∷ ys) y
-      here = lists.in_right E.same L.own L.equal bs (y ∷ ys) y (lists.in_first E.same L.own L.equal y ys)
+      here = lists.in_right E.same L.names.own L.names.equal bs (y ∷ ys) y (lists.in_first E.same L.names.own L.names.equal y ys)
 
       still : (z : N) → phase E (E.put w y n) z ≡ NotEntered → phase E w z ≡ NotEntered
       still z h = either (at z) (λ q. absurd (not_new (is_stamped E w y) (sym (ap (λ m. m.phase) q.1) ∙ h))) (λ q. sym (ap (λ m. m.phase) q.1) ∙ h)
@@ -196,8 +196,8 @@ module _ {N V W : Type 0} (E : Evaluation N V W) (L : IsLawful E) where
 
   close_back : (x : N) (ys : List N) (w : W) (z : N) → ((y : N) → In E ys y → was_entered (phase E w y) ≡ true) → was_entered (phase E w z) ≡ false → was_entered (phase E (close E w x ys) z) ≡ false
   close_back x [] w z i h = h
-  close_back x (y ∷ ys) w z i h = close_back x ys (E.put w y n) z (λ u k. begun u (i u (lists.in_later E.same L.own L.equal y ys u k)))
-      (either (put_at w y n z) (λ q. absurd (not_both (was_entered (phase E w z)) (i z (subst (λ u. In E (y ∷ ys) u) (sym q.0) (lists.in_first E.same L.own L.equal y ys))) h)) (λ q. ap (λ m. was_entered m.phase) q.1 ∙ h))
+  close_back x (y ∷ ys) w z i h = close_back x ys (E.put w y n) z (λ u k. begun u (i u (lists.in_later E.same L.names.own L.names.equal y ys u k)))
+      (either (put_at w y n z) (λ q. absurd (not_both (was_entered (phase E w z)) (i z (subst (λ u. In E (y ∷ ys) u) (sym q.0) (lists.in_first E.same L.names.own L.names.equal y ys))) h)) (λ q. ap (λ m. was_entered m.phase) q.1 ∙ h))
     where
       n : Node N V
       n = record (E.node w y) { phase = closed_phase E (is_stamped E w y); cycle_root = Some x }
@@ -211,14 +211,14 @@ module _ {N V W : Type 0} (E : Evaluation N V W) (L : IsLawful E) where
 
   pub amid_close : (w : W) (opened : List N) (x : N) → Amid E w opened → Amid E (close E w x (opened_from E.same opened x)) (opened_before E.same opened x)
   amid_close w opened x a = subst (λ o. Amid E (close E w x (opened_from E.same opened x)) o) (append-nil (opened_before E.same opened x))
-      (close_all (opened_before E.same opened x) x (opened_from E.same opened x) w (subst (λ o. Amid E w o) (sym (lists.split_is E.same L.own L.equal opened x)) a))
+      (close_all (opened_before E.same opened x) x (opened_from E.same opened x) w (subst (λ o. Amid E w o) (sym (lists.split_is E.same L.names.own L.names.equal opened x)) a))
 
   -- what has begun, and no other module, still has
   pub close_known : (w : W) (opened : List N) (x : N) → Amid E w opened → (z : N) → was_entered (phase E (close E w x (opened_from E.same opened x)) z) ≡ was_entered (phase E w z)
   close_known w opened x a z = by (cases (was_entered (phase E w z)))
     where
       inside : (y : N) → In E (opened_from E.same opened x) y → was_entered (phase E w y) ≡ true
-      inside y h = a.entered y (subst (λ o. In E o y) (lists.split_is E.same L.own L.equal opened x) (lists.in_right E.same L.own L.equal (opened_before E.same opened x) (opened_from E.same opened x) y h))
+      inside y h = a.entered y (subst (λ o. In E o y) (lists.split_is E.same L.names.own L.names.equal opened x) (lists.in_right E.same L.names.own L.names.equal (opened_before E.same opened x) (opened_from E.same opened x) y h))
 
       by : (was_entered (phase E w z) ≡ true) ⊎ (was_entered (phase E w z) ≡ false) → was_entered (phase E (close E w x (opened_from E.same opened x)) z) ≡ was_entered (phase E w z)
       by (inl h) = close_entered x (opened_from E.same opened x) w z h ∙ sym h
@@ -248,10 +248,10 @@ module _ {N V W : Type 0} (E : Evaluation N V W) (L : IsLawful E) where
       at z = put_at w y n z
 
       more : (z : N) → In E ys z → In E (y ∷ ys) z
-      more z h = lists.in_later E.same L.own L.equal y ys z h
+      more z h = lists.in_later E.same L.names.own L.names.equal y ys z h
 
       less : (z : N) → E.same z y ≡ false → In E (y ∷ ys) z → In E ys z
-      less z o h = either (lists.in_cons E.same L.own L.equal y ys z h) (λ e. absurd (not_both (E.same z y) (subst (λ u. E.same u y ≡ true) (sym e) (L.own y)) o)) (λ k. k)
+      less z o h = either (lists.in_cons E.same L.names.own L.names.equal y ys z h) (λ e. absurd (not_both (E.same z y) (subst (λ u. E.same u y ≡ true) (sym e) (L.names.own y)) o)) (λ k. k)
 
       still : (z : N) → phase E (E.put w y n) z ≡ NotEntered → phase E w z ≡ NotEntered
       still z h = either (at z) (λ q. let e = sym (ap (λ m. m.phase) q.1) ∙ h in cc) (λ q. sym (ap (λ m. m.phase) q.1) ∙ h)
@@ -314,22 +314,22 @@ module _ {N V W : Type 0} (E : Evaluation N V W) (L : IsLawful E) where
       at z = either (put_at w x n z) (λ q. inl (q.0, same_field (λ m. m.waits) u y k refl z ∙ ap (λ m. m.waits) q.1)) (λ q. inr (same_field (λ m. m.waits) u y k refl z ∙ ap (λ m. m.waits) q.1))
 
       forth : (z t : N) → In E (waits E w z) t → In E (waits E v z) t
-      forth z t h = either (at z) (λ q. in_like E t (sym q.1) (lists.in_left E.same L.own L.equal (waits E w x) (y ∷ []) t (subst (λ s. In E (waits E w s) t) q.0 h))) (λ q. in_like E t (sym q) h)
+      forth z t h = either (at z) (λ q. in_like E t (sym q.1) (lists.in_left E.same L.names.own L.names.equal (waits E w x) (y ∷ []) t (subst (λ s. In E (waits E w s) t) q.0 h))) (λ q. in_like E t (sym q) h)
 
       back : (z t : N) → In E (waits E v z) t → In E (waits E w z) t ⊎ ((z ≡ x) × (t ≡ y))
       back z t h = either (at z)
-          (λ q. either (lists.in_split E.same L.own L.equal (waits E w x) (y ∷ []) t (in_like E t q.1 h)) (λ i. inl (subst (λ s. In E (waits E w s) t) (sym q.0) i)) (λ i. either (lists.in_cons E.same L.own L.equal y [] t i) (λ e. inr (q.0, e)) (λ e. cc)))
+          (λ q. either (lists.in_split E.same L.names.own L.names.equal (waits E w x) (y ∷ []) t (in_like E t q.1 h)) (λ i. inl (subst (λ s. In E (waits E w s) t) (sym q.0) i)) (λ i. either (lists.in_cons E.same L.names.own L.names.equal y [] t i) (λ e. inr (q.0, e)) (λ e. cc)))
           (λ q. inl (in_like E t q h))
 
       waiters_before : (z : N) → waiters E u z ≡ waiters E w z
       waiters_before z = same_field (λ m. m.waiters) w x n refl z
 
       new_waiter : In E (waiters E v y) x
-      new_waiter = either (put_at u y k y) (λ q. in_like E x (sym (ap (λ m. m.waiters) q.1)) (lists.in_right E.same L.own L.equal (waiters E u y) (x ∷ []) x (lists.in_first E.same L.own L.equal x []))) (λ q. absurd (not_both (E.same y y) (L.own y) q.0))
+      new_waiter = either (put_at u y k y) (λ q. in_like E x (sym (ap (λ m. m.waiters) q.1)) (lists.in_right E.same L.names.own L.names.equal (waiters E u y) (x ∷ []) x (lists.in_first E.same L.names.own L.names.equal x []))) (λ q. absurd (not_both (E.same y y) (L.names.own y) q.0))
 
       forth_waiters : (z t : N) → In E (waiters E w z) t → In E (waiters E v z) t
       forth_waiters z t h = let i = in_like E t (sym (waiters_before z)) h in
-          either (put_at u y k z) (λ q. in_like E t (sym (ap (λ m. m.waiters) q.1)) (lists.in_left E.same L.own L.equal (waiters E u y) (x ∷ []) t (subst (λ s. In E (waiters E u s) t) q.0 i))) (λ q. in_like E t (sym (ap (λ m. m.waiters) q.1)) i)
+          either (put_at u y k z) (λ q. in_like E t (sym (ap (λ m. m.waiters) q.1)) (lists.in_left E.same L.names.own L.names.equal (waiters E u y) (x ∷ []) t (subst (λ s. In E (waiters E u s) t) q.0 i))) (λ q. in_like E t (sym (ap (λ m. m.waiters) q.1)) i)
 
       moves : (z : N) → (E.begun w z ≡ true) ⊎ HasWait E w z → (E.begun v z ≡ true) ⊎ HasWait E v z
       moves z (inl h) = inl (begun z ∙ h)

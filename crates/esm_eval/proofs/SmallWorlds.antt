@@ -55,8 +55,7 @@ read_back ns D n D = refl
 module _ (targets : Name → List Name) (awaits : Name → Bool) where
   small_is_lawful : IsLawful (small targets awaits)
   small_is_lawful = record {
-    own = own;
-    equal = equal;
+    names = record { own = own; equal = equal };
     put = λ w x n. record { node = read_back w.nodes x n; stamps = refl; begun = λ y. refl; awaits = λ y. refl };
     add_stamp = λ w x. record { nodes = λ y. refl; stamps = refl; begun = λ y. refl; awaits = λ y. refl };
     make_promise = λ w. record { nodes = λ y. refl; stamps = refl; begun = λ y. refl; awaits = λ y. refl };

@@ -40,7 +40,7 @@ module _ {N V W S : Type 0} (E : Evaluation N V W) (acts : BodyCalls N V W S) (L
       let s = L.add_stamp w x in
       record {
         amid = amid_stamp E w (E.add_stamp w x) opened x L (like_nodes E w (E.add_stamp w x) s.nodes) s.stamps (λ z h. s.begun z ∙ h) b
-            (inr (y, subst (λ zs. is_in E.same zs y ≡ true) (sym (ap (λ n. n.waits) (s.nodes x) ∙ e)) (in_first E.same L.own L.equal y ys))) a;
+            (inr (y, subst (λ zs. is_in E.same zs y ≡ true) (sym (ap (λ n. n.waits) (s.nodes x) ∙ e)) (in_first E.same L.names.own L.names.equal y ys))) a;
         known = λ z. ap (λ n. was_entered n.phase) (s.nodes z);
       }
 
@@ -77,7 +77,7 @@ module _ {N V W S : Type 0} (E : Evaluation N V W) (acts : BodyCalls N V W S) (L
       by : (E.same y x ≡ true) ⊎ (E.same y x ≡ false) → ((y ≡ x) × (E.node (enter E w x) y ≡ record (E.node w x) { phase = Evaluating })) ⊎ ((E.same y x ≡ false) × (E.node (enter E w x) y ≡ E.node w y)) → (E.same y x || is_in E.same seen y) ≡ was_entered (phase E (enter E w x) y)
       by (inl h) (inl q) = ap (λ b. b || is_in E.same seen y) h ∙ sym (ap (λ n. was_entered n.phase) q.1)
       by (inl h) (inr q) = absurd (not_both (E.same y x) h q.0)
-      by (inr h) (inl q) = absurd (not_both (E.same y x) (subst (λ z. E.same z x ≡ true) (sym q.0) (L.own x)) h)
+      by (inr h) (inl q) = absurd (not_both (E.same y x) (subst (λ z. E.same z x ≡ true) (sym q.0) (L.names.own x)) h)
       by (inr h) (inr q) = ap (λ b. b || is_in E.same seen y) h ∙ k y ∙ sym (ap (λ n. was_entered n.phase) q.1)
 
   pub known_step : (w v : W) (seen : List N) → ((y : N) → was_entered (phase E v y) ≡ was_entered (phase E w y)) → Known w seen → Known v seen
@@ -85,7 +85,7 @@ module _ {N V W S : Type 0} (E : Evaluation N V W) (acts : BodyCalls N V W S) (L
 
   module _ (to : N → List N) where
     abbrev pub Fit : List N → List (Mark N) → Type 0
-    Fit = Fits E.same L.own L.equal to
+    Fit = Fits E.same L.names.own L.names.equal to
 
     pub has : (w : W) (seen : List N) (x : N) → Known w seen → is_in E.same seen x ≡ true → was_entered (phase E w x) ≡ true
     has w seen x k h = sym (k x) ∙ h
@@ -126,7 +126,7 @@ module _ {N V W S : Type 0} (E : Evaluation N V W) (acts : BodyCalls N V W S) (L
 
   walks_keep : {w : W} {m : N} {end : WalkEnd V S} {after : W} → Walks E acts w m (keep E w m) end after → Amid E w [] → Kept end after
   walks_keep {w} {m} p a = marks_keep (E.targets w) p.closed p.leads
-      (subst (λ ms. Fit (E.targets w) p.closed ms) (append-nil p.marks) (walk_fits E.same L.own L.equal (E.targets w) p.walk.1))
+      (subst (λ ms. Fit (E.targets w) p.closed ms) (append-nil p.marks) (walk_fits E.same L.names.own L.names.equal (E.targets w) p.walk.1))
       (λ y. p.closed_is y ∙ sym (ap was_entered ((keep_like w m).phases y))) (keep_keeps w m a)
 
   fulfill_keeps : (w : W) (p : ℕ) (h : Phase) → Amid E w [] → Amid E (fulfill_by E w p h) []

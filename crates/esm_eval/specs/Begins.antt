@@ -1,14 +1,9 @@
 -- No body begins twice.
-use Rattle.std.specs.Prelude.{◌≡◌, ◌⊎◌, Bool, true, false, List, [], ◌∷◌, Result}
-use Rattle.esm_base.specs.Lists.{is_in}
+use Rattle.std.specs.Prelude.{◌≡◌, ◌⊎◌, true, false, Result}
+use Rattle.esm_base.specs.Lists.{EachOnce}
 use Rattle.esm_eval.specs.Nodes.{NotEntered, Call, CallAnswer, BodyCalls, module_of}
 use Rattle.esm_eval.specs.Evaluation.{Evaluation, phase}
 use Rattle.esm_eval.specs.Waiting.{IsBetweenCalls}
-
--- each of these modules stands once
-abbrev pub EachOnce : {N : Type 0} → (N → N → Bool) → List N → Type 0
-EachOnce same [] = Unit {0}
-EachOnce same (x ∷ xs) = (is_in same xs x ≡ false) × EachOnce same xs
 
 module _ {N V W S : Type 0} (E : Evaluation N V W) (acts : BodyCalls N V W S) where
   -- a call for a body that hasn't begun

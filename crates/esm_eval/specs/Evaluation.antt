@@ -1,7 +1,7 @@
 -- What evaluation reads and writes of a world W: any kind of record that has these parts.
 use Rattle.std.specs.Prelude.{◌≡◌, ℕ, Bool, true, false, List, [], ◌∷◌, ◌++◌, if◌then◌else◌, Option, Some, None, Result, Ok}
 use Rattle.std.specs.Option.{unwrap_or, option_or}
-use Rattle.esm_base.specs.Lists.{is_in}
+use Rattle.esm_base.specs.Lists.{IsSameness, is_in}
 use Rattle.esm_eval.specs.Nodes.{Phase, Evaluating, was_entered, Node, Call, CallAnswer, BodyCalls, module_of}
 
 pub record Evaluation (N V W : Type 0) : Type 0 where
@@ -104,8 +104,7 @@ module _ {N V W : Type 0} (E : Evaluation N V W) where
 
   -- a part that is read is what was written last, and a write changes no other part
   pub record IsLawful : Type 0 where
-    pub own : (x : N) → E.same x x ≡ true
-    pub equal : (x y : N) → E.same x y ≡ true → x ≡ y
+    pub names : IsSameness E.same
     pub put : (w : W) (x : N) (n : Node N V) → IsPut w x n (E.put w x n)
     pub add_stamp : (w : W) (x : N) → IsStamped w x (E.add_stamp w x)
     pub make_promise : (w : W) → IsAlike w (E.make_promise w)

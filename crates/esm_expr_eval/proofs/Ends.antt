@@ -1,6 +1,6 @@
 -- A turn's end is the end of the whole.
 use Rattle.std.proofs.Common.{◌≡◌, ◌+◌, ℕ, List, [], ◌∷◌, refl, ap, ◌∙◌}
-use Rattle.std.specs.Prelude.{Some, Err}
+use Rattle.std.specs.Prelude.{Option, Some, None, Err}
 use Rattle.esm_tree.specs.Syntax as ast
 use Rattle.esm_tree.specs.Flat.{part}
 use Rattle.esm_values.specs.Plans.{Acting}
@@ -17,7 +17,6 @@ use Rattle.esm_expr_eval.specs.Frames.{behind, plug, around, GoesOn, EndsTurn, a
 use Rattle.esm_expr_eval.specs.Parts.{from, links_from, links_of}
 use Rattle.esm_expr_eval.specs.Machine.{LeadsToMove, IsGiven}
 use Rattle.esm_expr_eval.specs.declared.frame.Focus.{Focus}
-use Rattle.esm_expr_eval.specs.declared.frame.Focus.TheVariants as focus
 use Rattle.esm_values.specs.declared.value.Value.{Value}
 use Rattle.esm_expr_eval.specs.declared.frame.Frame.{Frame}
 use Rattle.esm_expr_eval.specs.declared.frame.Frame.TheVariants as f
@@ -92,10 +91,9 @@ module _ (p : Term CodeValue) where
   fill_around exprs [] t = refl
   fill_around exprs (frame ∷ frames) t = fill_plug exprs frame (around exprs frames t) ∙ ap (plug exprs frame) (fill_around exprs frames t)
 
-pub is_waits : (v : Value) (part : Focus) → IsGiven (Some v) part → part ≡ focus.Waits
-is_waits v (focus.Begin id) h = absurd h
-is_waits v (focus.Value u) h = absurd h
-is_waits v focus.Waits h = refl
+pub is_waits : (v : Value) (part : Option Focus) → IsGiven (Some v) part → part ≡ None
+is_waits v None h = refl
+is_waits v (Some focus) h = absurd h
 
 -- a throw of the call under way is a throw of the whole, so that the frames may be dropped
 module _ {W S : Type 0} (url : W → List ℕ) (acts : Acting W CodeValue S) where

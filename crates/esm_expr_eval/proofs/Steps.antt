@@ -5,7 +5,7 @@ use Rattle.esm_tree.specs.Syntax as ast
 use Rattle.std.specs.declared.alloc.Global.{Global}
 use Rattle.esm_tree.specs.Flat.{part}
 use Rattle.esm_tree.specs.declared.node.ExprId.{ExprId}
-use Rattle.esm_values.specs.Plans.{Acting, Rewritten, inside, Follows}
+use Rattle.esm_values.specs.Plans.{Acting, Rewritten, Plan, inside, Follows}
 use Rattle.esm_values.specs.Plans.Rewritten.{Goes, Leaves, Calls, Stops}
 use Rattle.esm_values.specs.Acts.{Act as act}
 use Rattle.esm_values.specs.Plans.{Follows as follows}
@@ -15,16 +15,16 @@ use Rattle.esm_values.specs.declared.errors.FaultKind.TheVariants as kinds
 use Rattle.esm_values.specs.Code.{CodeValue, value_of, values_of, numbered}
 use Rattle.esm_values.specs.declared.value.Value.{Value}
 use Rattle.esm_expr_eval.specs.Terms.{Term, Terms, LinkTerms, term, terms, links}
-use Rattle.esm_expr_eval.specs.Terms.Term.{Val, Waits, Or, And, Sum, Post, Print}
+use Rattle.esm_expr_eval.specs.Terms.Term.{Val, Waits, NewError, Import, Or, And, Sum, Post, Print}
 use Rattle.esm_expr_eval.specs.Terms.Terms.{none, more}
 use Rattle.esm_expr_eval.specs.Terms.LinkTerms.{call}
 use Rattle.esm_expr_eval.specs.Parts.{from, compared_from, links_of, links_from}
-use Rattle.esm_expr_eval.specs.Rewriting.{Rewrites, RewritesIn, enters, AreValues, AreValues as values_are}
+use Rattle.esm_expr_eval.specs.Rewriting.{Rewrites, RewritesIn, enters, printed, error_made, import_begun, AreValues, AreValues as values_are}
 use Rattle.esm_expr_eval.specs.Rewriting.{Rewrites as step}
 use Rattle.esm_expr_eval.specs.Rewriting.{RewritesIn as step_in}
 use Rattle.esm_expr_eval.specs.Ends.{Leads, TermEnd}
 use Rattle.esm_expr_eval.specs.Ends.{Leads as leads}
-use Rattle.esm_expr_eval.specs.Frames.{behind, plug, around, rest_links, arguments_of, rest_operands, operands_of, comparisons_of, IsFrame, AreFrames, frame_work, frames_work, size, sizes, compared_size, links_size, GoesOn, EndsTurn, Keeps, AnswersPlan, IsCalled, IsPrinted, Begins}
+use Rattle.esm_expr_eval.specs.Frames.{behind, plug, around, rest_links, arguments_of, rest_operands, operands_of, comparisons_of, IsFrame, AreFrames, frame_work, frames_work, size, sizes, compared_size, links_size, GoesOn, EndsTurn, Keeps, AnswersPlan, IsCalled, FollowsPlan, Begins}
 use Rattle.esm_expr_eval.proofs.Stacks.{around_push, frames_push, work_push}
 use Rattle.esm_expr_eval.specs.declared.world.Out.TheVariants as o
 use Rattle.esm_expr_eval.specs.declared.world.ExprEnd.{ExprEnd}
@@ -94,7 +94,6 @@ module _ {W S : Type 0} (url : W → List ℕ) (acts : Acting W CodeValue S) whe
   pub begins_tells : (exprs : List ast.Expr) (old new : List Frame) (w : W) (t : Term CodeValue) (frame : Frame) (id : ExprId) (r : Result Next (ExprEnd S)) → GoesOn url acts w (around exprs old t) w (around exprs old (plug exprs frame (term numbered (part exprs id)))) → Begins old frame id r new → EndsTurn url acts exprs w (around exprs old t) r w new
   begins_tells exprs old new w t frame id (Ok (next.Focus (focus.Begin k))) g h = rw (h.0, h.1, around_push exprs old frame (term numbered (part exprs id))) g
   begins_tells exprs old new w t frame id (Ok (next.Focus (focus.Value v))) g h = absurd h
-  begins_tells exprs old new w t frame id (Ok (next.Focus focus.Waits)) g h = absurd h
   begins_tells exprs old new w t frame id (Ok (next.Thrown v)) g h = absurd h
   begins_tells exprs old new w t frame id (Ok (next.Call k us)) g h = absurd h
   begins_tells exprs old new w t frame id (Ok (next.Done v)) g h = absurd h
@@ -224,56 +223,44 @@ module _ {W S : Type 0} (url : W → List ℕ) (acts : Acting W CodeValue S) whe
   pub print_next : (exprs : List ast.Expr) (frames : List Frame) (w : W) (at : ExprId) (n : ℕ) (v : Value) (vs us : Vec Value Global) (id : ExprId) → us.items ≡ vs.items ++ v ∷ [] → from n (operands_of exprs at) ≡ ast.more (part exprs id) (from (n + 1) (operands_of exprs at)) → GoesOn url acts w (around exprs frames (plug exprs (f.Print at n vs) (Val (value_of v)))) w (around exprs frames (plug exprs (f.Print at (n + 1) us) (term numbered (part exprs id))))
   print_next exprs frames w at n v vs us id i e = rw (i, behind_push vs.items v _, e) (λ end after l. l)
 
-  pub printed_tells : (exprs : List ast.Expr) (frames : List Frame) (w after : W) (vs : List CodeValue) (r : Result Next (ExprEnd S)) → IsPrinted url acts w vs r after → EndsTurn url acts exprs w (around exprs frames (Print (behind vs none))) r after frames
-  printed_tells exprs frames w after vs (Ok (next.Focus (focus.Begin id))) h = absurd h
-  printed_tells exprs frames w after vs (Ok (next.Focus (focus.Value v))) h = goes_on exprs frames (step.print (behind_values vs) h)
-  printed_tells exprs frames w after vs (Ok (next.Focus focus.Waits)) h = absurd h
-  printed_tells exprs frames w after vs (Ok (next.Thrown v)) h = absurd h
-  printed_tells exprs frames w after vs (Ok (next.Call k us)) h = absurd h
-  printed_tells exprs frames w after vs (Ok (next.Done v)) h = absurd h
-  printed_tells exprs frames w after vs (Err (ends.Stopped why)) h = stops exprs frames (step.print (behind_values vs) h)
-  printed_tells exprs frames w after vs (Err ends.Memory) h = tt
+  -- a turn that follows the plan of a rewriting
+  pub planned_tells : (exprs : List ast.Expr) (frames : List Frame) (w after : W) (t : Term CodeValue) (plan : Plan CodeValue S (Term CodeValue)) (r : Result Next (ExprEnd S)) → ((c : Rewritten CodeValue S (Term CodeValue)) → Follows acts w plan c after → RewritesNumbered w t c after) → FollowsPlan url acts w plan r after → EndsTurn url acts exprs w (around exprs frames t) r after frames
+  planned_tells exprs frames w after t plan (Ok (next.Focus (focus.Begin id))) s h = absurd h
+  planned_tells exprs frames w after t plan (Ok (next.Focus (focus.Value v))) s h = goes_on exprs frames (s _ h)
+  planned_tells exprs frames w after t plan (Ok (next.Thrown v)) s h = leaves exprs frames (s _ h)
+  planned_tells exprs frames w after t plan (Ok (next.Call k us)) s h = absurd h
+  planned_tells exprs frames w after t plan (Ok (next.Done v)) s h = absurd h
+  planned_tells exprs frames w after t plan (Err (ends.Stopped why)) s h = stops exprs frames (s _ h)
+  planned_tells exprs frames w after t plan (Err ends.Memory) s h = tt
 
-  pub printed_tells_behind : (exprs : List ast.Expr) (frames : List Frame) (w after : W) (vs : List Value) (v : Value) (r : Result Next (ExprEnd S)) → IsPrinted url acts w (values_of (vs ++ v ∷ [])) r after → EndsTurn url acts exprs w (around exprs frames (Print (behind (values_of vs) (more (Val (value_of v)) none)))) r after frames
+  pub planned_keeps : (exprs : List ast.Expr) (frames : List Frame) (w after : W) (left : ℕ) (plan : Plan CodeValue S (Term CodeValue)) (r : Result Next (ExprEnd S)) → AreFrames (length exprs) frames → 0 < left → FollowsPlan url acts w plan r after → Keeps exprs (frames_work exprs frames + left) r frames
+  planned_keeps exprs frames w after left plan (Ok (next.Focus (focus.Begin id))) a l h = absurd h
+  planned_keeps exprs frames w after left plan (Ok (next.Focus (focus.Value v))) a l h = (a, tt, omega (arith, l))
+  planned_keeps exprs frames w after left plan (Ok (next.Thrown v)) a l h = tt
+  planned_keeps exprs frames w after left plan (Ok (next.Call k us)) a l h = absurd h
+  planned_keeps exprs frames w after left plan (Ok (next.Done v)) a l h = absurd h
+  planned_keeps exprs frames w after left plan (Err end) a l h = tt
+
+  pub printed_tells : (exprs : List ast.Expr) (frames : List Frame) (w after : W) (vs : List CodeValue) (r : Result Next (ExprEnd S)) → FollowsPlan url acts w (printed numbered vs) r after → EndsTurn url acts exprs w (around exprs frames (Print (behind vs none))) r after frames
+  printed_tells exprs frames w after vs r h = planned_tells exprs frames w after (Print (behind vs none)) (printed numbered vs) r (λ c p. step.print (behind_values vs) p) h
+
+  pub printed_tells_behind : (exprs : List ast.Expr) (frames : List Frame) (w after : W) (vs : List Value) (v : Value) (r : Result Next (ExprEnd S)) → FollowsPlan url acts w (printed numbered (values_of (vs ++ v ∷ []))) r after → EndsTurn url acts exprs w (around exprs frames (Print (behind (values_of vs) (more (Val (value_of v)) none)))) r after frames
   printed_tells_behind exprs frames w after vs v r h = rw (← behind_push vs v none) (printed_tells exprs frames w after (values_of (vs ++ v ∷ [])) r h)
-
-  pub printed_keeps : (exprs : List ast.Expr) (frames : List Frame) (w after : W) (left : ℕ) (vs : List CodeValue) (r : Result Next (ExprEnd S)) → AreFrames (length exprs) frames → 0 < left → IsPrinted url acts w vs r after → Keeps exprs (frames_work exprs frames + left) r frames
-  printed_keeps exprs frames w after left vs (Ok (next.Focus (focus.Begin id))) a l h = absurd h
-  printed_keeps exprs frames w after left vs (Ok (next.Focus (focus.Value v))) a l h = (a, tt, omega (arith, l))
-  printed_keeps exprs frames w after left vs (Ok (next.Focus focus.Waits)) a l h = absurd h
-  printed_keeps exprs frames w after left vs (Ok (next.Thrown v)) a l h = absurd h
-  printed_keeps exprs frames w after left vs (Ok (next.Call k us)) a l h = absurd h
-  printed_keeps exprs frames w after left vs (Ok (next.Done v)) a l h = absurd h
-  printed_keeps exprs frames w after left vs (Err end) a l h = tt
 
   -- ! behind a value
   pub not_goes : (exprs : List ast.Expr) (frames : List Frame) (w : W) (v : CodeValue) → GoesOn url acts w (around exprs frames (plug exprs f.Not (Val v))) w (around exprs frames (Val (numbered.truth (not (is_true (look_of v))))))
   not_goes exprs frames w v = goes_on exprs frames step.not_of
 
-  -- new Error behind a value
-  module _ (exprs : List ast.Expr) (frames : List Frame) (w mid : W) (v : CodeValue) (took : acts w (act.Step 1) (Ok tt) mid) (after : W) where
-    pub error_goes : (u : Value) → AnswersPlan url acts mid (λ rest. error_of numbered rest v (look_of v)) (Ok (o.Value u)) after → GoesOn url acts w (around exprs frames (plug exprs f.NewError (Val v))) after (around exprs frames (Val (value_of u)))
-    error_goes u h = goes_on exprs frames (step.error (follows.asks tt took (h (λ u. Val u))))
+  -- new Error and import() behind a value
+  pub error_tells : (exprs : List ast.Expr) (frames : List Frame) (w after : W) (v : CodeValue) (r : Result Next (ExprEnd S)) → FollowsPlan url acts w (error_made numbered v) r after → EndsTurn url acts exprs w (around exprs frames (plug exprs f.NewError (Val v))) r after frames
+  error_tells exprs frames w after v r h = planned_tells exprs frames w after (NewError (Val v)) (error_made numbered v) r (λ c p. step.error p) h
 
-    pub error_leaves : (u : Value) → AnswersPlan url acts mid (λ rest. error_of numbered rest v (look_of v)) (Ok (o.Thrown u)) after → Leads numbered url acts w (around exprs frames (plug exprs f.NewError (Val v))) (TermEnd.Thrown (value_of u)) after
-    error_leaves u h = leaves exprs frames (step.error (follows.asks tt took (h (λ u. Val u))))
+  pub import_tells : (exprs : List ast.Expr) (frames : List Frame) (w after : W) (v : CodeValue) (r : Result Next (ExprEnd S)) → FollowsPlan url acts w (import_begun numbered v) r after → EndsTurn url acts exprs w (around exprs frames (plug exprs f.Import (Val v))) r after frames
+  import_tells exprs frames w after v r h = planned_tells exprs frames w after (Import (Val v)) (import_begun numbered v) r (λ c p. step.begins p) h
 
-    pub error_ends : (end : ExprEnd S) → AnswersPlan url acts mid (λ rest. error_of numbered rest v (look_of v)) (Err end) after → EndsTurn url acts exprs w (around exprs frames (plug exprs f.NewError (Val v))) (Err end) after frames
-    error_ends (ends.Stopped why) h = stops exprs frames (step.error (follows.asks tt took (h (λ u. Val u))))
-    error_ends ends.Memory h = tt
-
-    -- import() behind a value
-    pub import_goes : (p : CodeValue) → acts mid (act.Import v) (Ok p) after → GoesOn url acts w (around exprs frames (plug exprs f.Import (Val v))) after (around exprs frames (Val p))
-    import_goes p a = goes_on exprs frames (step.begins (follows.asks tt took (follows.asks p a follows.ends)))
-
-    pub import_stops : (why : S) → acts mid (act.Import v) (Err why) after → Leads numbered url acts w (around exprs frames (plug exprs f.Import (Val v))) (TermEnd.Stopped why) after
-    import_stops why a = stops exprs frames (step.begins (follows.asks tt took (follows.stops a)))
-
-  pub error_untaken : (exprs : List ast.Expr) (frames : List Frame) (w after : W) (v : CodeValue) (why : S) → acts w (act.Step 1) (Err why) after → Leads numbered url acts w (around exprs frames (plug exprs f.NewError (Val v))) (TermEnd.Stopped why) after
-  error_untaken exprs frames w after v why a = stops exprs frames (step.error (follows.stops a))
-
-  pub import_untaken : (exprs : List ast.Expr) (frames : List Frame) (w after : W) (v : CodeValue) (why : S) → acts w (act.Step 1) (Err why) after → Leads numbered url acts w (around exprs frames (plug exprs f.Import (Val v))) (TermEnd.Stopped why) after
-  import_untaken exprs frames w after v why a = stops exprs frames (step.begins (follows.stops a))
+  pub error_ends : (w mid after : W) (v : CodeValue) (end : ExprEnd S) → acts w (act.Step 1) (Ok tt) mid → AnswersPlan url acts mid (λ rest. error_of numbered rest v (look_of v)) (Err end) after → FollowsPlan url acts w (error_made numbered v) (Err end) after
+  error_ends w mid after v (ends.Stopped why) took h = follows.asks tt took (h (λ u. Val u))
+  error_ends w mid after v ends.Memory took h = tt
 
   -- a callee
   pub enters_function : (w : W) (g : CodeValue) (vs : List CodeValue) (ls : LinkTerms CodeValue) (l : Look) → is_func l ≡ true → Follows acts w (enters numbered g vs ls l) (Calls g vs (Post Waits ls)) w
@@ -327,7 +314,6 @@ keeps_begin exprs frames frame id most a b i h =
 pub begins_keeps : {S : Type 0} (exprs : List ast.Expr) (old new : List Frame) (frame : Frame) (id : ExprId) (most : ℕ) (r : Result Next (ExprEnd S)) → AreFrames (length exprs) old → IsFrame (length exprs) frame → id.0 < length exprs → frame_work exprs frame + size (part exprs id) < most → Begins old frame id r new → Keeps exprs (frames_work exprs old + most) r new
 begins_keeps exprs old new frame id most (Ok (next.Focus (focus.Begin k))) a b i l h = rw (h.0, h.1) (keeps_begin exprs old frame id most a b i l)
 begins_keeps exprs old new frame id most (Ok (next.Focus (focus.Value v))) a b i l h = absurd h
-begins_keeps exprs old new frame id most (Ok (next.Focus focus.Waits)) a b i l h = absurd h
 begins_keeps exprs old new frame id most (Ok (next.Thrown v)) a b i l h = absurd h
 begins_keeps exprs old new frame id most (Ok (next.Call g us)) a b i l h = absurd h
 begins_keeps exprs old new frame id most (Ok (next.Done v)) a b i l h = absurd h

@@ -1,19 +1,20 @@
 -- What a stack of frames stands for: the syntax around the part under way.
-use Rattle.std.specs.Prelude.{◌≡◌, Bool, ℕ, ◌+◌, ◌<◌, ◌^◌, length, List, [], ◌∷◌, ◌++◌, Option, Some, None, Result, Ok, Err}
+use Rattle.std.specs.Prelude.{◌≡◌, Bool, false, ℕ, ◌+◌, ◌<◌, ◌^◌, length, List, [], ◌∷◌, ◌++◌, Option, Some, None, Result, Ok, Err}
 use Rattle.esm_tree.specs.Syntax as ast
 use Rattle.esm_tree.specs.Flat.{part}
 use Rattle.esm_tree.specs.declared.node.ExprId.{ExprId}
 use Rattle.esm_values.specs.Plans.{Acting, Rewritten, Plan, Follows}
 use Rattle.esm_values.specs.Plans.Rewritten.{Goes, Leaves, Calls, Stops}
-use Rattle.esm_values.specs.Operators.{Look, is_text, shown, operand}
-use Rattle.esm_values.specs.Code.{CodeValue, value_of, values_of, numbered}
+use Rattle.esm_values.specs.Operators.{Look, look_of, is_func, is_text, shown, operand}
+use Rattle.esm_values.specs.declared.value.FuncId.{FuncId}
+use Rattle.esm_values.specs.Code.{CodeValue, value_of, values_of, func_value, numbered}
 use Rattle.esm_expr_eval.specs.Terms.{Term, Terms, Compared, LinkTerms, term, terms, compared_terms, links}
 use Rattle.esm_expr_eval.specs.Terms.Term.{Val, Waits, Or, And, Equal, Sum, Not, Post, Print, NewError, Import}
 use Rattle.esm_expr_eval.specs.Terms.Terms.{more}
 use Rattle.esm_expr_eval.specs.Terms.Compared.{compared}
 use Rattle.esm_expr_eval.specs.Terms.LinkTerms.{call}
 use Rattle.esm_expr_eval.specs.Parts.{operands, from, compared_of, compared_from, links_of, links_from, arguments}
-use Rattle.esm_expr_eval.specs.Rewriting.{called, printed}
+use Rattle.esm_expr_eval.specs.Rewriting.{called}
 use Rattle.esm_expr_eval.specs.Ends.{Leads, TermEnd}
 use Rattle.esm_expr_eval.specs.declared.sums.Shown.{Shown}
 use Rattle.esm_expr_eval.specs.declared.world.Out.{Out}
@@ -75,7 +76,6 @@ around exprs (frame ∷ frames) t = plug exprs frame (around exprs frames t)
 abbrev pub at_focus : List ast.Expr → Focus → Term CodeValue
 at_focus exprs (focus.Begin id) = term numbered (part exprs id)
 at_focus exprs (focus.Value v) = Val (value_of v)
-at_focus exprs focus.Waits = Waits
 
 -- the numbers name parts of the tree
 abbrev pub IsFrame : ℕ → Frame → Type 0
@@ -99,7 +99,11 @@ AreFrames n (frame ∷ frames) = IsFrame n frame × AreFrames n frames
 abbrev pub IsFocus : ℕ → Focus → Type 0
 IsFocus n (focus.Begin id) = id.0 < n
 IsFocus n (focus.Value v) = Unit {0}
-IsFocus n focus.Waits = Unit {0}
+
+-- the function that a value is, if it is one
+abbrev pub IsFunction : CodeValue → Option FuncId → Type 0
+IsFunction v None = is_func (look_of v) ≡ false
+IsFunction v (Some function) = func_value function ≡ v
 
 -- the text of what can be joined
 abbrev pub IsShown : Look → Option Shown → Type 0
@@ -168,7 +172,6 @@ frames_work exprs (frame ∷ frames) = frame_work exprs frame + frames_work expr
 abbrev pub focus_work : List ast.Expr → Focus → ℕ
 focus_work exprs (focus.Begin id) = size (part exprs id)
 focus_work exprs (focus.Value v) = 0
-focus_work exprs focus.Waits = 0
 
 module _ {W S : Type 0} (url : W → List ℕ) (acts : Acting W CodeValue S) where
   -- what the second leads to, the first leads to
@@ -180,14 +183,15 @@ module _ {W S : Type 0} (url : W → List ℕ) (acts : Acting W CodeValue S) whe
   EndsTurn exprs w t (Ok (next.Focus f)) after frames = GoesOn w t after (around exprs frames (at_focus exprs f))
   EndsTurn exprs w t (Ok (next.Done v)) after frames = Leads numbered url acts w t (TermEnd.Value (value_of v)) after
   EndsTurn exprs w t (Ok (next.Thrown v)) after frames = Leads numbered url acts w t (TermEnd.Thrown (value_of v)) after
-  EndsTurn exprs w t (Ok (next.Call f vs)) after frames = Leads numbered url acts w t (TermEnd.Call (value_of f) (values_of vs.items)
+  EndsTurn exprs w t (Ok (next.Call f vs)) after frames = Leads numbered url acts w t (TermEnd.Call (func_value f) (values_of vs.items)
       (around exprs frames Waits)) after
   EndsTurn exprs w t (Err (ends.Stopped why)) after frames = Leads numbered url acts w t (TermEnd.Stopped why) after
   EndsTurn exprs w t (Err ends.Memory) after frames = Unit {0}
 
   -- what is planned of a value comes to this answer
   abbrev pub AnswersPlan : W → ((CodeValue → Term CodeValue) → Plan CodeValue S (Term CodeValue)) → Result Out (ExprEnd S) → W → Type 0
-  AnswersPlan w plan (Ok (o.Value v)) after = (rest : CodeValue → Term CodeValue) → Follows acts w (plan rest) (Goes (rest (value_of v))) after
+  AnswersPlan w plan (Ok (o.Value v)) after = (rest : CodeValue → Term CodeValue)
+      → Follows acts w (plan rest) (Goes (rest (value_of v))) after
   AnswersPlan w plan (Ok (o.Thrown v)) after = (rest : CodeValue → Term CodeValue) → Follows acts w (plan rest) (Leaves (value_of v)) after
   AnswersPlan w plan (Err (ends.Stopped why)) after = (rest : CodeValue → Term CodeValue) → Follows acts w (plan rest) (Stops why) after
   AnswersPlan w plan (Err ends.Memory) after = Unit {0}
@@ -198,26 +202,26 @@ module _ {W S : Type 0} (url : W → List ℕ) (acts : Acting W CodeValue S) whe
   IsCalled w old frame f vs (Ok (next.Done v)) after new = ⊥
   IsCalled w old frame f vs (Ok (next.Thrown v)) after new = (ls : LinkTerms CodeValue)
       → Follows acts w (called numbered f vs ls) (Leaves (value_of v)) after
-  IsCalled w old frame f vs (Ok (next.Call g us)) after new = (value_of g ≡ f) × (values_of us.items ≡ vs) × (new ≡ old ++ frame ∷ [])
+  IsCalled w old frame f vs (Ok (next.Call g us)) after new = (func_value g ≡ f) × (values_of us.items ≡ vs) × (new ≡ old ++ frame ∷ [])
       × ((ls : LinkTerms CodeValue) → Follows acts w (called numbered f vs ls) (Calls f vs (Post Waits ls)) after)
   IsCalled w old frame f vs (Err (ends.Stopped why)) after new = (ls : LinkTerms CodeValue)
       → Follows acts w (called numbered f vs ls) (Stops why) after
   IsCalled w old frame f vs (Err ends.Memory) after new = Unit {0}
 
-  -- what was printed comes to this answer
-  abbrev pub IsPrinted : W → List CodeValue → Result Next (ExprEnd S) → W → Type 0
-  IsPrinted w vs (Ok (next.Focus (focus.Value v))) after = Follows acts w (printed numbered vs) (Goes (Val (value_of v))) after
-  IsPrinted w vs (Ok (next.Focus (focus.Begin id))) after = ⊥
-  IsPrinted w vs (Ok (next.Focus focus.Waits)) after = ⊥
-  IsPrinted w vs (Ok (next.Done v)) after = ⊥
-  IsPrinted w vs (Ok (next.Thrown v)) after = ⊥
-  IsPrinted w vs (Ok (next.Call g us)) after = ⊥
-  IsPrinted w vs (Err (ends.Stopped why)) after = Follows acts w (printed numbered vs) (Stops why) after
-  IsPrinted w vs (Err ends.Memory) after = Unit {0}
+  -- one turn follows this plan, up to a value or a throw
+  abbrev pub FollowsPlan : W → Plan CodeValue S (Term CodeValue) → Result Next (ExprEnd S) → W → Type 0
+  FollowsPlan w plan (Ok (next.Focus (focus.Value v))) after = Follows acts w plan (Goes (Val (value_of v))) after
+  FollowsPlan w plan (Ok (next.Focus (focus.Begin id))) after = ⊥
+  FollowsPlan w plan (Ok (next.Done v)) after = ⊥
+  FollowsPlan w plan (Ok (next.Thrown v)) after = Follows acts w plan (Leaves (value_of v)) after
+  FollowsPlan w plan (Ok (next.Call g us)) after = ⊥
+  FollowsPlan w plan (Err (ends.Stopped why)) after = Follows acts w plan (Stops why) after
+  FollowsPlan w plan (Err ends.Memory) after = Unit {0}
 
   -- an operand of a sum is seen so, after what is asked for that
   abbrev pub Sees : W → CodeValue → Result (Option Shown) (ExprEnd S) → W → Type 0
-  Sees w v (Ok s) mid = (l : Look) × IsShown l s × ((next : Look → Plan CodeValue S (Term CodeValue)) (c : Rewritten CodeValue S (Term CodeValue)) (after : W)
+  Sees w v (Ok s) mid = (l : Look) × IsShown l s
+      × ((next : Look → Plan CodeValue S (Term CodeValue)) (c : Rewritten CodeValue S (Term CodeValue)) (after : W)
       → Follows acts mid (next l) c after → Follows acts w (operand numbered v (numbered.look v) next) c after)
   Sees w v (Err (ends.Stopped why)) after = (next : Look → Plan CodeValue S (Term CodeValue))
       → Follows acts w (operand numbered v (numbered.look v) next) (Stops why) after
@@ -236,7 +240,6 @@ Keeps exprs most (Err end) frames = Unit {0}
 abbrev pub Begins : {S : Type 0} → List Frame → Frame → ExprId → Result Next (ExprEnd S) → List Frame → Type 0
 Begins old frame part (Ok (next.Focus (focus.Begin id))) new = (id ≡ part) × (new ≡ old ++ frame ∷ [])
 Begins old frame part (Ok (next.Focus (focus.Value v))) new = ⊥
-Begins old frame part (Ok (next.Focus focus.Waits)) new = ⊥
 Begins old frame part (Ok (next.Thrown v)) new = ⊥
 Begins old frame part (Ok (next.Call f vs)) new = ⊥
 Begins old frame part (Ok (next.Done v)) new = ⊥

@@ -58,8 +58,8 @@ module _ {W V S : Type 0} (values : Values V) (url : W → List ℕ) (acts : Act
       -- own: the value of a call, or of an await, that threw is thrown here
       fails : {w : W} {v : V} → Rewrites w (Fails v) (Leaves v) w
       -- ECMA-262, ResolveBinding and GetValue of an IdentifierReference
-      name : {w after : W} {x : List ℕ} {c : Rewritten V S (Term V)} → Follows acts w (Asks (act.Read x) (complete values (λ v. Val v))) c after
-          → Rewrites w (Name x) c after
+      name : {w after : W} {x : List ℕ} {c : Rewritten V S (Term V)}
+          → Follows acts w (Asks (act.Read x) (complete values (λ v. Val v))) c after → Rewrites w (Name x) c after
       -- ECMA-262, binary logical operators
       or_in : {w after : W} {e : Term V} {es : Terms V} {c : Rewritten V S (Term V)} → Rewrites w e c after
           → Rewrites w (Or e es) (inside (λ e. Or e es) c) after
@@ -84,7 +84,8 @@ module _ {W V S : Type 0} (values : Values V) (url : W → List ℕ) (acts : Act
           → Follows acts w (sum values a b (λ v. Sum (Val v) es)) c after → Rewrites w (Sum (Val a) (more (Val b) es)) c after
       sum_end : {w : W} {v : V} → Rewrites w (Sum (Val v) none) (Goes (Val v)) w
       -- ECMA-262, the logical NOT operator
-      not_in : {w after : W} {e : Term V} {c : Rewritten V S (Term V)} → Rewrites w e c after → Rewrites w (Not e) (inside (λ e. Not e) c) after
+      not_in : {w after : W} {e : Term V} {c : Rewritten V S (Term V)} → Rewrites w e c after
+          → Rewrites w (Not e) (inside (λ e. Not e) c) after
       not_of : {w : W} {v : V} → Rewrites w (Not (Val v)) (Goes (Val (values.truth (not (is_true (values.look v)))))) w
       post_in : {w after : W} {e : Term V} {ls : LinkTerms V} {c : Rewritten V S (Term V)} → Rewrites w e c after
           → Rewrites w (Post e ls) (inside (λ e. Post e ls) c) after

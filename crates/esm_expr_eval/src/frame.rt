@@ -2,17 +2,17 @@
 ghost use Rattle.std.specs.Prelude.{◌≡◌, ◌++◌, ◌∷◌, [], IsTrue, ◌+◌, ◌<◌, ◌^◌, length};
 ghost use Rattle.esm_tree.specs.Flat.{part};
 ghost use Rattle.esm_values.specs.Code.{numbered, value_of, values_of};
-ghost use Rattle.esm_values.specs.Operators.{look_of, is_func};
 ghost use Rattle.esm_values.specs.Operators as operators;
-ghost use Rattle.esm_expr_eval.specs.Frames.{around, plug, AreFrames, IsFrame, frames_work, frame_work, EndsTurn, Keeps, IsCalled, IsPrinted, Begins, size};
-ghost use Rattle.esm_expr_eval.specs.Terms.{Term, term};
+ghost use Rattle.esm_expr_eval.specs.Frames.{around, plug, AreFrames, IsFrame, frames_work, frame_work, EndsTurn, Keeps, IsCalled, IsFunction, FollowsPlan, Begins, size};
+ghost use Rattle.esm_expr_eval.specs.Rewriting.{printed, error_made, import_begun};
+ghost use Rattle.esm_expr_eval.specs.Terms.{term};
 ghost use Rattle.esm_expr_eval.specs.Terms.Term.{Val};
 
 use crate::nodes::{argument, comparison, links, operand, part_at};
-use crate::sums::{error_from, sum_of, throws};
+use crate::sums::{error_from, sum_of};
 use crate::world::{ExprEnd, Out, World};
 use esm_tree::{ExprId, ExprNode, Link, Tree};
-use esm_values::{FaultKind, RcText, Value, is_same, is_true};
+use esm_values::{FaultKind, FuncId, RcText, Value, is_same, is_true};
 use std::alloc::Global;
 
 /// An expression under way around its part under way. A place is that of the next part.
@@ -51,8 +51,6 @@ pub enum Focus {
     Begin(ExprId),
     /// It is a value.
     Value(Value),
-    /// It is a call whose value isn't there yet.
-    Waits,
 }
 
 /// How one turn ends.
@@ -64,8 +62,8 @@ pub enum Next {
     Done(Value),
     /// With a throw.
     Thrown(Value),
-    /// At a call of this value.
-    Call(Value, Vec<Value>),
+    /// At a call of this function.
+    Call(FuncId, Vec<Value>),
 }
 
 /// Pushes a frame, where there is memory.
@@ -93,17 +91,15 @@ fn or_on<W: World>(
     at: ExprId,
     next: usize,
     value: Value,
-    world: &mut W,
 ) -> Result<Next, ExprEnd<W::Stop>>
     requires at { at.0 < length tree.now.exprs }
     requires frames { AreFrames (length tree.now.exprs) frames.old.items }
-    ensures tells { EndsTurn W.url_of W.acts tree.now.exprs world.old
+    ensures tells { (world : W) → EndsTurn W.url_of W.acts tree.now.exprs world
         (around tree.now.exprs frames.old.items (plug tree.now.exprs (Frame.Or at next)
-        (Val (value_of value)))) result world.new frames.new.items }
+        (Val (value_of value)))) result world frames.new.items }
     ensures keeps { Keeps tree.now.exprs (frames_work tree.now.exprs frames.old.items + frame_work
         tree.now.exprs (Frame.Or at next)) result frames.new.items }
 {
-    let _ = world;
     match operand(tree, at, next) {
         None => Ok(Next::Focus(Focus::Value(value))),
         Some(id) => {
@@ -123,17 +119,15 @@ fn and_on<W: World>(
     at: ExprId,
     next: usize,
     value: Value,
-    world: &mut W,
 ) -> Result<Next, ExprEnd<W::Stop>>
     requires at { at.0 < length tree.now.exprs }
     requires frames { AreFrames (length tree.now.exprs) frames.old.items }
-    ensures tells { EndsTurn W.url_of W.acts tree.now.exprs world.old
+    ensures tells { (world : W) → EndsTurn W.url_of W.acts tree.now.exprs world
         (around tree.now.exprs frames.old.items (plug tree.now.exprs (Frame.And at next)
-        (Val (value_of value)))) result world.new frames.new.items }
+        (Val (value_of value)))) result world frames.new.items }
     ensures keeps { Keeps tree.now.exprs (frames_work tree.now.exprs frames.old.items + frame_work
         tree.now.exprs (Frame.And at next)) result frames.new.items }
 {
-    let _ = world;
     match operand(tree, at, next) {
         None => Ok(Next::Focus(Focus::Value(value))),
         Some(id) => {
@@ -153,17 +147,15 @@ fn equal_on<W: World>(
     at: ExprId,
     next: usize,
     value: Value,
-    world: &mut W,
 ) -> Result<Next, ExprEnd<W::Stop>>
     requires at { at.0 < length tree.now.exprs }
     requires frames { AreFrames (length tree.now.exprs) frames.old.items }
-    ensures tells { EndsTurn W.url_of W.acts tree.now.exprs world.old
+    ensures tells { (world : W) → EndsTurn W.url_of W.acts tree.now.exprs world
         (around tree.now.exprs frames.old.items (plug tree.now.exprs (Frame.Equal at next)
-        (Val (value_of value)))) result world.new frames.new.items }
+        (Val (value_of value)))) result world frames.new.items }
     ensures keeps { Keeps tree.now.exprs (frames_work tree.now.exprs frames.old.items + frame_work
         tree.now.exprs (Frame.Equal at next)) result frames.new.items }
 {
-    let _ = world;
     match comparison(tree, at, next) {
         None => Ok(Next::Focus(Focus::Value(value))),
         Some((alike, id)) => begin_in(frames, Frame::Compared(at, next + 1, alike, value), id),
@@ -186,18 +178,16 @@ fn compared_on<W: World>(
     alike: bool,
     left: Value,
     value: Value,
-    world: &mut W,
 ) -> Result<Next, ExprEnd<W::Stop>>
     requires at { at.0 < length tree.now.exprs }
     requires frames { AreFrames (length tree.now.exprs) frames.old.items }
-    ensures tells { EndsTurn W.url_of W.acts tree.now.exprs world.old
+    ensures tells { (world : W) → EndsTurn W.url_of W.acts tree.now.exprs world
         (around tree.now.exprs frames.old.items (plug tree.now.exprs
         (Frame.Compared at next alike left) (Val (value_of value))))
-        result world.new frames.new.items }
+        result world frames.new.items }
     ensures keeps { Keeps tree.now.exprs (frames_work tree.now.exprs frames.old.items + frame_work
         tree.now.exprs (Frame.Compared at next alike left)) result frames.new.items }
 {
-    let _ = world;
     let truth = compare(alike, is_same(&left, &value));
     if is_pushed(frames, Frame::Equal(at, next)) {
         Ok(Next::Focus(Focus::Value(Value::Bool(truth))))
@@ -213,17 +203,15 @@ fn sum_on<W: World>(
     at: ExprId,
     next: usize,
     value: Value,
-    world: &mut W,
 ) -> Result<Next, ExprEnd<W::Stop>>
     requires at { at.0 < length tree.now.exprs }
     requires frames { AreFrames (length tree.now.exprs) frames.old.items }
-    ensures tells { EndsTurn W.url_of W.acts tree.now.exprs world.old
+    ensures tells { (world : W) → EndsTurn W.url_of W.acts tree.now.exprs world
         (around tree.now.exprs frames.old.items (plug tree.now.exprs (Frame.Sum at next)
-        (Val (value_of value)))) result world.new frames.new.items }
+        (Val (value_of value)))) result world frames.new.items }
     ensures keeps { Keeps tree.now.exprs (frames_work tree.now.exprs frames.old.items + frame_work
         tree.now.exprs (Frame.Sum at next)) result frames.new.items }
 {
-    let _ = world;
     match operand(tree, at, next) {
         None => Ok(Next::Focus(Focus::Value(value))),
         Some(id) => begin_in(frames, Frame::Added(at, next + 1, value), id),
@@ -358,30 +346,36 @@ fn call<W: World>(
         (value_of callee) (values_of values.items) result world.new frames.new.items }
 {
     match world.step(1) {
-        Ok(()) => {
-            if is_function(&callee) {
+        Ok(()) => match function_of(&callee) {
+            Some(function) => {
                 if is_pushed(frames, Frame::Post(at, link + 1)) {
-                    Ok(Next::Call(callee, values))
+                    Ok(Next::Call(function, values))
                 } else {
                     Err(ExprEnd::Memory)
                 }
-            } else {
-                match throws(FaultKind::TypeError, "not a function", world) {
-                    Ok(Out::Thrown(error)) => Ok(Next::Thrown(error)),
-                    Ok(Out::Value(_)) => Err(ExprEnd::Memory),
-                    Err(end) => Err(end),
-                }
             }
-        }
+            None => match world.fault(FaultKind::TypeError, "not a function") {
+                Ok(error) => Ok(Next::Thrown(error)),
+                Err(stop) => Err(ExprEnd::Stopped(stop)),
+            },
+        },
         Err(stop) => Err(ExprEnd::Stopped(stop)),
     }
 }
 
-/// Whether the value is a function.
-fn is_function(value: &Value) -> bool
-    ensures { result ≡ is_func (look_of (value_of value.now)) }
+/// The function that a value is, if it is one.
+fn function_of(value: &Value) -> Option<FuncId>
+    ensures { IsFunction (value_of value.now) result }
 {
-    matches!(value, Value::Func(_))
+    match value {
+        Value::Func(function) => Some(*function),
+        Value::Undefined => None,
+        Value::Bool(_) => None,
+        Value::Text(_) => None,
+        Value::Error(_) => None,
+        Value::Namespace(_) => None,
+        Value::Promise(_) => None,
+    }
 }
 
 /// Goes on with `print` behind the value of an argument.
@@ -414,7 +408,8 @@ fn print_on<W: World>(
 
 /// `print` of values.
 fn print<W: World>(values: Vec<Value>, world: &mut W) -> Result<Next, ExprEnd<W::Stop>>
-    ensures { IsPrinted W.url_of W.acts world.old (values_of values.items) result world.new }
+    ensures { FollowsPlan W.url_of W.acts world.old (printed numbered (values_of values.items))
+        result world.new }
 {
     match world.step(1) {
         Ok(()) => match world.print(values) {
@@ -425,44 +420,13 @@ fn print<W: World>(values: Vec<Value>, world: &mut W) -> Result<Next, ExprEnd<W:
     }
 }
 
-/// Goes on with `!` behind the value of its operand.
-fn not_on<W: World>(
-    tree: &Tree,
-    frames: &mut Vec<Frame>,
-    value: Value,
-    world: &mut W,
-) -> Result<Next, ExprEnd<W::Stop>>
-    requires frames { AreFrames (length tree.now.exprs) frames.old.items }
-    ensures tells { EndsTurn W.url_of W.acts tree.now.exprs world.old
-        (around tree.now.exprs frames.old.items (plug tree.now.exprs Frame.Not
-        (Val (value_of value)))) result world.new frames.new.items }
-    ensures keeps { Keeps tree.now.exprs (frames_work tree.now.exprs frames.old.items + frame_work
-        tree.now.exprs Frame.Not) result frames.new.items }
+/// `new Error` of a value.
+fn error_on<W: World>(value: &Value, world: &mut W) -> Result<Next, ExprEnd<W::Stop>>
+    ensures { FollowsPlan W.url_of W.acts world.old (error_made numbered (value_of value.now))
+        result world.new }
 {
-    let _ = tree;
-    let _ = frames;
-    let _ = world;
-    Ok(Next::Focus(Focus::Value(Value::Bool(!is_true(&value)))))
-}
-
-/// Goes on with `new Error` behind the value of its argument.
-fn error_on<W: World>(
-    tree: &Tree,
-    frames: &mut Vec<Frame>,
-    value: Value,
-    world: &mut W,
-) -> Result<Next, ExprEnd<W::Stop>>
-    requires frames { AreFrames (length tree.now.exprs) frames.old.items }
-    ensures tells { EndsTurn W.url_of W.acts tree.now.exprs world.old
-        (around tree.now.exprs frames.old.items (plug tree.now.exprs Frame.NewError
-        (Val (value_of value)))) result world.new frames.new.items }
-    ensures keeps { Keeps tree.now.exprs (frames_work tree.now.exprs frames.old.items + frame_work
-        tree.now.exprs Frame.NewError) result frames.new.items }
-{
-    let _ = tree;
-    let _ = frames;
     match world.step(1) {
-        Ok(()) => match error_from(&value, world) {
+        Ok(()) => match error_from(value, world) {
             Ok(Out::Value(error)) => Ok(Next::Focus(Focus::Value(error))),
             Ok(Out::Thrown(error)) => Ok(Next::Thrown(error)),
             Err(end) => Err(end),
@@ -471,22 +435,11 @@ fn error_on<W: World>(
     }
 }
 
-/// Goes on with `import()` behind the value of its specifier.
-fn import_on<W: World>(
-    tree: &Tree,
-    frames: &mut Vec<Frame>,
-    value: Value,
-    world: &mut W,
-) -> Result<Next, ExprEnd<W::Stop>>
-    requires frames { AreFrames (length tree.now.exprs) frames.old.items }
-    ensures tells { EndsTurn W.url_of W.acts tree.now.exprs world.old
-        (around tree.now.exprs frames.old.items (plug tree.now.exprs Frame.Import
-        (Val (value_of value)))) result world.new frames.new.items }
-    ensures keeps { Keeps tree.now.exprs (frames_work tree.now.exprs frames.old.items + frame_work
-        tree.now.exprs Frame.Import) result frames.new.items }
+/// `import()` of a specifier.
+fn import_on<W: World>(value: Value, world: &mut W) -> Result<Next, ExprEnd<W::Stop>>
+    ensures { FollowsPlan W.url_of W.acts world.old (import_begun numbered (value_of value))
+        result world.new }
 {
-    let _ = tree;
-    let _ = frames;
     match world.step(1) {
         Ok(()) => match world.import(value) {
             Ok(promise) => Ok(Next::Focus(Focus::Value(promise))),
@@ -569,23 +522,23 @@ pub fn go_on<W: World>(
         tree.now.exprs frame) result frames.new.items }
 {
     match frame {
-        Frame::Or(at, next) => or_on(tree, frames, at, next, value, world),
-        Frame::And(at, next) => and_on(tree, frames, at, next, value, world),
-        Frame::Equal(at, next) => equal_on(tree, frames, at, next, value, world),
+        Frame::Or(at, next) => or_on::<W>(tree, frames, at, next, value),
+        Frame::And(at, next) => and_on::<W>(tree, frames, at, next, value),
+        Frame::Equal(at, next) => equal_on::<W>(tree, frames, at, next, value),
         Frame::Compared(at, next, alike, left) => {
-            compared_on(tree, frames, at, next, alike, left, value, world)
+            compared_on::<W>(tree, frames, at, next, alike, left, value)
         }
-        Frame::Sum(at, next) => sum_on(tree, frames, at, next, value, world),
+        Frame::Sum(at, next) => sum_on::<W>(tree, frames, at, next, value),
         Frame::Added(at, next, left) => {
             added_on(alloc, tree, frames, at, next, left, value, world)
         }
-        Frame::Not => not_on(tree, frames, value, world),
+        Frame::Not => Ok(Next::Focus(Focus::Value(Value::Bool(!is_true(&value))))),
         Frame::Post(at, next) => post_on(alloc, tree, frames, at, next, value, world),
         Frame::Arguments(at, link, next, callee, values) => {
             arguments_on(tree, frames, at, link, next, callee, values, value, world)
         }
         Frame::Print(at, next, values) => print_on(tree, frames, at, next, values, value, world),
-        Frame::NewError => error_on(tree, frames, value, world),
-        Frame::Import => import_on(tree, frames, value, world),
+        Frame::NewError => error_on(&value, world),
+        Frame::Import => import_on(value, world),
     }
 }

@@ -11,9 +11,8 @@ use crate::frame::{Focus, Frame, Next, begin, go_on};
 use crate::world::{ExprEnd, World};
 use esm_base::Memory;
 use esm_tree::{ExprId, Tree};
-use esm_values::Value;
+use esm_values::{FuncId, Value};
 use std::alloc::Global;
-use std::mem;
 use std::sync::Arc;
 
 /// What an expression goes on to.
@@ -24,7 +23,7 @@ pub enum Move {
     /// To a throw.
     Thrown(Value),
     /// A call of a function with these values; the next advance is given its value.
-    Call(Value, Vec<Value>),
+    Call(FuncId, Vec<Value>),
 }
 
 /// An expression under way: what remains of it, with values in place of what was evaluated.
@@ -33,7 +32,7 @@ pub struct ExprFrame {
     alloc: Global,
     tree: Arc<Tree>,
     frames: Vec<Frame>,
-    focus: Focus,
+    focus: Option<Focus>,
 }
 
 /// One turn: a part begins, or what is around a value goes on.
@@ -60,7 +59,6 @@ fn turn<W: World>(
                 None => Ok(Next::Done(value)),
             }
         }
-        Focus::Waits => Err(ExprEnd::Memory),
     }
 }
 
@@ -85,7 +83,7 @@ fn run<W: World>(
             Ok(Next::Focus(next)) => part = next,
             Ok(Next::Done(value)) => return Ok(Move::Value(value)),
             Ok(Next::Thrown(error)) => return Ok(Move::Thrown(error)),
-            Ok(Next::Call(callee, values)) => return Ok(Move::Call(callee, values)),
+            Ok(Next::Call(function, values)) => return Ok(Move::Call(function, values)),
             Err(end) => return Err(end),
         }
     }
@@ -103,7 +101,7 @@ impl ExprFrame {
             alloc,
             tree,
             frames: Vec::new(alloc),
-            focus: Focus::Begin(at),
+            focus: Some(Focus::Begin(at)),
         })
     }
 
@@ -127,10 +125,10 @@ impl ExprFrame {
                 Focus::Value(value),
                 world,
             ),
-            None => {
-                let focus = mem::replace(&mut self.focus, Focus::Waits);
-                run(self.alloc, &self.tree, &mut self.frames, focus, world)
-            }
+            None => match self.focus.take() {
+                Some(focus) => run(self.alloc, &self.tree, &mut self.frames, focus, world),
+                None => unreachable!(),
+            },
         }
     }
 }

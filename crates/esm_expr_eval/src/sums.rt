@@ -149,8 +149,9 @@ fn error_with<W: World>(message: &str, world: &mut W) -> Result<Out, ExprEnd<W::
 
 /// `new Error` of a value, behind its step.
 pub fn error_from<W: World>(value: &Value, world: &mut W) -> Result<Out, ExprEnd<W::Stop>>
-    ensures { AnswersPlan W.url_of W.acts world.old (λ rest. error_of numbered rest (value_of value.now)
-        (look_of (value_of value.now))) result world.new }
+    ensures { AnswersPlan W.url_of W.acts world.old
+        (λ rest. error_of numbered rest (value_of value.now) (look_of (value_of value.now)))
+        result world.new }
 {
     match value {
         Value::Undefined => error_with("", world),

@@ -1,11 +1,8 @@
--- Texts, and the names that statements declare.
-use Rattle.std.specs.Prelude.{ℕ, Bool, List, [], ◌∷◌, bytes_eq}
+-- Lists of texts, and the names that statements declare.
+use Rattle.std.specs.Prelude.{Bool, List, [], ◌∷◌, bytes_eq}
 use Rattle.std.specs.List.{list_any}
+use Rattle.esm_base.specs.Urls.{Text}
 use Rattle.esm_tree.specs.Syntax.{Bindings, no_more, binding, Stmt, Const, Let}
-
--- the bytes of a text
-abbrev pub Text : Type 0
-Text = List ℕ
 
 unfoldable pub has_text : List Text → Text → Bool
 has_text texts text = list_any (λ s. bytes_eq s text) texts

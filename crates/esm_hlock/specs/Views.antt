@@ -1,12 +1,12 @@
 -- What a seat knows.
-use Rattle.std.specs.Prelude.{◌≡◌, ℕ, ◌<◌, true, false, cond, nat_lt, List, [], ◌∷◌, length, Option}
+use Rattle.std.specs.Prelude.{◌≡◌, ℕ, ◌<◌, true, false, if◌then◌else◌, nat_lt, List, [], ◌∷◌, length, Option}
 use Rattle.atomic_table.specs.Table.{Me}
 use Rattle.esm_hlock.specs.declared.view.View.{View}
 use Rattle.esm_hlock.specs.Makers.{times, names}
 
 -- the longer of two lists, the first where they are as long
 abbrev pub longer : {E : Type 0} → List E → List E → List E
-longer xs ys = cond (nat_lt (length xs) (length ys)) ys xs
+longer xs ys = if nat_lt (length xs) (length ys) then ys else xs
 
 -- with all shares it lists each maker of an entry that it has seen, exactly once
 abbrev pub HasAllMakers : {E : Type 0} → (E → Option ℕ) → View E → Type 0

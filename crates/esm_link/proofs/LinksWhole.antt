@@ -10,7 +10,7 @@ use Rattle.esm_link.specs.Link.{targets, LinksMarks}
 use Rattle.esm_link.specs.Link.LinksMarks.{done, enters, passes, stays, component}
 use Rattle.esm_link.specs.Laws.{LinksWhole, entered}
 
-module _ {N : Type 0} (same : N → N → Bool) (g : Modules N) (d : Decides N same) where
+module _ {N : Type 0} (same : N → N → Bool) (g : Modules N) (d : IsSameness same) where
   abbrev In : List N → N → Type 0
   In xs y = is_in same xs y ≡ true
 

@@ -1,7 +1,7 @@
 -- The laws of linking, for modules with names of any kind.
 use Rattle.std.specs.Prelude.{◌≡◌, Bool, true, List, [], ◌∷◌, Option, None}
+use Rattle.esm_base.specs.Lists.{IsSameness, is_in}
 use Rattle.esm_realm.specs.Walk.{Mark, Enter, Pass, Leave, IsWalkOf}
-use Rattle.esm_base.specs.Lists.{is_in}
 use Rattle.esm_env.specs.Modules.{Modules}
 use Rattle.esm_link.specs.Faults.{FaultAt}
 use Rattle.esm_link.specs.Link.{targets, IsLinking}
@@ -10,11 +10,6 @@ use Rattle.esm_link.specs.Link.{targets, IsLinking}
 abbrev pub OneLinking : Type 0 → Type 0
 OneLinking N = (same : N → N → Bool) (g : Modules N) (closed : List N) (root : N) (one other : Option (FaultAt N)) (x y : List N)
     → IsLinking same g closed root one x → IsLinking same g closed root other y → (other ≡ one) × (y ≡ x)
-
--- two names are the same exactly where this says so
-pub record Decides (N : Type 0) (same : N → N → Bool) : Type 0 where
-  pub own : (x : N) → same x x ≡ true
-  pub equal : (x y : N) → same x y ≡ true → x ≡ y
 
 -- the modules that the marks enter, in order
 abbrev pub entered : {N : Type 0} → List (Mark N) → List N
@@ -25,7 +20,7 @@ entered (Leave x ∷ marks) = entered marks
 
 -- without a fault what was closed, and each module that the walk enters, is closed
 abbrev pub LinksWhole : Type 0 → Type 0
-LinksWhole N = (same : N → N → Bool) (g : Modules N) (closed after : List N) (root : N) (marks : List (Mark N)) → Decides N same
+LinksWhole N = (same : N → N → Bool) (g : Modules N) (closed after : List N) (root : N) (marks : List (Mark N)) → IsSameness same
     → IsWalkOf same (targets g) closed root marks → IsLinking same g closed root None after → (x : N)
     → (is_in same closed x ≡ true → is_in same after x ≡ true)
     × (is_in same (entered marks) x ≡ true → is_in same after x ≡ true)

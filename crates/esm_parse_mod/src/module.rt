@@ -1,5 +1,6 @@
 // The tree of a module text.
 ghost use Rattle.std.specs.Prelude.{◌≡◌, ◌≤◌, ℕ, List, length, MatchResult};
+ghost use Rattle.esm_base.specs.declared.limits.TheConstants.{MAX_FILE_BYTES};
 ghost use Rattle.esm_grammar.specs.ReadingItems.{module_items};
 ghost use Rattle.esm_grammar.specs.Lexes.{AreTokens};
 ghost use Rattle.esm_grammar.specs.ModuleText.{Spells, IsRefusedFor};
@@ -35,7 +36,7 @@ fn items(alloc: Global, tokens: &[Lexeme]) -> Result<Tree, Stop>
 
 // Reads the tree that the tokens of a text derive, which are whole or end at a place where no token can be read.
 fn tree_of(alloc: Global, tokens: &[Lexeme], whole: bool) -> Result<Tree, ReadEnd>
-    ensures { (bytes : List ℕ) → length bytes ≤ 1048576 → AreTokens bytes tokens.now whole →
+    ensures { (bytes : List ℕ) → length bytes ≤ MAX_FILE_BYTES → AreTokens bytes tokens.now whole →
         MatchResult result (λ tree. Derives bytes tree.items) (IsRefusedFor bytes) }
 {
     if nests_too_deep(tokens) {

@@ -45,8 +45,10 @@ module _ (g : Graph) (each : (x : ℕ) → x < g.size → is_sound_at g x ≡ tr
   sound_at : (x : ℕ) → x < g.size → IsSoundAt g x
   sound_at x h = record {
     below = h;
-    indirects = λ k d inside. (inside_parts g x (slice_index_or (g.entries x).indirects k d).request (indirects_pass g x (each x h) k d inside)).0;
-    stars = λ k d inside. (inside_parts g x (slice_index_or (g.entries x).stars k d) (stars_pass g x (each x h) k d inside)).0;
+    exports = record {
+      indirects = λ k d inside. (inside_parts g x (slice_index_or (g.entries x).indirects k d).request (indirects_pass g x (each x h) k d inside)).0;
+      stars = λ k d inside. (inside_parts g x (slice_index_or (g.entries x).stars k d) (stars_pass g x (each x h) k d inside)).0;
+    };
   }
 
   pub all_sound : AreAllSound g
@@ -58,11 +60,11 @@ passes g sound x below =
     let at : IsSoundAt g x = sound x below x IsReached.itself in
     let indirects : All (λ e. is_inside g x e.request ≡ true) (g.entries x).indirects =
     λ k d inside. let e = slice_index_or (g.entries x).indirects k d in
-    inside_from g x e.request (at.indirects k d inside)
+    inside_from g x e.request (at.exports.indirects k d inside)
     (sound x below (g.target x e.request) (IsReached.by_name IsReached.itself (Contains-get_or (g.entries x).indirects k d inside))).below in
     let stars : All (λ r. is_inside g x r ≡ true) (g.entries x).stars =
     λ k d inside. let r = slice_index_or (g.entries x).stars k d in
-    inside_from g x r (at.stars k d inside)
+    inside_from g x r (at.exports.stars k d inside)
     (sound x below (g.target x r) (IsReached.by_star IsReached.itself (Contains-get_or (g.entries x).stars k d inside))).below in
     and_from (list_all (λ e. is_inside g x e.request) (g.entries x).indirects) (list_all (is_inside g x) (g.entries x).stars)
     (list_all-from_AllPass (λ e. is_inside g x e.request) (g.entries x).indirects indirects)

@@ -5,15 +5,7 @@ ghost use Rattle.esm_tree.specs.Syntax.{Expr, Stmt};
 ghost use Rattle.esm_tree.specs.Flat as flat;
 
 use crate::{ExprNode, ItemNode, StmtNode};
-
-// The same list, without room for more.
-fn fit<T>(list: Vec<T>) -> Vec<T>
-    ensures { result.items ≡ list.items }
-{
-    let mut list = list;
-    list.shrink_to_fit();
-    list
-}
+use esm_base::fit;
 
 /// The same expression.
 pub(crate) fn fit_expr(node: ExprNode) -> ExprNode

@@ -12,7 +12,7 @@ use Rattle.esm_ast.specs.Outcome.{OutcomeView}
 use Rattle.esm_load.specs.UrlTable.{table_entry_of}
 use Rattle.esm_load.specs.Loading.{Loading, Asked, LoadComplete, Thrown, PendingRequest, Root, load_of, targets, body}
 use Rattle.esm_load.specs.Load.{Answers}
-use Rattle.esm_load.specs.Arrival.{bytes_of, Next, next, after_fetch, store, store_by, count, count_by, open_asks}
+use Rattle.esm_load.specs.Arrival.{bytes_of, Next, next, after_fetch, store, store_by, count, count_when, open_asks}
 use Rattle.esm_load.proofs.Kept.{answers_keeps}
 use Rattle.esm_load.proofs.Grows.{Has}
 use Rattle.esm_load.proofs.Grows.Has.{here}
@@ -127,7 +127,7 @@ stored_kept None l u c k = record { wanted = λ v h n. by v h n (cases (same_url
         cc
     by v h n (inr f) = k.wanted v h (sym (get_old l.entries u v (table_entry_of l.maps u c) (λ same. not_both (same_url v u) (subst (λ x. same_url v x ≡ true) same (own_text v)) f)) ∙ n)
 
-counted_kept : (b : Bool) (l : Loading) (m : ℕ) → IsWanted l → IsWanted (count_by b l m)
+counted_kept : (b : Bool) (l : Loading) (m : ℕ) → IsWanted l → IsWanted (count_when b l m)
 counted_kept true l m k = record { wanted = k.wanted }
 counted_kept false l m k = record { wanted = k.wanted }
 
@@ -144,7 +144,7 @@ settling l u c = by (nat_lt 16777216 (l.bytes + bytes_of c))
     stores None m s = record { loads = s.loads; pending = s.pending; jobs = s.jobs }
     stores (Some limit) m s = s
 
-    by : (b : Bool) → IsSettling l (store (count_by b l (bytes_of c)) u c)
+    by : (b : Bool) → IsSettling l (store (count_when b l (bytes_of c)) u c)
     by true = record { loads = refl; pending = refl; jobs = refl }
     by false = stores l.stopped (record l { bytes = l.bytes + bytes_of c }) (record { loads = refl; pending = refl; jobs = refl })
 

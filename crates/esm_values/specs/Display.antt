@@ -1,6 +1,7 @@
 -- The display text of a value: what `print` writes of it. own, but for texts, truth values, undefined and errors
 use Rattle.std.specs.Prelude.{ℕ, Bool, true, false, List, [], ◌∷◌, ◌++◌, Option, Some, None, codes}
 use Rattle.std.specs.Str.{bytes_eq}
+use Rattle.esm_base.specs.DefaultExport.{star_default}
 use Rattle.esm_values.specs.Value.{Value, Undefined, Truth, Text, Func, Error, Namespace, Promise}
 use Rattle.esm_values.specs.Errors.{Errors, error_text}
 
@@ -8,17 +9,13 @@ abbrev pub truth_text : Bool → List ℕ
 truth_text true = codes "true"
 truth_text false = codes "false"
 
--- ECMA-262, the name of the binding of `export default` where it has none of its own
-abbrev pub default_local : List ℕ
-default_local = codes "*default*"
-
 abbrev pub shown_name : Bool → List ℕ → List ℕ
 shown_name true name = codes "default"
 shown_name false name = name
 
 -- own: [function NAME], where a function without a name, which `export default` may have, is `default`
 abbrev pub function_text : List ℕ → List ℕ
-function_text name = codes "[function " ++ shown_name (bytes_eq name default_local) name ++ codes "]"
+function_text name = codes "[function " ++ shown_name (bytes_eq name star_default) name ++ codes "]"
 
 -- the texts in order, with a sign between two of them
 abbrev pub joined_by : List ℕ → List (List ℕ) → List ℕ

@@ -13,6 +13,7 @@ pub fn truth_text(truth: bool) -> &'static str
 }
 
 /// The display text of a function with this name. It answers `Memory` where memory runs out.
+#[tactic(auto, unfolding(esm_base::specs::DefaultExport::star_default))]
 pub fn function_text(alloc: Global, name: &str) -> Result<Text, Memory>
     ensures { IfOk result (λ t. t ≡ display.function_text name.now) }
 {

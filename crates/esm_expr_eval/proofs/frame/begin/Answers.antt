@@ -155,7 +155,7 @@ returns-in-None-clause-tells g c =
 pub returns-in-None-clause-keeps : goal.returns-in-None-clause-keeps
 returns-in-None-clause-keeps g c =
     let node = rw c.in-Print.is at c.expr.ensures in
-    steps.printed_keeps g.W.World.url_of g.W.World.acts c.args.tree.now.exprs c.args.frames.now.items _ _ _ _ _ c.requires.frames (rw node.node (omega arith)) c.print.ensures
+    steps.planned_keeps g.W.World.url_of g.W.World.acts c.args.tree.now.exprs c.args.frames.now.items _ _ _ _ _ c.requires.frames (rw node.node (omega arith)) c.print.ensures
 
 pub returns-then-is_pushed-clause-tells : goal.returns-then-is_pushed-clause-tells
 returns-then-is_pushed-clause-tells g c =

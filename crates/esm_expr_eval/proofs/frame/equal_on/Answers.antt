@@ -5,10 +5,10 @@ use Rattle.esm_expr_eval.specs.declared.frame.Frame.TheVariants as f
 use Rattle.esm_expr_eval.proofs.frame.equal_on.Goals as goal
 
 pub returns-in-None-clause-tells : goal.returns-in-None-clause-tells
-returns-in-None-clause-tells g c = steps.equal_last g.W.World.url_of g.W.World.acts c.args.tree.now.exprs c.args.frames.now.items _ c.args.at c.args.next (value_of c.args.value) c.in-None.ensures.next
+returns-in-None-clause-tells g c = λ world. steps.equal_last g.W.World.url_of g.W.World.acts c.args.tree.now.exprs c.args.frames.now.items _ c.args.at c.args.next (value_of c.args.value) c.in-None.ensures.next
 
 pub returns-in-Some-clause-tells : goal.returns-in-Some-clause-tells
-returns-in-Some-clause-tells g c = steps.begins_tells g.W.World.url_of g.W.World.acts c.args.tree.now.exprs c.args.frames.now.items _ _ _ (f.Compared c.args.at (c.args.next + 1) c.in-Some.alike c.args.value) c.in-Some.id _ (steps.equal_next g.W.World.url_of g.W.World.acts c.args.tree.now.exprs c.args.frames.now.items _ c.args.at c.args.next c.args.value c.in-Some.alike c.in-Some.id c.in-Some.ensures.next.1) c.begin_in.ensures
+returns-in-Some-clause-tells g c = λ world. steps.begins_tells g.W.World.url_of g.W.World.acts c.args.tree.now.exprs c.args.frames.now.items _ _ _ (f.Compared c.args.at (c.args.next + 1) c.in-Some.alike c.args.value) c.in-Some.id _ (steps.equal_next g.W.World.url_of g.W.World.acts c.args.tree.now.exprs c.args.frames.now.items _ c.args.at c.args.next c.args.value c.in-Some.alike c.in-Some.id c.in-Some.ensures.next.1) c.begin_in.ensures
 
 pub returns-in-Some-clause-keeps : goal.returns-in-Some-clause-keeps
 returns-in-Some-clause-keeps g c =

@@ -1,15 +1,21 @@
 use Rattle.esm_values.specs.Code.{value_of}
-use Rattle.esm_expr_eval.proofs.Steps as steps
+use Rattle.esm_values.specs.Plans.{Follows as follows}
+use Rattle.esm_expr_eval.specs.Terms.Term.{Val}
+use Rattle.esm_expr_eval.proofs.Steps.{error_ends}
 use Rattle.esm_expr_eval.proofs.frame.error_on.Goals as goal
 
-pub returns-in-Ok-Value-clause-tells : goal.returns-in-Ok-Value-clause-tells
-returns-in-Ok-Value-clause-tells g c = steps.error_goes g.W.World.url_of g.W.World.acts c.args.tree.now.exprs c.args.frames.now.items _ _ (value_of c.args.value) c.in-Ok.ensures _ c.in-Ok-Value.error (rw c.in-Ok-Value.field-0-is at c.in-Ok-Value.ensures)
+pub returns-in-Ok-Value : goal.returns-in-Ok-Value
+returns-in-Ok-Value g c =
+    let made = rw c.in-Ok-Value.field-0-is at c.in-Ok-Value.ensures in
+    follows.asks tt c.in-Ok.ensures (made (λ u. Val u))
 
-pub returns-in-Ok-Thrown-clause-tells : goal.returns-in-Ok-Thrown-clause-tells
-returns-in-Ok-Thrown-clause-tells g c = steps.error_leaves g.W.World.url_of g.W.World.acts c.args.tree.now.exprs c.args.frames.now.items _ _ (value_of c.args.value) c.in-Ok.ensures _ c.in-Ok-Thrown.error (rw c.in-Ok-Thrown.field-0-is at c.in-Ok-Thrown.ensures)
+pub returns-in-Ok-Thrown : goal.returns-in-Ok-Thrown
+returns-in-Ok-Thrown g c =
+    let made = rw c.in-Ok-Thrown.field-0-is at c.in-Ok-Thrown.ensures in
+    follows.asks tt c.in-Ok.ensures (made (λ u. Val u))
 
-pub returns-in-Ok-clause-tells : goal.returns-in-Ok-clause-tells
-returns-in-Ok-clause-tells g c = steps.error_ends g.W.World.url_of g.W.World.acts c.args.tree.now.exprs c.args.frames.now.items _ _ (value_of c.args.value) c.in-Ok.ensures _ c.in-Err-error_from.end c.in-Err-error_from.ensures
+pub returns-in-Err-error_from : goal.returns-in-Err-error_from
+returns-in-Err-error_from g c = error_ends g.W.World.url_of g.W.World.acts _ _ _ (value_of c.args.value.now) c.in-Err-error_from.end c.in-Ok.ensures c.in-Err-error_from.ensures
 
-pub returns-clause-tells : goal.returns-clause-tells
-returns-clause-tells g c = steps.error_untaken g.W.World.url_of g.W.World.acts c.args.tree.now.exprs c.args.frames.now.items _ _ (value_of c.args.value) c.in-Err.stop c.in-Err.ensures
+pub returns-in-Err : goal.returns-in-Err
+returns-in-Err g c = follows.stops c.in-Err.ensures

@@ -5,13 +5,13 @@ use Rattle.esm_expr_eval.specs.declared.frame.Frame.TheVariants as f
 use Rattle.esm_expr_eval.proofs.frame.or_on.Goals as goal
 
 pub returns-in-None-clause-tells : goal.returns-in-None-clause-tells
-returns-in-None-clause-tells g c = steps.or_last g.W.World.url_of g.W.World.acts c.args.tree.now.exprs c.args.frames.now.items _ c.args.at c.args.next (value_of c.args.value) c.in-None.ensures.next
+returns-in-None-clause-tells g c = λ world. steps.or_last g.W.World.url_of g.W.World.acts c.args.tree.now.exprs c.args.frames.now.items _ c.args.at c.args.next (value_of c.args.value) c.in-None.ensures.next
 
 pub returns-then-is_true-clause-tells : goal.returns-then-is_true-clause-tells
-returns-then-is_true-clause-tells g c = steps.or_found g.W.World.url_of g.W.World.acts c.args.tree.now.exprs c.args.frames.now.items _ c.args.at c.args.next (value_of c.args.value) c.in-Some.ensures.next.1 (sym c.if-is_true.ensures)
+returns-then-is_true-clause-tells g c = λ world. steps.or_found g.W.World.url_of g.W.World.acts c.args.tree.now.exprs c.args.frames.now.items _ c.args.at c.args.next (value_of c.args.value) c.in-Some.ensures.next.1 (sym c.if-is_true.ensures)
 
 pub returns-else-is_true-clause-tells : goal.returns-else-is_true-clause-tells
-returns-else-is_true-clause-tells g c = steps.begins_tells g.W.World.url_of g.W.World.acts c.args.tree.now.exprs c.args.frames.now.items _ _ _ (f.Or c.args.at (c.args.next + 1)) c.in-Some.id _ (steps.or_next g.W.World.url_of g.W.World.acts c.args.tree.now.exprs c.args.frames.now.items _ c.args.at c.args.next (value_of c.args.value) c.in-Some.id c.in-Some.ensures.next.1 (sym c.if-is_true.ensures)) c.begin_in.ensures
+returns-else-is_true-clause-tells g c = λ world. steps.begins_tells g.W.World.url_of g.W.World.acts c.args.tree.now.exprs c.args.frames.now.items _ _ _ (f.Or c.args.at (c.args.next + 1)) c.in-Some.id _ (steps.or_next g.W.World.url_of g.W.World.acts c.args.tree.now.exprs c.args.frames.now.items _ c.args.at c.args.next (value_of c.args.value) c.in-Some.id c.in-Some.ensures.next.1 (sym c.if-is_true.ensures)) c.begin_in.ensures
 
 pub returns-else-is_true-clause-keeps : goal.returns-else-is_true-clause-keeps
 returns-else-is_true-clause-keeps g c =

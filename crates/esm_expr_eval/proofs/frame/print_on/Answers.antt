@@ -19,4 +19,4 @@ returns-in-None-clause-tells g c =
     rw c.in-None.ensures.next (steps.printed_tells_behind g.W.World.url_of g.W.World.acts c.args.tree.now.exprs c.args.frames.now.items _ _ c.args.values.items c.args.value _ called)
 
 pub returns-in-None-clause-keeps : goal.returns-in-None-clause-keeps
-returns-in-None-clause-keeps g c = steps.printed_keeps g.W.World.url_of g.W.World.acts c.args.tree.now.exprs c.args.frames.now.items _ _ _ _ _ c.requires.frames (omega arith) c.print.ensures
+returns-in-None-clause-keeps g c = steps.planned_keeps g.W.World.url_of g.W.World.acts c.args.tree.now.exprs c.args.frames.now.items _ _ _ _ _ c.requires.frames (omega arith) c.print.ensures
