@@ -138,22 +138,24 @@ pub fn work_all<R: Threads + Wait + Sync, S: Source + Send>(
             let (end, pool) = join(
                 rt,
                 || -> WorkerEnd<S>
-                    requires { IsSync R.row × (table_of modules.now.lock.table.shared.table_id mine.pass
+                    requires { IsSync R.row
+                        × (table_of modules.now.lock.table.shared.table_id mine.pass
                         ≡ modules.now.lock.table.shared.table_id)
                         × Serves (S.holds source) (S.asked source) mine.number (view_in mine.pass).seen }
-                    ensures { (table_of modules.entry.now.lock.table.shared.table_id result.caller.pass
-                        ≡ modules.entry.now.lock.table.shared.table_id)
+                    ensures { (table_of modules.entry.now.lock.table.shared.table_id
+                        result.caller.pass ≡ modules.entry.now.lock.table.shared.table_id)
                         × ServedIf result.short (S.holds source) (S.asked result.source) mine.number (view_in result.caller.pass).seen
                         × Same (view_in mine.pass) (view_in result.caller.pass)
                         × (S.holds result.source ≡ S.holds source) }
                 { worker(rt, alloc, modules, bell, mine, source) },
                 || -> Pool<S>
-                    requires { IsSync R.row × (table_of modules.now.lock.table.shared.table_id caller.pass
+                    requires { IsSync R.row
+                        × (table_of modules.now.lock.table.shared.table_id caller.pass
                         ≡ modules.now.lock.table.shared.table_id)
                         × All (IsReady modules.now.lock.table.shared.table_id S.holds S.asked) jobs.items
                         × (done.items ≡ []) × (vec_len done + vec_len jobs ≤ vec_capacity done) }
-                    ensures { (table_of modules.entry.now.lock.table.shared.table_id result.caller.pass
-                        ≡ modules.entry.now.lock.table.shared.table_id)
+                    ensures { (table_of modules.entry.now.lock.table.shared.table_id
+                        result.caller.pass ≡ modules.entry.now.lock.table.shared.table_id)
                         × All (IsDone S.holds S.asked (view_in result.caller.pass)) result.done.items
                         × ((view_in result.caller.pass).numbers ≡ (view_in caller.pass).numbers ++ map caller_in result.done.items)
                         × ((view_in result.caller.pass).shares ≡ (view_in caller.pass).shares + vec_len jobs)
