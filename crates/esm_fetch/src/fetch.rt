@@ -3,7 +3,7 @@ ghost use Rattle.std.specs.Prelude.{◌≡◌, ◌⊎◌, IfOk, OnErr, IfSome};
 ghost use Rattle.esm_ports.specs.declared.asked.AskKind.TheVariants.{Body};
 ghost use Rattle.esm_ports.specs.Asks.{asks_with};
 ghost use Rattle.esm_ast.specs.Outcome.{outcome_view, OutcomeOf};
-ghost use Rattle.esm_run.specs.Taken.{kind_of, IsRead, IsToldOutcome};
+ghost use Rattle.esm_fetch.specs.Answered.{kind_of, IsRead, IsToldOutcome};
 
 use esm_ast::{BrokenText, Outcome};
 use esm_base::{Memory, ReadEnd, Text};
@@ -25,8 +25,9 @@ fn outcome_of(alloc: Global, body: Vec<u8>) -> Result<Outcome, Memory>
     }
 }
 
-// Fetches and reads what is at a URL, by one fetch.
-pub(crate) fn fetch_outcome<S: Source>(
+/// Fetches and reads what is at a URL, by one fetch. Where memory runs out the source was asked at most once, and
+/// answered a body.
+pub fn fetch_outcome<S: Source>(
     alloc: Global,
     source: &mut S,
     url: &Text,
