@@ -60,4 +60,5 @@ AreRight bytes kept ms = AllRight bytes (length kept) ms
 -- a token of this kind, with this place and text, has this form
 abbrev pub Tells : Form → List ℕ → List ℕ → TokenKind → ℕ → ℕ → Type 0
 Tells f bytes text k from len =
-    IsRightBy f bytes 0 from len × ((text_by f bytes [] from len ≡ text) × ((newline : Bool) → token_by f [] from len newline ≡ short_token k from len newline))
+    IsRightBy f bytes 0 from len
+    × ((text_by f bytes [] from len ≡ text) × ((newline : Bool) → token_by f [] from len newline ≡ short_token k from len newline))
