@@ -5,3 +5,17 @@ pub mod OneSegment
 pub mod OneOutcome
 pub mod Limits
 pub mod Examples
+pub mod Readable
+pub mod TreesFit
+pub mod Ordered
+pub mod Resolved
+pub mod NamesRead
+pub mod NamesExported
+pub mod KeysThere
+pub mod LinkedRead
+pub mod Grown
+pub mod SomeAct
+pub mod SomeMove
+pub mod SomeSegment
+pub mod SomeBody
+pub mod Outcomes

@@ -48,22 +48,22 @@ module _ (g : Graph) where
 
 -- ---- lists in order with the same elements
 
-abbrev lt : List ℕ → List ℕ → Bool
+abbrev pub lt : List ℕ → List ℕ → Bool
 lt x y = is_lt (code_unit_order x y)
 
-weak : IsStrictWeakOrder lt
+pub weak : IsStrictWeakOrder lt
 weak = ranks_by code_unit_order_total (λ (x : List ℕ). x)
 
 -- none of them is below x
-abbrev NotBelow : List ℕ → List (List ℕ) → Type 0
+abbrev pub NotBelow : List ℕ → List (List ℕ) → Type 0
 NotBelow x [] = Unit {0}
 NotBelow x (y ∷ ys) = (lt y x ≡ false) × NotBelow x ys
 
-abbrev Ascends : List (List ℕ) → Type 0
+abbrev pub Ascends : List (List ℕ) → Type 0
 Ascends [] = Unit {0}
 Ascends (x ∷ xs) = NotBelow x xs × Ascends xs
 
-higher : (x y : List ℕ) (zs : List (List ℕ)) → lt y x ≡ false → NotBelow y zs → NotBelow x zs
+pub higher : (x y : List ℕ) (zs : List (List ℕ)) → lt y x ≡ false → NotBelow y zs → NotBelow x zs
 higher x y [] h n = tt
 higher x y (z ∷ zs) h n = (weak.chain z y x n.0 h, higher x y zs h n.1)
 

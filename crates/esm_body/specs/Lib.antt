@@ -4,6 +4,7 @@ pub mod State
 pub mod Acts
 pub mod BodyRewriting
 pub mod Segment
+pub mod Fits
 pub mod Bodies
 pub mod Laws
 pub mod Examples

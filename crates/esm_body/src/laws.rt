@@ -1,5 +1,5 @@
 //! Laws of the definitions, each the contract of a function without effect.
-ghost use Rattle.esm_body.specs.Laws.{HaveOneOutcome, StatementsTakeSteps, StopsAreNotCaught, UnsetThrows};
+ghost use Rattle.esm_body.specs.Laws.{HaveOneOutcome, StatementsTakeSteps, StopsAreNotCaught, UnsetThrows, HasSegment, HaveOutcomes};
 ghost use Rattle.esm_body.specs.Examples.{ThrowLeaves, AwaitDivides};
 
 /// A rewriting, a segment of a body, and each call for a body, has one outcome, where `import()` has one.
@@ -32,3 +32,17 @@ pub fn throw_leaves()
 pub fn await_divides()
     ensures { AwaitDivides }
 {}
+
+/// From each state that fits, a segment has an outcome, and what it leaves fits.
+pub fn has_segment()
+    ensures { HasSegment }
+{
+    esm_resolve::laws::shared_set()
+}
+
+/// From each state that fits, each call for a body has an outcome: a body starts, runs, or goes on behind its await.
+pub fn has_outcomes()
+    ensures { HaveOutcomes }
+{
+    esm_resolve::laws::shared_set()
+}

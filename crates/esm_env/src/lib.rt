@@ -11,4 +11,3 @@ mod tests;
 
 pub use envs::Envs;
 pub use scope::{ModuleScope, Read, Target, Wrote};
-pub use slots::{Slot, is_set, place, value_at, write_at};

@@ -10,3 +10,7 @@ pub mod WaitsStayOpen
 pub mod Paths
 pub mod Once
 pub mod OnceEnds
+pub mod Marked
+pub mod HasMarks
+pub mod HasReady
+pub mod HasEvaluation

@@ -7,3 +7,4 @@ pub mod Laws
 pub mod SmallWorld
 pub mod Examples
 pub mod Begins
+pub mod Keeping

@@ -1,4 +1,5 @@
 // Laws of the definitions, as functions without effect.
+ghost use Rattle.esm_eval.specs.Keeping.{HasEvaluation};
 ghost use Rattle.esm_eval.specs.Laws.{BeginsOnce, OneEvaluation, WaitsStayOpen};
 
 /// A world of any kind, with a relation for what the calls for bodies do in it. The laws range over all of them.
@@ -34,4 +35,19 @@ pub fn waits_stay_open<A: AnyWorld>()
 /// No body begins twice.
 pub fn begins_once<A: AnyWorld>()
     ensures { BeginsOnce A.evaluation A.acts }
+{}
+
+/// Worlds in which evaluation has an outcome.
+pub trait FitWorld: AnyWorld {
+    /// The worlds.
+    ghost fits: { Self.World → Type 0 };
+    /// The modules that are linked.
+    ghost is_module: { Self.Name → Type 0 };
+    /// The values that are thrown.
+    ghost is_known: { Self.Value → Type 0 };
+}
+
+/// Where calls for bodies have outcomes, an evaluation has one, and so has what follows the end of a body.
+pub fn has_evaluation<F: FitWorld>()
+    ensures { HasEvaluation F.evaluation F.acts F.fits F.is_module F.is_known }
 {}

@@ -5,3 +5,6 @@ pub mod Steps
 pub mod Joins
 pub mod Ends
 pub mod OneEnd
+pub mod Lands
+pub mod HasRewriting
+pub mod SomeRewriting

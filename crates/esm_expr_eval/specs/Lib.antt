@@ -1,4 +1,5 @@
 pub mod Terms
+pub mod Ready
 pub mod Rewriting
 pub mod Ends
 pub mod Parts

@@ -1,3 +1,4 @@
 pub mod OneLink
+pub mod HasLinking
 pub mod LinksWhole
 pub mod WorkedLinks

@@ -1,8 +1,9 @@
 -- The laws of linking, for modules with names of any kind.
-use Rattle.std.specs.Prelude.{◌≡◌, Bool, true, List, [], ◌∷◌, Option, None}
+use Rattle.std.specs.Prelude.{◌≡◌, ℕ, Bool, true, List, [], ◌∷◌, Option, None}
 use Rattle.esm_base.specs.Lists.{IsSameness, is_in}
 use Rattle.esm_realm.specs.Walk.{Mark, Enter, Pass, Leave, IsWalkOf}
-use Rattle.esm_env.specs.Modules.{Modules}
+use Rattle.esm_resolve.specs.declared.graph.Resolution.{Resolution}
+use Rattle.esm_env.specs.Modules.{Modules, Exports}
 use Rattle.esm_link.specs.Faults.{FaultAt}
 use Rattle.esm_link.specs.Link.{targets, IsLinking}
 
@@ -10,6 +11,21 @@ use Rattle.esm_link.specs.Link.{targets, IsLinking}
 abbrev pub OneLinking : Type 0 → Type 0
 OneLinking N = (same : N → N → Bool) (g : Modules N) (closed : List N) (root : N) (one other : Option (FaultAt N)) (x y : List N)
     → IsLinking same g closed root one x → IsLinking same g closed root other y → (other ≡ one) × (y ≡ x)
+
+-- with each module of the list the list has the modules of its requests
+abbrev pub IsClosedUnder : {N : Type 0} → (N → N → Bool) → Modules N → List N → Type 0
+IsClosedUnder {N} same g modules =
+    (x t : N) → is_in same modules x ≡ true → is_in same (targets g x) t ≡ true → is_in same modules t ≡ true
+
+-- each name that is asked of a module has a resolution
+abbrev pub HaveResolutions : {N : Type 0} → Modules N → Type 0
+HaveResolutions {N} g = (x : N) (name : List ℕ) → (r : Resolution) × Exports g x name r
+
+-- linking a module of a finite graph has an outcome
+abbrev pub HasLinking : Type 0 → Type 0
+HasLinking N = (same : N → N → Bool) (g : Modules N) (modules closed : List N) (root : N) → IsSameness same
+    → HaveResolutions g → IsClosedUnder same g modules → is_in same modules root ≡ true
+    → (fault : Option (FaultAt N)) × (after : List N) × IsLinking same g closed root fault after
 
 -- the modules that the marks enter, in order
 abbrev pub entered : {N : Type 0} → List (Mark N) → List N

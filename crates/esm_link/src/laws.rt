@@ -1,5 +1,5 @@
 // Laws of the definitions, as functions without effect.
-ghost use Rattle.esm_link.specs.Laws.{LinksWhole, OneLinking};
+ghost use Rattle.esm_link.specs.Laws.{HasLinking, LinksWhole, OneLinking};
 
 /// Linking a module has one outcome: a fault or none, and the modules that are closed then.
 pub fn one_linking<N>()
@@ -9,4 +9,9 @@ pub fn one_linking<N>()
 /// Without a fault each module that was entered is linked.
 pub fn links_whole<N>()
     ensures { LinksWhole N }
+{}
+
+/// Linking a module of a finite graph in which each name has a resolution has an outcome.
+pub fn has_linking<N>()
+    ensures { HasLinking N }
 {}

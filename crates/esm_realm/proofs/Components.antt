@@ -3,7 +3,7 @@ use Rattle.std.proofs.Common.{◌≡◌, ℕ, Bool, true, false, List, [], ◌�
 use Rattle.std.specs.Prelude.{not}
 use Rattle.std.specs.List.{list_any}
 use Rattle.std.proofs.lemmas.List.{append-nil}
-use Rattle.esm_realm.specs.Walk.{Mark, Visits, Passes}
+use Rattle.esm_realm.specs.Walk.{Mark, Visits, Passes, IsWalkOf}
 use Rattle.esm_base.specs.Lists.{is_in}
 use Rattle.esm_realm.specs.Walk.Mark.{Enter, Pass, Leave}
 use Rattle.esm_realm.specs.Walk.Visits.{known, fresh}
@@ -287,8 +287,19 @@ module _ {N : Type 0} (same : N → N → Bool) (own : (x : N) → same x x ≡ 
           let one = visited (opened ++ x ∷ members) v w.amid (λ y h c. then_leads (w.reach y h) (step k c itself)) in
           both seen between after opened x t i members ts first marks one (passed opened (members ++ one.added) p (further seen between opened x t members first w k one) (λ u h. inside u (names.in_later same own equal t ts u h)))
 
+    nothing : Amid closed []
+    nothing = record { entered = λ y h. cc; new = λ y h. cc; old = λ y h. h; shut = λ m t h c. names.clash same own equal closed m h c }
+
     pub closing : (root : N) → ClosesAtRoot same to closed root
     closing root marks behind x w = holds_at [] marks behind x (visited [] w.1 nothing (λ y h. cc)).holds
+
+    no_members : (xs : List N) → ((m : N) → ¬ (In xs m)) → xs ≡ []
+    no_members [] f = refl
+    no_members (x ∷ xs) f = absurd (f x (names.in_first same own equal x xs))
+
+    -- behind a walk no module is open
+    pub none_open : (root : N) (marks : List (Mark N)) → IsWalkOf same to closed root marks → opened_after same to [] marks ≡ []
+    none_open root marks w = v.is ∙ no_members v.added (λ m h. let b = v.back m h in cc)
       where
-        nothing : Amid closed []
-        nothing = record { entered = λ y h. cc; new = λ y h. cc; old = λ y h. h; shut = λ m t h c. names.clash same own equal closed m h c }
+        v : Visited closed [] root marks w.0
+        v = visited [] w.1 nothing (λ y h. cc)

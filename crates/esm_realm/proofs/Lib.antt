@@ -1,4 +1,5 @@
 pub mod Urls
+pub mod HasWalks
 pub mod WalkLaws
 pub mod LeavesOnce
 pub mod WalkBy

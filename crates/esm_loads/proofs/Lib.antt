@@ -1,0 +1,12 @@
+pub mod OneLoad
+pub mod Tables
+pub mod Orderly
+pub mod Pending
+pub mod Limits
+pub mod HasLoad
+pub mod Requests
+pub mod Framed
+pub mod Whole
+pub mod Owed
+pub mod Descriptions
+pub mod Worked

@@ -1,0 +1,10 @@
+pub mod UrlTable
+pub mod Loading
+pub mod Load
+pub mod Host
+pub mod Arrival
+pub mod ImportCall
+pub mod Whole
+pub mod Owed
+pub mod Laws
+pub mod Examples
