@@ -1,12 +1,13 @@
 -- Statements of `laws`.
-use Rattle.std.specs.Prelude.{◌≡◌, ℕ, ◌≤◌, ◌==◌, Bool, true, false, List, Some, slice_get}
+use Rattle.std.specs.Prelude.{◌≡◌, ℕ, ◌≤◌, ◌==◌, Bool, true, false, List, Some, slice_get, Contains}
 use Rattle.std.specs.List.{count_by}
 use Rattle.esm_base.specs.Urls.{Url}
 use Rattle.esm_module_map.specs.declared.event.MapEvent.{MapEvent}
 use Rattle.esm_module_map.specs.declared.event.MapEvent.TheVariants.{Begin, Enrol, Ask, Take, Post, Shut}
-use Rattle.esm_module_map.specs.Replay.{replay, is_legal}
-use Rattle.esm_module_map.specs.Histories.{is_post_of, IsPostIn}
-use Rattle.esm_module_map.specs.Counts.{count}
+use Rattle.esm_hlock.specs.Makers.{times, names}
+use Rattle.esm_module_map.specs.Replay.{replay, is_legal, maker_of}
+use Rattle.esm_module_map.specs.Histories.{is_post_of, IsPostIn, asks_by, takes_by, answers_by}
+use Rattle.esm_module_map.specs.Counts.{count, AreTakenOnce}
 use Rattle.esm_module_map.specs.Saying.{Begins}
 
 -- the event takes the number
@@ -39,3 +40,19 @@ module _ (P G : Type 0) (weight : P → ℕ) where
   abbrev pub UrlsStay : Type 0
   UrlsStay = (n : ℕ) (u : Url) (old new : List (MapEvent P G)) → Begins old new → slice_get (replay weight old).urls n ≡ Some u
       → slice_get (replay weight new).urls n ≡ Some u
+
+  -- what is posted was answered by a caller, under the URL of its number
+  abbrev pub PostsAreAnswers : Type 0
+  PostsAreAnswers = (n : ℕ) (u : Url) (p : P) (h : List (MapEvent P G)) → is_legal weight h ≡ true
+      → slice_get (replay weight h).urls n ≡ Some u → IsPostIn h n p
+      → (c : ℕ) × (names maker_of c h ≡ 1) × Contains (answers_by weight c h) (record { number = n; url = u; payload = p })
+
+  -- a URL that a caller took was asked for by a caller
+  abbrev pub TakesWereAsked : Type 0
+  TakesWereAsked = (c : ℕ) (u : Url) (h : List (MapEvent P G)) → is_legal weight h ≡ true → Contains (takes_by weight c h) u
+      → (d : ℕ) × (names maker_of d h ≡ 1) × Contains (asks_by weight d h) u
+
+  -- callers among whom each maker of an event is listed once have taken no URL twice, all together
+  abbrev pub TakenOnceByMakers : Type 0
+  TakenOnceByMakers = (cs : List ℕ) (h : List (MapEvent P G)) → is_legal weight h ≡ true
+      → ((k : ℕ) → names maker_of k h ≡ 1 → times k cs ≡ 1) → AreTakenOnce weight h cs
