@@ -17,3 +17,10 @@ pub mod FitLists
 pub mod FitBodies
 pub mod FitEvaluation
 pub mod FitLoading
+pub mod ExprFalls
+pub mod BodyFalls
+pub mod TurnsEnd
+pub mod Counting
+pub mod StepsWithin
+pub mod EvalFalls
+pub mod ReactsLower
