@@ -13,11 +13,13 @@ use Rattle.esm_values.specs.Plans.Plan.{Ends, Asks}
 use Rattle.esm_values.specs.Operators.{values, look_of, is_true}
 use Rattle.esm_values.specs.Operators.Look.{Func}
 use Rattle.esm_values.specs.declared.errors.FaultKind.{FaultKind}
+use Rattle.esm_values.specs.Errors.{make_error, fault}
 use Rattle.esm_expr_eval.specs.Terms.{Term}
 use Rattle.esm_expr_eval.specs.Terms.Term.{Val}
 use Rattle.esm_expr_eval.specs.Ready.{Holds}
 use Rattle.esm_expr_eval.proofs.Lands.{AllKnown, Later, Followed, followed, stays, onward, ask}
 use Rattle.esm_expr_eval.proofs.HasRewriting.{size, Comes', comes, come, Here, Arrives}
+use Rattle.esm_promise.specs.Outer.{Outer}
 use Rattle.esm_env.specs.Modules.{Modules}
 use Rattle.esm_env.specs.Cells.{Cell, Cells, write_cell}
 use Rattle.esm_env.specs.Writing.{write_at, write_by, constant_by}
@@ -31,9 +33,9 @@ use Rattle.esm_body.specs.BodyRewriting.{RewrittenBody, On, Gives, Waits, Rewrit
 use Rattle.esm_body.specs.BodyRewriting.RewritesBody.{begins_at, does, drops, sets, writes, throws, returns, prints, chooses, awaits, inner, inner_end, tries, tries_end}
 use Rattle.esm_body.specs.Fits.{Kind, FitsStmt, FitsStmts, FitsUse, HoldsScope, HoldScopes, HoldsPart, HoldsRest}
 use Rattle.esm_body.proofs.Grown.{held_scope, held_rest, opened_rest, count, size_part, size_rest, size_whole, new_whole, new_scope_of, new_branch, new_begin}
-use Rattle.esm_body.proofs.SomeAct.{BeginsSome, Took, took_none, Known, FitsInner, view, acts, lives}
+use Rattle.esm_body.proofs.SomeAct.{BeginsSome, HaltsIn, Took, took_none, Known, FitsInner, view, acts, lives}
 
-module _ {N I : Type 0} (same : N → N → Bool) (modules : I → Modules N) (linked : I → N → Bool) (begins : Importing N I) (some : BeginsSome modules linked begins) (m : N) where
+module _ {N I : Type 0} (same : N → N → Bool) (modules : I → Modules N) (linked : I → N → Bool) (Fit : Outer N I → Type 0) (begins : Importing N I) (some : BeginsSome modules linked Fit begins) (m : N) where
   abbrev W : Type 0
   W = Inner N I
 
@@ -41,10 +43,10 @@ module _ {N I : Type 0} (same : N → N → Bool) (modules : I → Modules N) (l
   V = Value N
 
   abbrev K : W → V → Type 0
-  K w v = Known same modules linked begins some w.state v
+  K w v = Known same modules linked Fit begins some w.state v
 
   abbrev F : W → Type 0
-  F w = FitsInner same modules linked begins some m w
+  F w = FitsInner same modules linked Fit begins some m w
 
   -- what a rewriting leaves, behind n steps
   pub record Left (w : W) (n : ℕ) (after : W) : Type 0 where
@@ -53,7 +55,7 @@ module _ {N I : Type 0} (same : N → N → Bool) (modules : I → Modules N) (l
     pub scopes : length after.scopes ≡ length w.scopes
     pub took : Took w.state n after.state
 
-  left_by : {w after : W} {n : ℕ} → Later (view same modules linked begins some m) w n after → Left w n after
+  left_by : {w after : W} {n : ℕ} → Later (view same modules linked Fit begins some m) w n after → Left w n after
   left_by l = record { fits = l.fits; keeps = l.keeps; scopes = ap length l.took.scopes; took = l.took.took }
 
   left_here : {w : W} → F w → Left w 0 w
@@ -62,12 +64,18 @@ module _ {N I : Type 0} (same : N → N → Bool) (modules : I → Modules N) (l
   abbrev pub RestIn : W → Type 0 → Kind → Rest V → Type 0
   RestIn w gap k r = HoldsRest (K w) gap k r
 
+  -- what a rewriting leaves that stops
+  pub record Halted (w after : W) : Type 0 where
+    pub fits : F after
+    pub keeps : (v : V) → K w v → K after v
+    pub scopes : length after.scopes ≡ length w.scopes
+
   -- what a rewriting comes to, of what remains with this size
   abbrev pub Fits' : Kind → W → ℕ → RewrittenBody V Limit → W → Type 0
   Fits' k w s (On (Goes r)) after = (n : ℕ) × (Left w n after × (RestIn after ⊥ k r × (n ≡ 0 → size_rest r < s)))
   Fits' k w s (On (Leaves v)) after = (n : ℕ) × (Left w n after × K after v)
   Fits' k w s (On (Calls f vs r)) after = (n : ℕ) × (Left w (suc n) after × ((look_of f ≡ Func) × (K after f × (AllKnown (K after) vs × RestIn after ⊤ k r))))
-  Fits' k w s (On (Stops why)) after = length after.scopes ≡ length w.scopes
+  Fits' k w s (On (Stops why)) after = Halted w after
   Fits' k w s (Gives v) after = (k.returns ≡ true) × ((n : ℕ) × (Left w n after × K after v))
   Fits' k w s (Waits v r) after = (k.awaits ≡ true) × ((n : ℕ) × (Left w n after × (K after v × RestIn after ⊤ k r)))
 
@@ -108,7 +116,7 @@ module _ {N I : Type 0} (same : N → N → Bool) (modules : I → Modules N) (l
   written : (w : W) (x : List ℕ) (v : V) → F w → K w v → Left w 0 (with_state w (record w.state { cells = write_cell same w.state.cells m x v }))
   written w x v f k = record {
     fits = record {
-      state = record { whole = f.state.whole; cells = set_cells same w w.state.cells m x v k f.state.cells };
+      state = record { whole = f.state.whole; cells = set_cells same w w.state.cells m x v k f.state.cells; standing = f.state.standing };
       scopes = f.scopes;
       home = f.home;
     };
@@ -143,7 +151,7 @@ module _ {N I : Type 0} (same : N → N → Bool) (modules : I → Modules N) (l
 
   new_left : (w : W) (kind : FaultKind) (message : List ℕ) → F w → Left w 0 (with_new w kind message)
   new_left w kind message f = record {
-    fits = record { state = record { whole = f.state.whole; cells = f.state.cells }; scopes = f.scopes; home = f.home };
+    fits = record { state = record { whole = some.errors w.state.outer (make_error w.state.outer.errors (fault kind message)) f.state.whole; cells = f.state.cells; standing = f.state.standing }; scopes = f.scopes; home = f.home };
     keeps = λ v k. k;
     scopes = refl;
     took = record { steps = omega arith; bound = λ l. absurd (omega (arith, l)) };
@@ -188,45 +196,48 @@ module _ {N I : Type 0} (same : N → N → Bool) (modules : I → Modules N) (l
   -- ---- plans
 
   abbrev view' : Rattle.esm_expr_eval.proofs.Lands.Views W V
-  view' = view same modules linked begins some m
+  view' = view same modules linked Fit begins some m
 
   abbrev Goal : Kind → W → ℕ → Rewritten V Limit (Rest V) → W → Type 0
   Goal k w s c after = Fits' k w s (On c) after
 
-  stop : (k : Kind) (w mid : W) (s : ℕ) → mid.scopes ≡ w.scopes → (why : Limit) (after : W) → after.scopes ≡ mid.scopes → Goal k w s (Stops why) after
-  stop k w mid s l why after h = ap length (h ∙ l)
+  stop : (k : Kind) (w mid : W) (s n : ℕ) → Later view' w n mid → (why : Limit) (after : W) → HaltsIn same modules linked Fit begins some m mid after → Goal k w s (Stops why) after
+  stop k w mid s n l why after h = record { fits = h.fits; keeps = λ v q. h.keeps v (l.keeps v q); scopes = ap length (h.scopes ∙ l.took.scopes) }
+
+  start : {w : W} → F w → Later view' w 0 w
+  start f = stays view' (values same) (acts same modules linked Fit begins some m) (lives same modules linked Fit begins some m) f
 
   begins_some : (k : Kind) (w : W) (st : Statement) (rest : Rest V) → F w → FitsStmt k st → RestIn w ⊥ k rest
-      → Followed view' (values same) (acts same modules linked begins some m) (lives same modules linked begins some m) (Goal k w (size_rest (more (Whole st) rest))) w (Asks (act.Step 1) (λ _. Ends (Goes (begin (values same) st rest))))
+      → Followed view' (values same) (acts same modules linked Fit begins some m) (lives same modules linked Fit begins some m) (Goal k w (size_rest (more (Whole st) rest))) w (Asks (act.Step 1) (λ _. Ends (Goes (begin (values same) st rest))))
   begins_some k w st rest f h r =
-      ask view' (values same) (acts same modules linked begins some m) (lives same modules linked begins some m) (Goal k w (size_rest (more (Whole st) rest))) w (act.Step 1) _ (stop k w w (size_rest (more (Whole st) rest)) refl) f tt
+      ask view' (values same) (acts same modules linked Fit begins some m) (lives same modules linked Fit begins some m) (Goal k w (size_rest (more (Whole st) rest))) w (act.Step 1) _ (stop k w w (size_rest (more (Whole st) rest)) 0 (start f)) f tt
       (λ t mid l q. followed _ mid Follows.ends (1, (left_by l, (new_begin (K mid) (values same) tt (λ b. tt) (λ t. tt) k st rest h (held_rest (K w) (K mid) l.keeps ⊥ k rest r), λ e. absurd (omega (arith, e))))))
 
   prints_some : (k : Kind) (w : W) (v : V) (rest : Rest V) → F w → K w v → RestIn w ⊥ k rest
-      → Followed view' (values same) (acts same modules linked begins some m) (lives same modules linked begins some m) (Goal k w (size_rest (more (Does Prints (Val v)) rest))) w (Asks (act.Step 1) (λ _. Asks (act.Print (v ∷ [])) (λ _. Ends (Goes rest))))
+      → Followed view' (values same) (acts same modules linked Fit begins some m) (lives same modules linked Fit begins some m) (Goal k w (size_rest (more (Does Prints (Val v)) rest))) w (Asks (act.Step 1) (λ _. Asks (act.Print (v ∷ [])) (λ _. Ends (Goes rest))))
   prints_some k w v rest f q r =
-      ask view' (values same) (acts same modules linked begins some m) (lives same modules linked begins some m) (Goal k w (size_rest (more (Does Prints (Val v)) rest))) w (act.Step 1) _ (stop k w w (size_rest (more (Does Prints (Val v)) rest)) refl) f tt
-      (λ t mid l q'. ask view' (values same) (acts same modules linked begins some m) (lives same modules linked begins some m) (Goal k w (size_rest (more (Does Prints (Val v)) rest))) mid (act.Print (v ∷ [])) _ (stop k w mid (size_rest (more (Does Prints (Val v)) rest)) l.took.scopes) l.fits (l.keeps v q, tt)
+      ask view' (values same) (acts same modules linked Fit begins some m) (lives same modules linked Fit begins some m) (Goal k w (size_rest (more (Does Prints (Val v)) rest))) w (act.Step 1) _ (stop k w w (size_rest (more (Does Prints (Val v)) rest)) 0 (start f)) f tt
+      (λ t mid l q'. ask view' (values same) (acts same modules linked Fit begins some m) (lives same modules linked Fit begins some m) (Goal k w (size_rest (more (Does Prints (Val v)) rest))) mid (act.Print (v ∷ [])) _ (stop k w mid (size_rest (more (Does Prints (Val v)) rest)) 1 l) l.fits (l.keeps v q, tt)
       (λ t late l' q''.
-      let both = onward view' (values same) (acts same modules linked begins some m) (lives same modules linked begins some m) l l' in
+      let both = onward view' (values same) (acts same modules linked Fit begins some m) (lives same modules linked Fit begins some m) l l' in
       followed _ late Follows.ends (1, (left_by both, (held_rest (K w) (K late) both.keeps ⊥ k rest r, λ e. absurd (omega (arith, e)))))))
 
-  planned : (k : Kind) {w : W} {r : Rest V} {p : Plan V Limit (Rest V)} → ((c : Rewritten V Limit (Rest V)) (after : W) → Follows (acts same modules linked begins some m) w p c after → RewritesBody same modules begins m w r (On c) after)
-      → Followed view' (values same) (acts same modules linked begins some m) (lives same modules linked begins some m) (Goal k w (size_rest r)) w p → Moves k w r
+  planned : (k : Kind) {w : W} {r : Rest V} {p : Plan V Limit (Rest V)} → ((c : Rewritten V Limit (Rest V)) (after : W) → Follows (acts same modules linked Fit begins some m) w p c after → RewritesBody same modules begins m w r (On c) after)
+      → Followed view' (values same) (acts same modules linked Fit begins some m) (lives same modules linked Fit begins some m) (Goal k w (size_rest r)) w p → Moves k w r
   planned k rule (followed c after f g) = moves (On c) after (rule c after f) g
 
   -- ---- the expression of a statement
 
   arrives_fits : (k : Kind) (w : W) (u : Use) (e : Term V) (rest : Rest V) → FitsUse k u → RestIn w ⊥ k rest → (c : Rewritten V Limit (Term V)) (after : W)
-      → Arrives view' (values same) (own_url same modules begins m) (acts same modules linked begins some m) (lives same modules linked begins some m) w (size e) c after
+      → Arrives view' (values same) (own_url same modules begins m) (acts same modules linked Fit begins some m) (lives same modules linked Fit begins some m) w (size e) c after
       → Fits' k w (size_rest (more (Does u e) rest)) (On (inside (λ e. more (Does u e) rest) c)) after
   arrives_fits k w u e rest f r (Goes t) after (n, (l, (h, lt))) = (n, (left_by l, (((f, h), kept_rest k ⊥ rest (left_by l) r), λ q. omega (arith, lt))))
   arrives_fits k w u e rest f r (Leaves v) after (n, (l, h)) = (n, (left_by l, h))
   arrives_fits k w u e rest f r (Calls g vs t) after (n, (l, (q, (kg, (kvs, h))))) = (n, (left_by l, (q, (kg, (kvs, ((f, h), kept_rest k ⊤ rest (left_by l) r))))))
-  arrives_fits k w u e rest f r (Stops why) after h = ap length h
+  arrives_fits k w u e rest f r (Stops why) after h = record { fits = h.fits; keeps = h.keeps; scopes = ap length h.scopes }
 
   expression_moves : (k : Kind) (w : W) (u : Use) (e : Term V) (rest : Rest V) → FitsUse k u → RestIn w ⊥ k rest
-      → Comes' view' (values same) (own_url same modules begins m) (acts same modules linked begins some m) (lives same modules linked begins some m) w e → Moves k w (more (Does u e) rest)
+      → Comes' view' (values same) (own_url same modules begins m) (acts same modules linked Fit begins some m) (lives same modules linked Fit begins some m) w e → Moves k w (more (Does u e) rest)
   expression_moves k w u e rest f r (comes c after h l) = moves _ after (does h) (arrives_fits k w u e rest f r c after l)
 
   chosen : (V' : Type 0) (b : Bool) (ss others : Stmts) → size_part (branch {V = V} (values same) b ss others) < suc (suc (count ss + count others))
@@ -263,7 +274,7 @@ module _ {N I : Type 0} (same : N → N → Bool) (modules : I → Modules N) (l
       by (On (Goes s)) (n, (l, (q, lt))) = (n, (out l, (((l.fits.scopes.0, q), kept_rest k ⊥ rest (out l) h), λ e. let x = lt e in omega (arith, x))))
       by (On (Leaves v)) (n, (l, q)) = (n, (out l, q))
       by (On (Calls f vs s)) (n, (l, (e, (kf, (kvs, q))))) = (n, (out l, (e, (kf, (kvs, ((l.fits.scopes.0, q), kept_rest k ⊤ rest (out l) h))))))
-      by (On (Stops why)) q = len
+      by (On (Stops why)) q = record { fits = record { state = q.fits.state; scopes = q.fits.scopes.1; home = q.fits.home }; keeps = q.keeps; scopes = len }
       by (Gives v) (a, (n, (l, q))) = (a, (n, (out l, q)))
       by (Waits v s) (a, (n, (l, (kv, q)))) = (a, (n, (out l, (kv, ((l.fits.scopes.0, q), kept_rest k ⊤ rest (out l) h)))))
 
@@ -272,7 +283,7 @@ module _ {N I : Type 0} (same : N → N → Bool) (modules : I → Modules N) (l
   shape k w s (On (Goes r)) after (n, (l, q)) = l.scopes
   shape k w s (On (Leaves v)) after (n, (l, q)) = l.scopes
   shape k w s (On (Calls f vs r)) after (n, (l, q)) = l.scopes
-  shape k w s (On (Stops why)) after q = q
+  shape k w s (On (Stops why)) after q = q.scopes
   shape k w s (Gives v) after (a, (n, (l, q))) = l.scopes
   shape k w s (Waits v r) after (a, (n, (l, q))) = l.scopes
 
@@ -310,7 +321,7 @@ module _ {N I : Type 0} (same : N → N → Bool) (modules : I → Modules N) (l
   -- ---- what remains
 
   does_by : (k : Kind) (w : W) (u : Use) (e : Term V) (rest : Rest V) → F w → FitsUse k u → Holds (K w) ⊥ e → RestIn w ⊥ k rest
-      → Here view' (values same) (own_url same modules begins m) (acts same modules linked begins some m) (lives same modules linked begins some m) w e → Moves k w (more (Does u e) rest)
+      → Here view' (values same) (own_url same modules begins m) (acts same modules linked Fit begins some m) (lives same modules linked Fit begins some m) w e → Moves k w (more (Does u e) rest)
   does_by k w u e rest f h q r (inl x) =
       subst (λ e. Holds (K w) ⊥ e → Moves k w (more (Does u e) rest)) (sym x.1) (λ q. value_moves k w u x.0 rest f h q r) q
   does_by k w u e rest f h q r (inr c) = expression_moves k w u e rest h r c
@@ -322,7 +333,7 @@ module _ {N I : Type 0} (same : N → N → Bool) (modules : I → Modules N) (l
   pub some_move : (k : Kind) (w : W) (p : Part V) (rest : Rest V) → F w → HoldsPart (K w) ⊥ k p → RestIn w ⊥ k rest → Moves k w (more p rest)
   some_move k w (Whole s) rest f h r = planned k (λ c after d. begins_at d) (begins_some k w s rest f h r)
   some_move k w (Does u e) rest f h r =
-      does_by k w u e rest f h.0 h.1 r (come view' (values same) (own_url same modules begins m) (acts same modules linked begins some m) (lives same modules linked begins some m) w f e h.1)
+      does_by k w u e rest f h.0 h.1 r (come view' (values same) (own_url same modules begins m) (acts same modules linked Fit begins some m) (lives same modules linked Fit begins some m) w f e h.1)
   some_move k w (Stands u) rest f h r = absurd h.1
   some_move k w (In scope end) rest f h r = at_once rest w inner_end (left_here f) r (omega arith)
   some_move k w (In scope (more p s)) rest f h r =

@@ -1,11 +1,13 @@
 -- A segment has an outcome, in a state that fits: each rewriting counts a step, of which there are no more than may be, or makes
 -- smaller what remains of what runs and of its callers.
 use Rattle.std.proofs.Common.{◌≡◌, ℕ, zero, suc, ◌+◌, ◌<◌, ◌≤◌, Bool, true, false, List, [], ◌∷◌, ◌++◌, Some, refl, ap, subst, arith, length}
-use Rattle.std.specs.Prelude.{⊤, nat_lt}
+use Rattle.std.specs.Prelude.{codes, ⊤, nat_lt}
 use Rattle.esm_base.specs.declared.limits.Limit.{Limit}
 use Rattle.esm_base.specs.declared.limits.TheConstants.{MAX_STEPS, MAX_CALL_DEPTH}
 use Rattle.esm_values.specs.Value.{Value, Undefined, Truth, Text, Func, Error, Namespace, Promise}
 use Rattle.esm_values.specs.Plans.{Rewritten as comes}
+use Rattle.esm_values.specs.Errors.{make_error, fault}
+use Rattle.esm_values.specs.declared.errors.FaultKind.TheVariants as kinds
 use Rattle.esm_values.specs.Operators.{values, look_of}
 use Rattle.esm_values.specs.Operators.{Look as look}
 use Rattle.esm_expr_eval.specs.Terms.{Term}
@@ -14,6 +16,7 @@ use Rattle.esm_expr_eval.specs.Ready.{Holds}
 use Rattle.esm_expr_eval.proofs.Lands.{AllKnown}
 use Rattle.esm_expr_eval.proofs.HasRewriting.{size}
 use Rattle.esm_env.specs.Declarations.{FunctionCode}
+use Rattle.esm_promise.specs.Outer.{Outer}
 use Rattle.esm_env.specs.Modules.{Modules, function_of}
 use Rattle.esm_body.specs.Scopes.{Scope, call_scope, parameters}
 use Rattle.esm_body.specs.Rest.{Rest, end, more, whole, fill_rest}
@@ -34,7 +37,7 @@ weight (c ∷ cs) = suc (size_rest c.rest) + weight cs
 abbrev measure : {N : Type 0} → Rest (Value N) → List (Active N) → ℕ
 measure r cs = suc (size_rest r) + weight cs
 
-module _ {N I : Type 0} (same : N → N → Bool) (modules : I → Modules N) (linked : I → N → Bool) (begins : Importing N I) (some : BeginsSome modules linked begins) (awaits : Bool) where
+module _ {N I : Type 0} (same : N → N → Bool) (modules : I → Modules N) (linked : I → N → Bool) (Whole : Outer N I → Type 0) (begins : Importing N I) (some : BeginsSome modules linked Whole begins) (awaits : Bool) where
   abbrev W : Type 0
   W = State N I
 
@@ -45,10 +48,10 @@ module _ {N I : Type 0} (same : N → N → Bool) (modules : I → Modules N) (l
   K w v = Knows modules linked w.outer.imports v
 
   abbrev Run : W → N → Rest V → List (Active N) → Type 0
-  Run w m r cs = FitsRun modules linked w m awaits r cs
+  Run w m r cs = FitsRun modules linked Whole w m awaits r cs
 
   abbrev pub Result : W → N → Rest V → List (Active N) → Type 0
-  Result w m r cs = (how : Ended N) × ((after : W) × (Segment same modules begins w m r cs how after × FitsEnd modules linked w awaits how after))
+  Result w m r cs = (how : Ended N) × ((after : W) × (Segment same modules begins w m r cs how after × FitsEnd modules linked Whole w awaits how after))
 
   abbrev Keeps : W → W → Type 0
   Keeps w after = (v : V) → K w v → K after v
@@ -59,11 +62,11 @@ module _ {N I : Type 0} (same : N → N → Bool) (modules : I → Modules N) (l
   kept_callers w after k [] h = tt
   kept_callers w after k (c ∷ cs) h = (k (Namespace c.at) h.0, held_rest (K w) (K after) k ⊤ (kind_by modules linked awaits cs) c.rest h.1, kept_callers w after k cs h.2)
 
-  kept_end : (w mid after : W) (how : Ended N) → Keeps w mid → FitsEnd modules linked mid awaits how after → FitsEnd modules linked w awaits how after
+  kept_end : (w mid after : W) (how : Ended N) → Keeps w mid → FitsEnd modules linked Whole mid awaits how after → FitsEnd modules linked Whole w awaits how after
   kept_end w mid after Normal k h = record { fits = h.fits; keeps = λ v q. h.keeps v (k v q) }
   kept_end w mid after (Thrown v) k h = (record { fits = h.0.fits; keeps = λ v q. h.0.keeps v (k v q) }, h.1)
   kept_end w mid after (Awaiting v rest) k h = (record { fits = h.0.fits; keeps = λ v q. h.0.keeps v (k v q) }, h.1, h.2, h.3)
-  kept_end w mid after (Stopped why) k h = tt
+  kept_end w mid after (Stopped why) k h = record { fits = h.fits; keeps = λ v q. h.keeps v (k v q) }
 
   -- ---- going on
 
@@ -88,7 +91,7 @@ module _ {N I : Type 0} (same : N → N → Bool) (modules : I → Modules N) (l
       on move mid late m' r' cs' d e keeps x = (x.0, (x.1.0, (goes move d e x.1.1.0, kept_end w late x.1.0 x.0 keeps x.1.1.1)))
 
       abbrev Left' : ℕ → W → Type 0
-      Left' steps mid = Left same modules linked begins some m (record { scopes = []; state = w }) steps (record { scopes = []; state = mid })
+      Left' steps mid = Left same modules linked Whole begins some m (record { scopes = []; state = w }) steps (record { scopes = []; state = mid })
 
       -- the caller goes on
       back : (move : RewrittenBody V Limit) (given : Term V) (steps : ℕ) (mid : W) (c : Active N) (cs' : List (Active N)) → cs ≡ c ∷ cs' → RewritesOutermost same modules begins m w r move mid
@@ -115,8 +118,8 @@ module _ {N I : Type 0} (same : N → N → Bool) (modules : I → Modules N) (l
       known_both P [] t h g = g
       known_both P (x ∷ s) t h g = (h.0, known_both P s t h.1 g)
 
-      function_fits : (mid : W) (g : N) (index : ℕ) (code : FunctionCode) → FitsState modules linked mid → linked mid.outer.imports g ≡ true → function_of (modules mid.outer.imports) g index ≡ Some code → FitsStmts of_function code.body
-      function_fits mid g index code s l e = record { returns = λ q. absurd cc; awaits = λ q. (some.readable mid.outer.imports s.whole).functions g index code l e }
+      function_fits : (mid : W) (g : N) (index : ℕ) (code : FunctionCode) → FitsState modules linked Whole mid → linked mid.outer.imports g ≡ true → function_of (modules mid.outer.imports) g index ≡ Some code → FitsStmts of_function code.body
+      function_fits mid g index code s l e = record { returns = λ q. absurd cc; awaits = λ q. (some.readable mid.outer s.whole).functions g index code l e }
 
       callee : (mid : W) (g : N) (index : ℕ) (vs : List V) (code : FunctionCode) → function_of (modules mid.outer.imports) g index ≡ Some code
           → called (modules mid.outer.imports) (Func g index) vs ≡ Some (active g (more (In (call_scope Undefined code vs) (whole code.body)) end))
@@ -147,7 +150,7 @@ module _ {N I : Type 0} (same : N → N → Bool) (modules : I → Modules N) (l
           on (On (comes.Calls (Func g index) vs s)) mid late m (fill_rest given s) cs d
           (λ i. call_by same modules begins (b i) m s cs mid (called (modules mid.outer.imports) (Func g index) vs)) l.keeps
           (proceed (suc steps) w late m (fill_rest given s) cs (record { steps = l.took.steps; bound = l.took.bound }) enough (λ z. absurd (omega (arith, z))) (record {
-            state = record { whole = l.fits.state.whole; cells = l.fits.state.cells };
+            state = record { whole = some.errors mid.outer (make_error mid.outer.errors (fault kinds.RangeError (codes "call depth"))) l.fits.state.whole; cells = l.fits.state.cells; standing = l.fits.state.standing };
             home = l.fits.home;
             holds = filled_rest (K mid) given tt (kind_by modules linked awaits cs) s hs;
             before = kept_callers w mid l.keeps cs f.before;
@@ -165,11 +168,11 @@ module _ {N I : Type 0} (same : N → N → Bool) (modules : I → Modules N) (l
 
     -- ---- each move
 
-    stays : (w mid : W) (m : N) (steps : ℕ) → Left same modules linked begins some m (record { scopes = []; state = w }) steps (record { scopes = []; state = mid }) → StaysFit modules linked w mid
+    stays : (w mid : W) (m : N) (steps : ℕ) → Left same modules linked Whole begins some m (record { scopes = []; state = w }) steps (record { scopes = []; state = mid }) → StaysFit modules linked Whole w mid
     stays w mid m steps l = record { fits = l.fits.state; keeps = l.keeps }
 
     goes_on : (w : W) (m : N) (p : Rest V) (cs : List (Active N)) → Run w m p cs → MAX_STEPS < w.engine.steps + k → measure p cs < suc n → (move : RewrittenBody V Limit) (mid : W) → RewritesOutermost same modules begins m w p move mid
-        → Fits' same modules linked begins some m (kind_by modules linked awaits cs) (record { scopes = []; state = w }) (size_rest p) move (record { scopes = []; state = mid }) → Result w m p cs
+        → Fits' same modules linked Whole begins some m (kind_by modules linked awaits cs) (record { scopes = []; state = w }) (size_rest p) move (record { scopes = []; state = mid }) → Result w m p cs
     unfolding K'
     goes_on w m p cs f enough lt (On (comes.Goes s)) mid d (steps, (l, (h, less))) =
         on w m p cs f enough (On (comes.Goes s)) mid mid m s cs d refl l.keeps
@@ -177,7 +180,7 @@ module _ {N I : Type 0} (same : N → N → Bool) (modules : I → Modules N) (l
     goes_on w m p [] f enough lt (On (comes.Leaves v)) mid d (steps, (l, h)) = (Thrown v, (mid, (over (On (comes.Leaves v)) d refl, (stays w mid m steps l, h))))
     goes_on w m p (c ∷ cs) f enough lt (On (comes.Leaves v)) mid d (steps, (l, h)) = back w m p (c ∷ cs) f enough (On (comes.Leaves v)) (Fails v) steps mid c cs refl d refl h refl lt l
     goes_on w m p cs f enough lt (On (comes.Calls v vs s)) mid d (steps, (l, (e, (kv, (kvs, h))))) = calls_known w m p cs f enough mid steps v vs s d l e kv kvs h
-    goes_on w m p cs f enough lt (On (comes.Stops why)) mid d q = (Stopped why, (mid, (over (On (comes.Stops why)) d refl, tt)))
+    goes_on w m p cs f enough lt (On (comes.Stops why)) mid d q = (Stopped why, (mid, (over (On (comes.Stops why)) d refl, record { fits = q.fits.state; keeps = q.keeps })))
     goes_on w m p [] f enough lt (Gives v) mid d (a, q) = absurd cc
     goes_on w m p (c ∷ cs) f enough lt (Gives v) mid d (a, (steps, (l, h))) = back w m p (c ∷ cs) f enough (Gives v) (Val v) steps mid c cs refl d refl h refl lt l
     goes_on w m p [] f enough lt (Waits v s) mid d (a, (steps, (l, (kv, h)))) = (Awaiting v s, (mid, (over (Waits v s) d refl, (stays w mid m steps l, a, kv, h))))
@@ -185,14 +188,14 @@ module _ {N I : Type 0} (same : N → N → Bool) (modules : I → Modules N) (l
 
     goes_shaped : (w : W) (m : N) (p : Rest V) (cs : List (Active N)) → Run w m p cs → MAX_STEPS < w.engine.steps + k → measure p cs < suc n → (move : RewrittenBody V Limit) (ss : List (Scope V)) (mid : W) → length ss ≡ 0
         → RewritesBody same modules begins m (record { scopes = []; state = w }) p move (record { scopes = ss; state = mid })
-        → Fits' same modules linked begins some m (kind_by modules linked awaits cs) (record { scopes = []; state = w }) (size_rest p) move (record { scopes = ss; state = mid }) → Result w m p cs
+        → Fits' same modules linked Whole begins some m (kind_by modules linked awaits cs) (record { scopes = []; state = w }) (size_rest p) move (record { scopes = ss; state = mid }) → Result w m p cs
     goes_shaped w m p cs f enough lt move [] mid e d q = goes_on w m p cs f enough lt move mid d q
     goes_shaped w m p cs f enough lt move (s ∷ ss) mid e d q = absurd (omega (arith, e))
 
     goes_by : (w : W) (m : N) (p : Rest V) (cs : List (Active N)) → Run w m p cs → MAX_STEPS < w.engine.steps + k → measure p cs < suc n
-        → Moves same modules linked begins some m (kind_by modules linked awaits cs) (record { scopes = []; state = w }) p → Result w m p cs
+        → Moves same modules linked Whole begins some m (kind_by modules linked awaits cs) (record { scopes = []; state = w }) p → Result w m p cs
     goes_by w m p cs f enough lt (moves move after d q) =
-        goes_shaped w m p cs f enough lt move after.scopes after.state (shape same modules linked begins some m (kind_by modules linked awaits cs) (record { scopes = []; state = w }) (size_rest p) move after q) d q
+        goes_shaped w m p cs f enough lt move after.scopes after.state (shape same modules linked Whole begins some m (kind_by modules linked awaits cs) (record { scopes = []; state = w }) (size_rest p) move after q) d q
 
     -- what has no part left returns, or ends
     at_end : (w : W) (m : N) (cs : List (Active N)) → Run w m end cs → MAX_STEPS < w.engine.steps + k → measure {N = N} end cs < suc n → Result w m end cs
@@ -210,7 +213,7 @@ module _ {N I : Type 0} (same : N → N → Bool) (modules : I → Modules N) (l
     one_more w m end cs lt enough f = at_end w m cs f enough lt
     one_more w m (more p rest) cs lt enough f =
         goes_by w m (more p rest) cs f enough lt
-        (some_move same modules linked begins some m (kind_by modules linked awaits cs) (record { scopes = []; state = w }) p rest (record { state = f.state; scopes = tt; home = f.home }) f.holds.0 f.holds.1)
+        (some_move same modules linked Whole begins some m (kind_by modules linked awaits cs) (record { scopes = []; state = w }) p rest (record { state = f.state; scopes = tt; home = f.home }) f.holds.0 f.holds.1)
 
   within : (k : ℕ) → Lower k → (n : ℕ) → Again k n
   within k lower zero w m r cs lt enough f = absurd (omega (arith, lt))

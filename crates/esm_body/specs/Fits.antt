@@ -14,7 +14,8 @@ use Rattle.esm_body.specs.Scopes.{Scope}
 use Rattle.esm_body.specs.Rest.{Use, Part, Rest, end, more}
 use Rattle.esm_body.specs.Rest.Use.{Drops, Sets, Writes, Throws, Returns, Prints, Chooses, Awaits}
 use Rattle.esm_body.specs.Rest.Part.{Whole, Does, Stands, In, Tries}
-use Rattle.esm_body.specs.State.{State}
+use Rattle.esm_promise.specs.Outer.{Outer}
+use Rattle.esm_body.specs.State.{State, Standing}
 use Rattle.esm_body.specs.Segment.{Active, Ended, Normal, Thrown, Awaiting, Stopped}
 
 -- ---- values and modules
@@ -111,10 +112,6 @@ module _ {N I : Type 0} (modules : I → Modules N) (linked : I → N → Bool) 
   abbrev pub Knows : I → Value N → Type 0
   Knows i v = IsKnown (modules i) (linked i) v
 
-  pub record FitsState (w : State N I) : Type 0 where
-    pub whole : AreLinked (modules w.outer.imports) (linked w.outer.imports)
-    pub cells : AreKnownCells (modules w.outer.imports) (linked w.outer.imports) w.cells
-
   -- the callers of what runs, the last of them a body, which awaits or doesn't
   abbrev pub kind_by : Bool → List (Active N) → Kind
   kind_by awaits [] = of_body awaits
@@ -124,22 +121,34 @@ module _ {N I : Type 0} (modules : I → Modules N) (linked : I → N → Bool) 
   FitCallers i awaits [] = ⊤
   FitCallers i awaits (c ∷ cs) = (linked i c.at ≡ true) × HoldsRest (Knows i) ⊤ (kind_by awaits cs) c.rest × FitCallers i awaits cs
 
-  -- a rest runs in a module, with its callers
-  pub record FitsRun (w : State N I) (m : N) (awaits : Bool) (rest : Rest (Value N)) (callers : List (Active N)) : Type 0 where
-    pub state : FitsState w
-    pub home : linked w.outer.imports m ≡ true
-    pub holds : HoldsRest (Knows w.outer.imports) ⊥ (kind_by awaits callers) rest
-    pub before : FitCallers w.outer.imports awaits callers
+  -- the bodies that stand at an await
+  abbrev pub FitStanding : I → List (Standing N) → Type 0
+  FitStanding i [] = ⊤
+  FitStanding i (s ∷ ss) = (linked i s.at ≡ true) × HoldsRest (Knows i) ⊤ (of_body true) s.rest × FitStanding i ss
 
-  -- the state fits still, and what was known is known still
-  pub record StaysFit (w after : State N I) : Type 0 where
-    pub fits : FitsState after
-    pub keeps : (v : Value N) → Knows w.outer.imports v → Knows after.outer.imports v
+  -- Whole is what is asked of promises, errors and modules
+  module _ (Whole : Outer N I → Type 0) where
+    pub record FitsState (w : State N I) : Type 0 where
+      pub whole : Whole w.outer
+      pub cells : AreKnownCells (modules w.outer.imports) (linked w.outer.imports) w.cells
+      pub standing : FitStanding w.outer.imports w.engine.standing
 
-  -- how a segment ends: only a body that awaits stands at an await, with a rest that fits. Behind a limit nothing is said
-  abbrev pub FitsEnd : State N I → Bool → Ended N → State N I → Type 0
-  FitsEnd w awaits Normal after = StaysFit w after
-  FitsEnd w awaits (Thrown v) after = StaysFit w after × Knows after.outer.imports v
-  FitsEnd w awaits (Awaiting v rest) after = StaysFit w after × (awaits ≡ true) × Knows after.outer.imports v
-      × HoldsRest (Knows after.outer.imports) ⊤ (of_body awaits) rest
-  FitsEnd w awaits (Stopped why) after = ⊤
+    -- a rest runs in a module, with its callers
+    pub record FitsRun (w : State N I) (m : N) (awaits : Bool) (rest : Rest (Value N)) (callers : List (Active N)) : Type 0 where
+      pub state : FitsState w
+      pub home : linked w.outer.imports m ≡ true
+      pub holds : HoldsRest (Knows w.outer.imports) ⊥ (kind_by awaits callers) rest
+      pub before : FitCallers w.outer.imports awaits callers
+
+    -- the state fits still, and what was known is known still
+    pub record StaysFit (w after : State N I) : Type 0 where
+      pub fits : FitsState after
+      pub keeps : (v : Value N) → Knows w.outer.imports v → Knows after.outer.imports v
+
+    -- how a segment ends: only a body that awaits stands at an await, with a rest that fits
+    abbrev pub FitsEnd : State N I → Bool → Ended N → State N I → Type 0
+    FitsEnd w awaits Normal after = StaysFit w after
+    FitsEnd w awaits (Thrown v) after = StaysFit w after × Knows after.outer.imports v
+    FitsEnd w awaits (Awaiting v rest) after = StaysFit w after × (awaits ≡ true) × Knows after.outer.imports v
+        × HoldsRest (Knows after.outer.imports) ⊤ (of_body awaits) rest
+    FitsEnd w awaits (Stopped why) after = StaysFit w after

@@ -183,7 +183,7 @@ module _ {W V S : Type 0} (view : Views W V) (values : Values V) (url : W → Li
   Plans w s mid p = Followed view values acts lives (Arrives w s) mid p
 
   stop : (w : W) (s n : ℕ) (mid : W) → Later view w n mid → (why : S) (after : W) → view.Halts mid after → Arrives w s (Stops why) after
-  stop w s n mid l why after h = lives.halts l.took h
+  stop w s n mid l why after h = lives.halts l h
 
   leaves : (w : W) (s n : ℕ) (mid : W) (v : V) → Later view w n mid → view.Knows mid v → Plans w s mid (Ends (Leaves v))
   leaves w s n mid v l k = followed (Leaves v) mid Follows.ends (n, (l, k))

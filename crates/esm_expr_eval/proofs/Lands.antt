@@ -76,7 +76,7 @@ module _ {W V : Type 0} (view : Views W V) where
       pub truth : (w : W) (b : Bool) → view.Knows w (values.truth b)
       pub text : (w : W) (t : List ℕ) → view.Knows w (values.text t)
       pub none : (w : W) → view.Took w 0 w
-      pub halts : {w mid after : W} {n : ℕ} → view.Took w n mid → view.Halts mid after → view.Halts w after
+      pub halts : {w mid after : W} {n : ℕ} → Later w n mid → view.Halts mid after → view.Halts w after
       pub both : {w mid after : W} {n k : ℕ} → view.Took w n mid → view.Took mid k after → view.Took w (n + k) after
 
   -- what remains, in a world: its values are known, and whether a call may be under way

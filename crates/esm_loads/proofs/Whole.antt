@@ -1,22 +1,22 @@
 -- What is Unlinked is loaded with all that it reaches, and each load has ended or waits.
 use Rattle.std.proofs.Common.{◌≡◌, ℕ, zero, suc, ◌+◌, Bool, true, false, List, [], ◌∷◌, ◌++◌, length, Option, Some, None, Contains, refl, ap, subst, sym, ◌∙◌, inl, inr}
-use Rattle.std.specs.Prelude.{filter, ◌⊎◌, ◌||◌, not, nat_lt, slice_get, slice_set}
+use Rattle.std.specs.Prelude.{filter, cond, ◌⊎◌, ◌||◌, not, nat_lt, slice_get, slice_set}
 use Rattle.esm_base.specs.declared.limits.Limit.{Limit}
 use Rattle.esm_base.specs.Urls.{Text, Url, has, same_url}
 use Rattle.esm_tree.specs.Syntax.{Item}
 use Rattle.esm_ast.specs.Outcome.{OutcomeView}
 use Rattle.esm_import_map.specs.ImportMap.{Maps}
-use Rattle.esm_realm.proofs.Urls.{cases, same_text, own_text, or_left, or_cases}
+use Rattle.esm_realm.proofs.Urls.{cases, same_text, own_text, or_left, or_cases, or_true}
 use Rattle.esm_loads.specs.UrlTable.{Entries, TableEntry, Failed, Module, Throw, Found, Nothing, Faulty, Script, found, thrown_by, targets_in, put_at, no_urls}
-use Rattle.esm_loads.specs.Loading.{Loading, LoadState, Asked, Open, LoadComplete, Thrown, PendingRequest, Root, Request, Purpose, ForEntry, ForImport, OpenLoad, load_of, open_load, ask, ask_by, begin, throw, finish, finish_by, has_pending, targets, is_fetching}
+use Rattle.esm_loads.specs.Loading.{Loading, LoadState, Asked, Open, LoadComplete, Thrown, PendingRequest, Root, Request, Purpose, ForEntry, ForImport, OpenLoad, load_of, open_load, ask, ask_by, begin, throw, finish, finish_by, has_pending, targets, is_fetching, root_in}
 use Rattle.esm_loads.specs.Load.{Enters, Answers}
 use Rattle.esm_loads.specs.Load.Answers.{no_root, no_module, root, request}
 use Rattle.esm_loads.specs.Host.{Host, Answered, opening_host, begin_load, begin_by, settle_load, with_loading}
 use Rattle.esm_loads.specs.Host.Answered.{answered, late}
 use Rattle.esm_loads.specs.Arrival.{bytes_of, count_by, store_by, put_found, with_entry, Next, next, AnswersNext, without_next, open_asks}
 use Rattle.esm_loads.specs.ImportCall.{Imports, add_load, counted, next_load}
-use Rattle.esm_loads.specs.Whole.{is_module, IsPending, AreUnlinked, IsLoaded, IsKnown, AreFollowed, IsVisited, GoesOn, IsLoadWhole, IsWhole, HasEnded}
-use Rattle.esm_loads.specs.Laws.{IsFirst, HasNothing, StaysWhole, LoadsEnd}
+use Rattle.esm_loads.specs.Whole.{unlinked_modules, is_module, IsPending, AreUnlinked, IsLoaded, IsKnown, AreFollowed, IsVisited, GoesOn, IsLoadWhole, IsWhole, HasEnded}
+use Rattle.esm_loads.specs.Laws.{IsOrderly, IsFirst, HasNothing, StaysWhole, LoadsEnd, UnlinkedIsClosed}
 use Rattle.esm_loads.proofs.Limits.{live}
 use Rattle.esm_loads.proofs.Orderly.{put_own, put_other}
 use Rattle.esm_loads.proofs.Pending.{first_pending, nothing_in}
@@ -579,3 +579,57 @@ loads_end l s state w stop n e k = by state k
     by (Open start v) k = let a = ((w.each s).goes_on stop start v k).awaits in nothing_pending l a.url a.pending_request n e a.is
     by (LoadComplete start) k = tt
     by (Thrown thrown) k = tt
+
+-- ---- the Unlinked modules are a closed graph
+
+in_filter : (test : Url → Bool) (us : List Url) (x : Url) → has us x ≡ true → test x ≡ true → has (filter test us) x ≡ true
+in_filter test [] x h k = cc
+in_filter test (u ∷ us) x h k = by (test u) refl (or_cases (same_url x u) (has us x) h) (λ i. in_filter test us x i k)
+  where
+    by : (b : Bool) → test u ≡ b → (same_url x u ≡ true) ⊎ (has us x ≡ true) → (has us x ≡ true → has (filter test us) x ≡ true) → has (cond (test u) (u ∷ filter test us) (filter test us)) x ≡ true
+    by true e (inl s) rest = rw e (or_left (same_url x u) (has (filter test us) x) s)
+    by true e (inr i) rest = rw e (or_true (same_url x u) (has (filter test us) x) (rest i))
+    by false e (inl s) rest = let is : test u ≡ true = subst (λ v. test v ≡ true) (same_text x u s) k in cc
+    by false e (inr i) rest = rw e (rest i)
+
+filter_only : (test : Url → Bool) (us : List Url) (x : Url) → has (filter test us) x ≡ true → test x ≡ true
+filter_only test [] x h = cc
+filter_only test (u ∷ us) x h = by (test u) refl h (filter_only test us x)
+  where
+    own : test u ≡ true → (same_url x u ≡ true) ⊎ (has (filter test us) x ≡ true) → (has (filter test us) x ≡ true → test x ≡ true) → test x ≡ true
+    own e (inl s) rest = subst (λ v. test v ≡ true) (sym (same_text x u s)) e
+    own e (inr i) rest = rest i
+
+    by : (b : Bool) → test u ≡ b → has (cond (test u) (u ∷ filter test us) (filter test us)) x ≡ true → (has (filter test us) x ≡ true → test x ≡ true) → test x ≡ true
+    by true e h rest = own e (or_cases (same_url x u) (has (filter test us) x) (rw e at h)) rest
+    by false e h rest = rest (rw e at h)
+
+module_fetched : (o : Option TableEntry) → is_module o ≡ true → is_fetching o ≡ false
+module_fetched None h = cc
+module_fetched (Some e) h = refl
+
+unlinked_there : (l : Loading) (x : Url) → IsOrderly l → IsWhole l → l.unlinked x ≡ true → has (unlinked_modules l) x ≡ true
+unlinked_there l x o w h = in_filter l.unlinked l.asked x (o.fetched x (module_fetched (l.entries x) (w.loaded x h).stands)) h
+
+among_unlinked : (l : Loading) (ts : List Url) (t : Url) → AreUnlinked l ts → has ts t ≡ true → l.unlinked t ≡ true
+among_unlinked l [] t h k = cc
+among_unlinked l (u ∷ us) t h k = by (or_cases (same_url t u) (has us t) k) (among_unlinked l us t h.1)
+  where
+    by : (same_url t u ≡ true) ⊎ (has us t ≡ true) → (has us t ≡ true → l.unlinked t ≡ true) → l.unlinked t ≡ true
+    by (inl s) rest = subst (λ v. l.unlinked v ≡ true) (sym (same_text t u s)) h.0
+    by (inr i) rest = rest i
+
+complete_state : (o : Option LoadState) (start : Url) → root_in o ≡ Some start → o ≡ Some (LoadComplete start)
+complete_state None start e = cc
+complete_state (Some Asked) start e = cc
+complete_state (Some (Open r v)) start e = cc
+complete_state (Some (LoadComplete r)) start e = let same : r ≡ start = cc in ap (λ u. Some (LoadComplete u)) same
+complete_state (Some (Thrown t)) start e = cc
+
+pub unlinked_is_closed : UnlinkedIsClosed
+unlinked_is_closed = record {
+  all = unlinked_there;
+  only = λ l x h. filter_only l.unlinked l.asked x h;
+  closed = λ l o w x h t k. unlinked_there l t o w (among_unlinked l (targets l x) t (w.loaded x (filter_only l.unlinked l.asked x h)).targets_are k);
+  root = λ l s start o w e. unlinked_there l start o w ((w.each s).complete start (complete_state (slice_get l.loads s) start e));
+}

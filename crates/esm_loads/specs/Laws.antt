@@ -6,19 +6,19 @@ use Rattle.esm_base.specs.declared.limits.TheConstants.{MAX_URLS, MAX_DELIVERED_
 use Rattle.esm_base.specs.Urls.{Text, Url, has, same_url}
 use Rattle.esm_tree.specs.Syntax.{Item}
 use Rattle.esm_ast.specs.Outcome.{OutcomeView}
-use Rattle.esm_realm.specs.Laws.{AreDistinct}
+use Rattle.esm_realm.specs.Laws.{AreDistinct, IsClosedUnder}
 use Rattle.esm_import_map.specs.ImportMap.{Maps}
 use Rattle.esm_values.specs.Errors.{fault_text}
 use Rattle.esm_load.specs.Forms.{is_built}
 use Rattle.esm_load.specs.UrlTable as one_load
 use Rattle.esm_loads.specs.UrlTable.{Entries, TableEntry, Found, Nothing, Faulty, Script, found, fetch_error}
-use Rattle.esm_loads.specs.Loading.{Loading, LoadState, PendingRequest, Request, open_load, finish, ask, add_pending, is_fetching}
+use Rattle.esm_loads.specs.Loading.{Loading, LoadState, PendingRequest, Request, open_load, finish, ask, add_pending, is_fetching, targets, root_of_load}
 use Rattle.esm_loads.specs.Load.{Enters, Asks, Answers}
 use Rattle.esm_loads.specs.Host.{Host, Answered, opening_host, begin_load, with_loading}
 use Rattle.esm_loads.specs.Arrival.{bytes_of, after_fetch, put_found, Next, next, AnswersNext, Arrives, pending_left, open_asks}
 use Rattle.esm_promise.specs.Promises.{is_pending}
 use Rattle.esm_loads.specs.Owed.{owed, OwesPromises}
-use Rattle.esm_loads.specs.Whole.{IsWhole, HasEnded}
+use Rattle.esm_loads.specs.Whole.{IsWhole, HasEnded, unlinked_modules}
 use Rattle.esm_loads.specs.ImportCall.{Imports, BeginsImport, IsFull, HasRoom, stop_imports}
 
 -- ---- one outcome
@@ -180,6 +180,14 @@ pub record StaysWhole : Type 0 where
       → IsWhole before.imports → Imports before referrer specifier promise after → IsWhole after.imports
   pub fetched : (before : Host) (u : Url) (c : OutcomeView)
       → IsWhole before.imports → before.imports.entries u ≡ None → IsWhole (after_fetch before u c).imports
+
+-- the Unlinked modules are a finite graph, which is closed under requests: so linking and evaluation walk over modules alone
+pub record UnlinkedIsClosed : Type 0 where
+  pub all : (l : Loading) (x : Url) → IsOrderly l → IsWhole l → l.unlinked x ≡ true → has (unlinked_modules l) x ≡ true
+  pub only : (l : Loading) (x : Url) → has (unlinked_modules l) x ≡ true → l.unlinked x ≡ true
+  pub closed : (l : Loading) → IsOrderly l → IsWhole l → IsClosedUnder (targets l) (unlinked_modules l)
+  pub root : (l : Loading) (s : ℕ) (start : Url) → IsOrderly l → IsWhole l → root_of_load l s ≡ Some start
+      → has (unlinked_modules l) start ≡ true
 
 -- where no URL is being fetched and no request is left, each load has ended, unless a limit has stopped loading
 abbrev pub LoadsEnd : Type 0

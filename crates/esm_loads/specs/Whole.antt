@@ -1,6 +1,6 @@
 -- What holds between two answers: what is Unlinked is loaded with all that it reaches, and a load that goes on waits for
 -- something.
-use Rattle.std.specs.Prelude.{◌≡◌, ◌⊎◌, ℕ, suc, Bool, true, false, Contains, List, [], ◌∷◌, slice_get, Option, Some, None}
+use Rattle.std.specs.Prelude.{◌≡◌, ◌⊎◌, ℕ, suc, Bool, true, false, Contains, List, [], ◌∷◌, filter, slice_get, Option, Some, None}
 use Rattle.esm_base.specs.Urls.{Url, has}
 use Rattle.esm_loads.specs.UrlTable.{TableEntry, Module}
 use Rattle.esm_loads.specs.Loading.{Loading, LoadState, Asked, Open, LoadComplete, Thrown, PendingRequest, Root, Request, load_of, is_fresh, targets}
@@ -74,3 +74,7 @@ HasEnded Asked = ⊥
 HasEnded (Open start visited) = ⊥
 HasEnded (LoadComplete start) = Unit {0}
 HasEnded (Thrown thrown) = Unit {0}
+
+-- the URLs of the modules that are Unlinked
+abbrev pub unlinked_modules : Loading → List Url
+unlinked_modules l = filter l.unlinked l.asked

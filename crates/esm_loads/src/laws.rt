@@ -1,5 +1,5 @@
 // Laws of the definitions, as functions without effect.
-ghost use Rattle.esm_loads.specs.Laws.{AskLimit, BytesFirst, EndedLoadStays, FewerLeft, FirstPending, HasLoad, KeepsPromises, LimitStops, LoadsEnd, OneLoad, OneUrlAtATime, OnlyGrows, StaysOrderly, StaysWhole, StoresOutcome, ToldAlike};
+ghost use Rattle.esm_loads.specs.Laws.{AskLimit, BytesFirst, EndedLoadStays, FewerLeft, FirstPending, HasLoad, KeepsPromises, LimitStops, LoadsEnd, OneLoad, OneUrlAtATime, OnlyGrows, StaysOrderly, StaysWhole, StoresOutcome, ToldAlike, UnlinkedIsClosed};
 
 /// Entering a module, asking, an answer to a pending request, and a call of `import()` have one outcome each.
 pub fn one_load()
@@ -75,4 +75,9 @@ pub fn told_alike()
 /// The promise of each load that hasn't ended is pending, and of that load alone.
 pub fn keeps_promises()
     ensures { KeepsPromises }
+{}
+
+/// The Unlinked modules are a finite graph, which is closed under requests.
+pub fn unlinked_is_closed()
+    ensures { UnlinkedIsClosed }
 {}

@@ -13,6 +13,10 @@ pub mod BodyStops
 pub mod EvalStops
 pub mod StartsOnce
 pub mod runs
+pub mod FitLists
+pub mod FitBodies
+pub mod FitEvaluation
+pub mod FitLoading
 pub mod ExprFalls
 pub mod BodyFalls
 pub mod TurnsEnd

@@ -132,7 +132,7 @@ has_split us m x h = by (or_cases (has us x) (has (m ∷ []) x) (sym (has_append
 
 -- ---- the conditions of the laws of evaluation
 
-lawful : IsLawful evaluation
+pub lawful : IsLawful evaluation
 lawful = record {
   names = record { own = own_text; equal = same_text };
   put = λ w x n. record { node = λ y. refl; stamps = refl; begun = λ y. refl; awaits = λ y. refl };

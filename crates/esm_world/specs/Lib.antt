@@ -4,6 +4,8 @@ pub mod Jobs
 pub mod Turn
 pub mod LastLine
 pub mod Run
+pub mod Fits
+pub mod FitLaws
 pub mod Plain
 pub mod Laws
 pub mod ImportCalls

@@ -1,0 +1,17 @@
+//! Laws of worlds that fit, each the contract of a function without effect.
+ghost use Rattle.esm_world.specs.FitLaws.{WorldsFit, HasFitEvaluation, HasFitResumption};
+
+/// The opening world fits, and the end of a fetch, an answer of a pending request, and that more modules are linked, keep
+/// it.
+pub fn worlds_fit()
+    ensures { WorldsFit }
+{}
+
+/// In worlds that fit each call of evaluation has an outcome, and so has a body that goes on behind its await; what they
+/// leave fits.
+pub fn has_fit_outcomes()
+    ensures evaluation { HasFitEvaluation }
+    ensures resumption { HasFitResumption }
+{
+    esm_resolve::laws::shared_set()
+}
