@@ -11,7 +11,7 @@ use Rattle.esm_ast.specs.ModuleTree.{stmt_returns, stmts_return}
 use Rattle.esm_values.specs.Operators.{Values}
 use Rattle.esm_base.specs.DefaultExport.{star_default}
 use Rattle.esm_env.specs.Declarations.{Declaration, declared_in}
-use Rattle.esm_expr_eval.specs.Terms.{Term, Terms, Compared, Links, term, terms, compared_terms, links, fill, fill_all, fill_compared, fill_links}
+use Rattle.esm_expr_eval.specs.Terms.{Term, Terms, Compared, LinkTerms, term, terms, compared_terms, links, fill, fill_all, fill_compared, fill_links}
 use Rattle.esm_expr_eval.specs.Terms.Term.{Val, Waits, Fails, Name, Or, And, Equal, Sum, Not, Post, Print, NewError, Import, OwnUrl}
 use Rattle.esm_expr_eval.specs.Terms as t
 use Rattle.esm_expr_eval.specs.Ready.{Holds, HoldAll, HoldCompared, HoldLinks}
@@ -92,7 +92,7 @@ module _ {V : Type 0} (P : V → Type 0) (given : Term V) (g : Holds P ⊥ given
     filled_compared t.last h = tt
     filled_compared (t.compared b e cs) h = (filled e h.0, filled_compared cs h.1)
 
-    filled_links : (ls : Links V) → HoldLinks P ⊤ ls → HoldLinks P ⊥ (fill_links given ls)
+    filled_links : (ls : LinkTerms V) → HoldLinks P ⊤ ls → HoldLinks P ⊥ (fill_links given ls)
     filled_links t.ends h = tt
     filled_links (t.member x ls) h = filled_links ls h
     filled_links (t.call es ls) h = (filled_all es h.0, filled_links ls h.1)
@@ -184,7 +184,7 @@ module _ {V : Type 0} (given : Term V) (one : size given ≡ 1) where
     same_compared t.last = refl
     same_compared (t.compared b e cs) = λ i. suc (same_size e i + same_compared cs i)
 
-    same_links : (ls : Links V) → size_links (fill_links given ls) ≡ size_links ls
+    same_links : (ls : LinkTerms V) → size_links (fill_links given ls) ≡ size_links ls
     same_links t.ends = refl
     same_links (t.member x ls) = ap suc (same_links ls)
     same_links (t.call es ls) = λ i. suc (same_all es i + same_links ls i)
@@ -291,7 +291,7 @@ module _ {V : Type 0} (P : V → Type 0) (values : Values V) (u : P values.undef
     new_begin (stmts.Block ss) rest h r = (new_block ss (record { returns = h.returns; awaits = h.awaits }), r)
     new_begin (stmts.Const bs) rest h r = new_bindings bs rest h.awaits r
     new_begin (stmts.Let bs) rest h r = new_bindings bs rest h.awaits r
-    new_begin (stmts.Default i) rest h r = (new_init (Sets default_local) i tt h.awaits, r)
+    new_begin (stmts.Default i) rest h r = (new_init (Sets star_default) i tt h.awaits, r)
     new_begin (stmts.Assign x i) rest h r = (new_init (Writes x) i tt h.awaits, r)
     new_begin (stmts.If e ss) rest h r = (((record { returns = h.returns; awaits = h.awaits }, record { returns = λ e. refl; awaits = λ e. refl }), new_term e), r)
     new_begin (stmts.IfElse e ss others) rest h r = (

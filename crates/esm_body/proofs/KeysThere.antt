@@ -9,8 +9,9 @@ use Rattle.std.proofs.lemmas.List.Sorted.{All-permutation}
 use Rattle.esm_ast.proofs.Requests.{names_requests}
 use Rattle.esm_resolve.specs.declared.graph.Resolution.{Resolution}
 use Rattle.esm_resolve.specs.Resolution.{pair_of, IsResolutionOf}
+use Rattle.esm_base.specs.Lists.{is_in}
 use Rattle.esm_resolve.specs.SharedSet.{SharedSetAgrees, SharedSetEnds}
-use Rattle.esm_resolve.specs.Names.{has, star_targets, StarWalk, StarWalks, own_names, is_passed_on, names_along, first_of_each}
+use Rattle.esm_resolve.specs.Names.{star_targets, StarWalk, StarWalks, own_names, is_passed_on, names_along, first_of_each}
 use Rattle.esm_resolve.specs.Names.StarWalk.{known, fresh}
 use Rattle.esm_resolve.specs.Names.StarWalks.{all, next}
 use Rattle.esm_resolve.specs.Keys.{is_one, KeepsResolved, AreNamespaceKeysOf}
@@ -22,6 +23,9 @@ use Rattle.esm_body.proofs.NamesExported.{texts_both, names_exported}
 use Rattle.esm_body.proofs.Resolved.{Good, good, good_target, resolved}
 
 -- ---- modules that were not reached yet
+
+abbrev has : List ℕ → ℕ → Bool
+has reached x = is_in nat_eq reached x
 
 abbrev one_if : Bool → ℕ
 one_if true = 0
@@ -95,7 +99,7 @@ module _ {N : Type 0} (g : Modules N) (linked : N → Bool) (l : AreLinked g lin
   targets_good : (n : ℕ) → Good' n → AllGood (star_targets (graph g) n)
   targets_good n k =
       recursion_from_All Good' _ (All-map Good' ((graph g).target n) ((graph g).entries n).stars
-      (All-weaker (λ s. s < length ((graph g).entries n).requests) (λ s. Good' ((graph g).target n s)) (λ s lt. good_target g linked l n s k lt) _ (names_requests (g.tree (g.named n))).stars))
+      (All-weaker (λ s. s < length ((graph g).entries n).requests) (λ s. Good' ((graph g).target n s)) (λ s lt. good_target g linked l n s k lt) _ (names_requests (g.tree (g.named n))).exports.stars))
 
   below_size : (n : ℕ) → Good' n → n < g.size
   below_size n k = subst (λ n. n < g.size) k.number (l.below (g.named n) k.is_linked)

@@ -53,13 +53,13 @@ module _ {N : Type 0} (g : Modules N) (linked : N → Bool) (h : AreLinked g lin
 
   reached_good : (m x : ℕ) → Good m → IsReached (graph g) m x → Good x
   reached_good m x k itself = k
-  reached_good m x k (by_name {x = y} {e = e} r c) = good_target y e.request (reached_good m y k r) (All-contains (λ (e : IndirectExport). e.request < length ((graph g).entries y).requests) _ e (requests_named y).indirects c)
-  reached_good m x k (by_star {x = y} {r = s} r c) = good_target y s (reached_good m y k r) (All-contains (λ s. s < length ((graph g).entries y).requests) _ s (requests_named y).stars c)
+  reached_good m x k (by_name {x = y} {e = e} r c) = good_target y e.request (reached_good m y k r) (All-contains (λ (e : IndirectExport). e.request < length ((graph g).entries y).requests) _ e (requests_named y).exports.indirects c)
+  reached_good m x k (by_star {x = y} {r = s} r c) = good_target y s (reached_good m y k r) (All-contains (λ s. s < length ((graph g).entries y).requests) _ s (requests_named y).exports.stars c)
 
   pub sound : (m : ℕ) → Good m → IsSound (graph g) m
   sound m k x r =
       let q = reached_good m x k r in
-      record { below = subst (λ n. n < g.size) q.number (h.below (g.named x) q.is_linked); indirects = (requests_named x).indirects; stars = (requests_named x).stars }
+      record { below = subst (λ n. n < g.size) q.number (h.below (g.named x) q.is_linked); exports = (requests_named x).exports }
 
   -- ---- what is exported
 
@@ -96,7 +96,7 @@ module _ {N : Type 0} (g : Modules N) (linked : N → Bool) (h : AreLinked g lin
   export_good p k =
       either_good (local_export p.home.0 ((graph g).entries p.home.0).locals p.name) (indirect_export ((graph g).target p.home.0) ((graph g).entries p.home.0).indirects p.name)
       (local_good p.home.0 ((graph g).entries p.home.0).locals p.name k)
-      (indirect_good p.home.0 ((graph g).entries p.home.0).indirects p.name k (recursion_from_All (λ (e : IndirectExport). e.request < length ((graph g).entries p.home.0).requests) _ (requests_named p.home.0).indirects))
+      (indirect_good p.home.0 ((graph g).entries p.home.0).indirects p.name k (recursion_from_All (λ (e : IndirectExport). e.request < length ((graph g).entries p.home.0).requests) _ (requests_named p.home.0).exports.indirects))
 
   HomeGood : Pair → Type 0
   HomeGood p = Good p.home.0
@@ -105,7 +105,7 @@ module _ {N : Type 0} (g : Modules N) (linked : N → Bool) (h : AreLinked g lin
   star_good p q k true c = absurd (not_in_nil q c)
   star_good p q k false c =
       in_map (λ (q : Pair). Good q.home.0) (λ star. pair_of ((graph g).target p.home.0 star) p.name) ((graph g).entries p.home.0).stars q
-      (Rattle.std.proofs.lemmas.List.Elements.All-weaker (λ s. s < length ((graph g).entries p.home.0).requests) (λ s. Good ((graph g).target p.home.0 s)) (λ s lt. good_target p.home.0 s k lt) _ (requests_named p.home.0).stars) c
+      (Rattle.std.proofs.lemmas.List.Elements.All-weaker (λ s. s < length ((graph g).entries p.home.0).requests) (λ s. Good ((graph g).target p.home.0 s)) (λ s lt. good_target p.home.0 s k lt) _ (requests_named p.home.0).exports.stars) c
 
   next_good : (p q : Pair) → Good p.home.0 → (o : Option Export) → ExportGood o → Contains (next_by o (star_pairs (graph g) p)) q → Good q.home.0
   unfolding ExportGood

@@ -2,6 +2,7 @@
 use Rattle.std.proofs.Common.{◌≡◌, ℕ, zero, suc, ◌+◌, ◌≤◌, Bool, true, false, List, [], ◌∷◌, Option, Some, None, refl, ap, subst, sym, ◌∙◌, arith, length}
 use Rattle.std.proofs.lemmas.Bool.Decides.{nat_tests}
 use Rattle.std.specs.Prelude.{Result, Ok, Err, nat_lt, codes}
+use Rattle.std.specs.Option.{option_or}
 use Rattle.esm_base.specs.declared.limits.Limit.{Limit}
 use Rattle.esm_base.specs.declared.limits.Limit.TheVariants.{L3, L5}
 use Rattle.esm_base.specs.declared.limits.TheConstants.{MAX_STEPS, MAX_LOG_BYTES}
@@ -19,7 +20,7 @@ use Rattle.esm_promise.specs.Outer.{Outer}
 use Rattle.esm_env.specs.Modules.{Modules}
 use Rattle.esm_env.specs.Cells.{Cell, Reading, read_cell, read_value}
 use Rattle.esm_env.specs.Cells.{Reading as reading}
-use Rattle.esm_body.specs.Scopes.{Scope, in_scope, in_scopes, cell_by, or_cell}
+use Rattle.esm_body.specs.Scopes.{Scope, in_scope, in_scopes, cell_by}
 use Rattle.esm_body.specs.State.{State, Importing, new_error, steps_by, line_by}
 use Rattle.esm_body.specs.Acts.{Inner, Performs, Displays, DisplaysAll, ReadsBy, ReadsName, BeginsBy, over_scopes, with_state, with_new, with_outer, not_initialized, not_defined, error_member, member_by, refuse_import, with_promise}
 use Rattle.esm_body.specs.Fits.{IsKnown, IsKnownReading, AreLinked, HoldsValue, HoldsScope, HoldScopes, FitsState, Knows}
@@ -95,7 +96,7 @@ module _ {N I : Type 0} (same : N → N → Bool) (modules : I → Modules N) (l
     scope_known P (s ∷ ss) x h d e = cell_known P _ s.cell (in_scope ss x) h.0 (scope_known P ss x h.1) d e
 
     either_known : (P : Value N → Type 0) (o q : Option (Cell (Value N))) → ((d : Cell (Value N)) → o ≡ Some d → HoldsValue P d.value) → ((d : Cell (Value N)) → q ≡ Some d → HoldsValue P d.value)
-        → (d : Cell (Value N)) → or_cell o q ≡ Some d → HoldsValue P d.value
+        → (d : Cell (Value N)) → option_or o q ≡ Some d → HoldsValue P d.value
     either_known P None q h g d e = g d e
     either_known P (Some c) q h g d e = h d e
 

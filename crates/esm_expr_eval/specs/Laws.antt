@@ -28,6 +28,7 @@ ActsAlways {W} {S} acts = (w : W) (a : Act CodeValue) → (r : Result (AnswerTo 
 -- then what remains of an expression, where no call is under way in it, is a value or has a rewriting, and leads to an end
 pub record HasRewriting {W S : Type 0} (url : W → List ℕ) (acts : Acting W CodeValue S) : Type 0 where
   pub rewrites : ActsAlways acts → (w : W) (t : Term CodeValue) → IsAtWork t
-      → ((v : CodeValue) × (t ≡ Val v)) ⊎ ((c : Rewritten CodeValue S (Term CodeValue)) × ((after : W) × Rewrites numbered url acts w t c after))
+      → ((v : CodeValue) × (t ≡ Val v))
+      ⊎ ((c : Rewritten CodeValue S (Term CodeValue)) × ((after : W) × Rewrites numbered url acts w t c after))
   pub leads : ActsAlways acts → (w : W) (t : Term CodeValue) → IsAtWork t
       → (end : TermEnd CodeValue S) × ((after : W) × Leads numbered url acts w t end after)
