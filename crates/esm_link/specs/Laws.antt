@@ -17,14 +17,15 @@ abbrev pub IsClosedUnder : {N : Type 0} → (N → N → Bool) → Modules N →
 IsClosedUnder {N} same g modules =
     (x t : N) → is_in same modules x ≡ true → is_in same (targets g x) t ≡ true → is_in same modules t ≡ true
 
--- each name that is asked of a module has a resolution
-abbrev pub HaveResolutions : {N : Type 0} → Modules N → Type 0
-HaveResolutions {N} g = (x : N) (name : List ℕ) → (r : Resolution) × Exports g x name r
+-- each name that is asked of these modules has a resolution
+abbrev pub HaveResolutions : {N : Type 0} → (N → N → Bool) → Modules N → List N → Type 0
+HaveResolutions {N} same g modules =
+    (x : N) (name : List ℕ) → is_in same modules x ≡ true → (r : Resolution) × Exports g x name r
 
 -- linking a module of a finite graph has an outcome
 abbrev pub HasLinking : Type 0 → Type 0
 HasLinking N = (same : N → N → Bool) (g : Modules N) (modules closed : List N) (root : N) → IsSameness same
-    → HaveResolutions g → IsClosedUnder same g modules → is_in same modules root ≡ true
+    → HaveResolutions same g modules → IsClosedUnder same g modules → is_in same modules root ≡ true
     → (fault : Option (FaultAt N)) × (after : List N) × IsLinking same g closed root fault after
 
 -- the modules that the marks enter, in order

@@ -13,3 +13,4 @@ pub mod BodyStops
 pub mod EvalStops
 pub mod StartsOnce
 pub mod runs
+pub mod LoadedFits

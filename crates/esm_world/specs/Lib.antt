@@ -5,6 +5,7 @@ pub mod Turn
 pub mod LastLine
 pub mod Run
 pub mod Plain
+pub mod Loaded
 pub mod Laws
 pub mod ImportCalls
 pub mod Direct

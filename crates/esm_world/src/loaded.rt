@@ -1,0 +1,21 @@
+// Laws of what loading brings to linking and bodies, as functions without effect.
+ghost use Rattle.esm_world.specs.Loaded.{HasLink, LoadedAreLinked, LoadingStaysFit};
+
+use esm_resolve::laws::shared_set;
+
+/// Loading stays orderly and whole, and each module keeps its tree and a target for each request.
+pub fn loading_stays_fit()
+    ensures { LoadingStaysFit }
+{}
+
+/// What is Unlinked are modules in which bodies can run.
+pub fn loaded_are_linked()
+    ensures { LoadedAreLinked }
+{}
+
+/// Linking an Unlinked module has an outcome, and the root of a load that is complete is one.
+pub fn has_link()
+    ensures { HasLink }
+{
+    shared_set();
+}
