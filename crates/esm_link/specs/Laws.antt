@@ -41,3 +41,15 @@ LinksWhole N = (same : N → N → Bool) (g : Modules N) (closed after : List N)
     → IsWalkOf same (targets g) closed root marks → IsLinking same g closed root None after → (x : N)
     → (is_in same closed x ≡ true → is_in same after x ≡ true)
     × (is_in same (entered marks) x ≡ true → is_in same after x ≡ true)
+
+-- with a fault or without one, what is closed behind linking is closed under requests, has what was closed before, and is of these
+-- modules, where what was closed before is so
+pub record ClosesWhole (N : Type 0) : Type 0 where
+  pub closed : (same : N → N → Bool) (g : Modules N) (modules closed after : List N) (root : N) (fault : Option (FaultAt N))
+      → IsSameness same → IsClosedUnder same g modules → is_in same modules root ≡ true → IsClosedUnder same g closed
+      → ((x : N) → is_in same closed x ≡ true → is_in same modules x ≡ true) → IsLinking same g closed root fault after
+      → IsClosedUnder same g after × ((x : N) → is_in same closed x ≡ true → is_in same after x ≡ true)
+      × ((x : N) → is_in same after x ≡ true → is_in same modules x ≡ true)
+  -- without a fault the root is closed
+  pub root : (same : N → N → Bool) (g : Modules N) (closed after : List N) (root : N) → IsSameness same
+      → IsLinking same g closed root None after → is_in same after root ≡ true
