@@ -31,11 +31,12 @@ use Rattle.esm_link.specs.Faults.{FaultAt}
 use Rattle.esm_link.specs.Link as link
 use Rattle.esm_link.specs.Link.{IsLinking, targets_from}
 use Rattle.esm_link.proofs.HasLinking.{has_linking}
+use Rattle.esm_link.proofs.ClosedLinks.{closes_whole}
 use Rattle.esm_body.specs.Fits.{AreLinked}
 use Rattle.esm_body.proofs.Resolved.{good, resolved}
 use Rattle.esm_world.specs.World.{modules_in, url_at}
 use Rattle.esm_world.specs.Run.{HasModuleTree}
-use Rattle.esm_world.specs.Loaded.{HasTree, FitsLoading, LoadingStaysFit, LoadedAreLinked, HasLink}
+use Rattle.esm_world.specs.Loaded.{HasTree, FitsLoading, LoadingStaysFit, LoadedAreLinked, HasLink, LinkedStaysLinked}
 
 -- ---- trees
 
@@ -232,3 +233,51 @@ has_link agrees ends = record {
             (λ j lt. let e : 0 + j ≡ j = omega arith in subst (λ n. has (unlinked_modules l) (g.target x n) ≡ true) (sym e) (unlinked_is_closed.all l (g.target x j) f.orderly f.whole (linked.targets x j (unlinked_is_closed.only l x inside) lt))) k)
         (unlinked_is_closed.all l start f.orderly f.whole h);
 }
+
+-- ---- what is linked
+
+target_among : (g : Modules Url) (x : Url) (i k : ℕ) (rs : List Text) → k < length rs → has (targets_from g x i rs) (g.target x (i + k)) ≡ true
+target_among g x i k [] lt = absurd (omega (arith, lt))
+target_among g x i zero (r ∷ rs) lt =
+    let e : i + 0 ≡ i = omega arith in
+    subst (λ n. has (targets_from g x i (r ∷ rs)) (g.target x n) ≡ true) (sym e) (or_left (same_url (g.target x i) (g.target x i)) (has (targets_from g x (suc i) rs) (g.target x i)) (own_text (g.target x i)))
+target_among g x i (suc k) (r ∷ rs) lt =
+    let e : suc i + k ≡ i + suc k = omega arith in
+    let later = target_among g x (suc i) k rs (omega (arith, lt)) in
+    subst (λ n. has (targets_from g x i (r ∷ rs)) (g.target x n) ≡ true) e (or_true (same_url (g.target x (suc i + k)) (g.target x i)) (has (targets_from g x (suc i) rs) (g.target x (suc i + k))) later)
+
+-- what is closed under requests, of modules that are Unlinked, are modules in which bodies can run
+closed_linked : (l : Loading) (us : List Url) → FitsLoading l → ((u : Url) → has us u ≡ true → l.unlinked u ≡ true) → ((x t : Url) → has us x ≡ true → has (link.targets (modules_in l) x) t ≡ true → has us t ≡ true) → AreLinked (modules_in l) (has us)
+closed_linked l us f among whole =
+    let linked = loaded_are_linked l f in
+    record {
+      trees = λ m h. linked.trees m (among m h);
+      targets = λ m request h lt.
+        let e : 0 + request ≡ request = omega arith in
+        whole m ((modules_in l).target m request) h (subst (λ n. has (link.targets (modules_in l) m) ((modules_in l).target m n) ≡ true) e (target_among (modules_in l) m 0 request (entries (modules_in l) m).requests lt));
+      below = λ m h. linked.below m (among m h);
+      named = λ m h. linked.named m (among m h);
+    }
+
+-- and the other way round
+linked_closed : (l : Loading) (us : List Url) → AreLinked (modules_in l) (has us) → (x t : Url) → has us x ≡ true → has (link.targets (modules_in l) x) t ≡ true → has us t ≡ true
+linked_closed l us linked x t h k = from_targets (modules_in l) x t (λ u. has us u ≡ true) 0 (entries (modules_in l) x).requests
+    (λ j lt. let e : 0 + j ≡ j = omega arith in subst (λ n. has us ((modules_in l).target x n) ≡ true) (sym e) (linked.targets x j h lt)) k
+
+pub linked_stays_linked : LinkedStaysLinked
+linked_stays_linked = record {
+  links = λ l closed after start fault f h linked among p.
+    let all = closed_linked_modules l f in
+    let c = (closes_whole Url).closed same_url (modules_in l) (unlinked_modules l) closed after start fault sameness all
+        (unlinked_is_closed.all l start f.orderly f.whole h) (linked_closed l closed linked)
+        (λ u k. unlinked_is_closed.all l u f.orderly f.whole (among u k)) p in
+    let fine : (u : Url) → has after u ≡ true → l.unlinked u ≡ true = (λ u k. unlinked_is_closed.only l u (c.2 u k)) in
+    record { modules = closed_linked l after f fine (λ x t i k. c.0 x t i k); unlinked = fine; stays = c.1 };
+  root = λ l closed after start p. (closes_whole Url).root same_url (modules_in l) closed after start sameness p;
+}
+  where
+    closed_linked_modules : (l : Loading) → FitsLoading l → (x t : Url) → has (unlinked_modules l) x ≡ true → has (link.targets (modules_in l) x) t ≡ true → has (unlinked_modules l) t ≡ true
+    closed_linked_modules l f x t inside k =
+        let linked = loaded_are_linked l f in
+        from_targets (modules_in l) x t (λ u. has (unlinked_modules l) u ≡ true) 0 (entries (modules_in l) x).requests
+            (λ j lt. let e : 0 + j ≡ j = omega arith in subst (λ n. has (unlinked_modules l) ((modules_in l).target x n) ≡ true) (sym e) (unlinked_is_closed.all l ((modules_in l).target x j) f.orderly f.whole (linked.targets x j (unlinked_is_closed.only l x inside) lt))) k

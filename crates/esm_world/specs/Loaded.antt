@@ -50,3 +50,17 @@ pub record HasLink : Type 0 where
   pub root : (l : Loading) (s : ℕ) (start : Url) → FitsLoading l → root_of_load l s ≡ Some start → l.unlinked start ≡ true
   pub links : (l : Loading) (closed : List Url) (start : Url) → FitsLoading l → l.unlinked start ≡ true
       → (fault : Option (FaultAt Url)) × (after : List Url) × IsLinking same_url (modules_in l) closed start fault after
+
+-- where what is linked are Unlinked modules in which bodies can run, it is so behind linking, with a fault or without one; nothing is
+-- linked no more, and without a fault the root is linked
+pub record IsStillLinked (l : Loading) (closed after : List Url) : Type 0 where
+  pub modules : AreLinked (modules_in l) (has after)
+  pub unlinked : (u : Url) → has after u ≡ true → l.unlinked u ≡ true
+  pub stays : (u : Url) → has closed u ≡ true → has after u ≡ true
+
+pub record LinkedStaysLinked : Type 0 where
+  pub links : (l : Loading) (closed after : List Url) (start : Url) (fault : Option (FaultAt Url)) → FitsLoading l
+      → l.unlinked start ≡ true → AreLinked (modules_in l) (has closed) → ((u : Url) → has closed u ≡ true → l.unlinked u ≡ true)
+      → IsLinking same_url (modules_in l) closed start fault after → IsStillLinked l closed after
+  pub root : (l : Loading) (closed after : List Url) (start : Url) → IsLinking same_url (modules_in l) closed start None after
+      → has after start ≡ true

@@ -1,5 +1,5 @@
 // Laws of what loading brings to linking and bodies, as functions without effect.
-ghost use Rattle.esm_world.specs.Loaded.{HasLink, LoadedAreLinked, LoadingStaysFit};
+ghost use Rattle.esm_world.specs.Loaded.{HasLink, LinkedStaysLinked, LoadedAreLinked, LoadingStaysFit};
 
 use esm_resolve::laws::shared_set;
 
@@ -19,3 +19,8 @@ pub fn has_link()
 {
     shared_set();
 }
+
+/// What is linked are modules in which bodies can run, also behind linking, with a fault or without one.
+pub fn linked_stays_linked()
+    ensures { LinkedStaysLinked }
+{}
