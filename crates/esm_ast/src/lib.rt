@@ -8,8 +8,9 @@ mod script;
 
 pub use entries::{Entries, ImportEntry, IndirectExport, LocalExport};
 pub use esm_tree::{
-    ExportSpecifier, ExprId, ExprNode, ImportBinding, Initializer, ItemNode, Lexeme,
-    LexicalBinding, Link, Mark, StmtId, StmtNode, Terminal, Token, TokenKind, Tree, Wanted,
+    ExportSpecifier, ExprId, ExprIds, ExprNode, ImportBinding, Initializer, ItemNode, Lexeme,
+    LexicalBinding, Link, Mark, NodeText, StmtId, StmtNode, Terminal, Token, TokenKind, Tree,
+    Wanted,
 };
 pub use outcome::{BrokenText, Outcome};
 pub use script::Script;

@@ -2,7 +2,9 @@
 #![tactic(auto)]
 
 mod envs;
+mod index;
 pub mod laws;
+mod lookups;
 mod makes;
 mod scope;
 mod slots;
@@ -11,4 +13,3 @@ mod tests;
 
 pub use envs::Envs;
 pub use scope::{ModuleScope, Read, Target, Wrote};
-pub use slots::{Slot, is_set, place, value_at, write_at};

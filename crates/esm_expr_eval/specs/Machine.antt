@@ -22,7 +22,8 @@ module _ {W S : Type 0} (url : W → List ℕ) (acts : Acting W CodeValue S) whe
   abbrev pub LeadsToMove : W → Term CodeValue → Result Move (ExprEnd S) → W → Term CodeValue → Type 0
   LeadsToMove w t (Ok (move.Value v)) after rest = Leads numbered url acts w t (TermEnd.Value (value_of v)) after
   LeadsToMove w t (Ok (move.Thrown v)) after rest = Leads numbered url acts w t (TermEnd.Thrown (value_of v)) after
-  LeadsToMove w t (Ok (move.Call f vs)) after rest = Leads numbered url acts w t (TermEnd.Call (func_value f) (values_of vs.items) rest) after
+  LeadsToMove w t (Ok (move.Call f vs)) after rest =
+      Leads numbered url acts w t (TermEnd.Call (func_value f) (values_of vs.items) rest) after
   LeadsToMove w t (Err (ends.Stopped why)) after rest = Leads numbered url acts w t (TermEnd.Stopped why) after
   LeadsToMove w t (Err ends.Memory) after rest = Unit {0}
 

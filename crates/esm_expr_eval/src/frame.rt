@@ -282,7 +282,7 @@ fn post_on<W: World>(
                 Ok(Out::Thrown(error)) => Ok(Next::Thrown(error)),
                 Err(stop) => Err(ExprEnd::Stopped(stop)),
             },
-            Link::Call(ids) => match part_at(ids, 0) {
+            Link::Call(ids) => match part_at(ids.as_slice(), 0) {
                 Some(id) => begin_in(
                     frames,
                     Frame::Arguments(at, next, 1, value, Vec::new(alloc)),
@@ -484,7 +484,7 @@ pub fn begin<W: World>(
         ExprNode::Sum(first, _) => begin_in(frames, Frame::Sum(id, 0), *first),
         ExprNode::Not(inner) => begin_in(frames, Frame::Not, *inner),
         ExprNode::Post(head, _) => begin_in(frames, Frame::Post(id, 0), *head),
-        ExprNode::Print(ids) => match part_at(ids, 0) {
+        ExprNode::Print(ids) => match part_at(ids.as_slice(), 0) {
             Some(first) => begin_in(frames, Frame::Print(id, 1, Vec::new(alloc)), first),
             None => print(Vec::new(alloc), world),
         },

@@ -13,10 +13,10 @@ pub fn operand(tree: &Tree, at: ExprId, next: usize) -> Option<ExprId>
     ensures room { IfSome result (λ _. next + 1 < 2 ^ 64) }
 {
     match tree.expr(at) {
-        ExprNode::Or(_, ids) => part_at(ids, next),
-        ExprNode::And(_, ids) => part_at(ids, next),
-        ExprNode::Sum(_, ids) => part_at(ids, next),
-        ExprNode::Print(ids) => part_at(ids, next),
+        ExprNode::Or(_, ids) => part_at(ids.as_slice(), next),
+        ExprNode::And(_, ids) => part_at(ids.as_slice(), next),
+        ExprNode::Sum(_, ids) => part_at(ids.as_slice(), next),
+        ExprNode::Print(ids) => part_at(ids.as_slice(), next),
         _ => None,
     }
 }
@@ -82,7 +82,7 @@ pub fn argument(tree: &Tree, at: ExprId, link: usize, next: usize) -> Option<Exp
     let links = links(tree, at);
     if link < links.len() {
         match &links[link] {
-            Link::Call(ids) => part_at(ids, next),
+            Link::Call(ids) => part_at(ids.as_slice(), next),
             Link::Member(_) => None,
         }
     } else {

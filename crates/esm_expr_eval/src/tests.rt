@@ -4,8 +4,8 @@ ghost use Rattle.std.specs.Arc.{arc_value};
 ghost use Rattle.esm_expr_eval.specs.Machine.{IsSound, IsGiven};
 
 use crate::{ExprEnd, ExprFrame, Move, Out, World};
-use esm_base::{Memory, ModuleId, Text};
-use esm_tree::{ExprId, ExprNode, Link, Tree};
+use esm_base::{Memory, ModuleId};
+use esm_tree::{ExprId, ExprIds, ExprNode, Link, NodeText, Tree};
 use esm_values::{ErrorId, FaultKind, FuncId, RcText, Value};
 use std::alloc::Global;
 use std::sync::Arc;
@@ -66,12 +66,12 @@ fn sum_tree(alloc: Global) -> Result<Arc<Tree>, Memory>
     ensures { IfOk result (λ t. length (arc_value t).exprs ≡ 3) }
 {
     let mut tree = Tree::new(alloc);
-    let text = Text::copy(alloc, "a")?;
+    let text = NodeText::copy(alloc, "a")?;
     let left = tree.add_expr(ExprNode::Text(text))?;
     let right = tree.add_expr(ExprNode::Truth(true))?;
     let mut others = Vec::new(alloc);
     others.push(right)?;
-    tree.add_expr(ExprNode::Sum(left, others))?;
+    tree.add_expr(ExprNode::Sum(left, ExprIds::of(others)?))?;
     Ok(Arc::new(alloc, tree)?)
 }
 
@@ -80,14 +80,14 @@ fn call_tree(alloc: Global) -> Result<Arc<Tree>, Memory>
     ensures { IfOk result (λ t. length (arc_value t).exprs ≡ 3) }
 {
     let mut tree = Tree::new(alloc);
-    let name = Text::copy(alloc, "f")?;
+    let name = NodeText::copy(alloc, "f")?;
     let callee = tree.add_expr(ExprNode::Name(name))?;
-    let text = Text::copy(alloc, "x")?;
+    let text = NodeText::copy(alloc, "x")?;
     let argument = tree.add_expr(ExprNode::Text(text))?;
     let mut arguments = Vec::new(alloc);
     arguments.push(argument)?;
     let mut links = Vec::new(alloc);
-    links.push(Link::Call(arguments))?;
+    links.push(Link::Call(ExprIds::of(arguments)?))?;
     tree.add_expr(ExprNode::Post(callee, links))?;
     Ok(Arc::new(alloc, tree)?)
 }

@@ -12,6 +12,7 @@ ghost use Rattle.esm_tree.specs.Lexeme.{Lexeme};
 use crate::characters::{are, continues, either, is_quote, starts};
 use crate::front::front;
 use crate::gaps::{gap, line_len};
+use crate::list::LexemeList;
 use crate::literal::literal;
 use crate::signs::sign;
 use crate::words::word_terminal;
@@ -124,19 +125,19 @@ fn token_at<'a>(
     }
 }
 
-// The tokens of characters at the end of a text of so many bytes, and whether all was read.
+// The tokens of characters at the end of a text with these bytes, and whether all was read.
 fn scan<'a>(
     alloc: Global,
     arena: &'a Bump,
-    total: usize,
+    bytes: &'a [u8],
     source: &'a str,
     text: &[char],
-) -> Result<(Vec<Lexeme<'a>>, bool), Memory>
-    requires short { total < 4294967296 }
+) -> Result<(LexemeList<'a>, bool), Memory>
+    requires short { length bytes.now < 4294967296 }
     requires source { source.now ≡ encode_utf8_all text.now }
-    ensures { IfOk result (λ r. Lexes total false text.now r.0.items r.1) }
+    ensures { IfOk result (λ r. Lexes (length bytes.now) false text.now r.0 r.1) }
 {
-    let mut found: Vec<Lexeme<'a>> = Vec::new(alloc);
+    let mut found = LexemeList::new(alloc, bytes);
     let mut at = 0;
     let mut left = source;
     let mut newline = false;
@@ -154,8 +155,8 @@ fn scan<'a>(
                     let (_, behind) = front(left, rest, token.len);
                     let place = Token {
                         kind: token.kind,
-                        from: total.saturating_sub(left.len()),
-                        to: total.saturating_sub(behind.len()),
+                        from: bytes.len().saturating_sub(left.len()),
+                        to: bytes.len().saturating_sub(behind.len()),
                         newline_before: newline,
                     };
                     found.push(Lexeme::new(token.terminal, token.text, place))?;
@@ -194,33 +195,34 @@ fn chars_of(alloc: Global, text: &str) -> Result<Vec<char>, Memory>
 fn lexemes_of<'a>(
     alloc: Global,
     arena: &'a Bump,
-    total: usize,
+    bytes: &'a [u8],
     text: &'a str,
-) -> Result<(Vec<Lexeme<'a>>, bool), Memory>
-    requires { total < 4294967296 }
-    ensures { IfOk result (λ r. Lexes total false
-        (drop (lexes.hashbang_len (chars text.now)) (chars text.now)) r.0.items r.1) }
+) -> Result<(LexemeList<'a>, bool), Memory>
+    requires { length bytes.now < 4294967296 }
+    ensures { IfOk result (λ r. Lexes (length bytes.now) false
+        (drop (lexes.hashbang_len (chars text.now)) (chars text.now)) r.0 r.1) }
 {
     let characters = chars_of(alloc, text)?;
     let begin = hashbang_len(&characters);
     let (_, source) = front(text, &characters, begin);
-    scan(alloc, arena, total, source, &characters[begin..])
+    scan(alloc, arena, bytes, source, &characters[begin..])
 }
 
 /// The tokens of a text as the grammar sees them, up to the end, or up to a place where no token can be read (false).
 /// The fault is P1, exactly where the bytes aren't UTF-8.
 ///
 /// What a token spells is a slice of the bytes; what a string literal with escapes stands for is put into the arena.
+/// A token takes eight bytes.
 pub fn lexemes<'a>(
     alloc: Global,
     arena: &'a Bump,
     bytes: &'a [u8],
-) -> Result<(Vec<Lexeme<'a>>, bool), ReadEnd>
+) -> Result<(LexemeList<'a>, bool), ReadEnd>
     requires { length bytes.now < 4294967296 }
-    ensures { MatchResult result (λ r. AreTokens bytes.now r.0.items r.1) (IsRefusal bytes.now) }
+    ensures { MatchResult result (λ r. AreTokens bytes.now r.0 r.1) (IsRefusal bytes.now) }
 {
     match str::from_utf8(without_mark(bytes)) {
-        Ok(text) => match lexemes_of(alloc, arena, bytes.len(), text) {
+        Ok(text) => match lexemes_of(alloc, arena, bytes, text) {
             Ok(found) => Ok(found),
             Err(_) => Err(ReadEnd::Memory),
         },
@@ -280,13 +282,13 @@ fn nots_behind(nots: u32, terminal: Terminal) -> u32
 }
 
 /// Whether more than `MAX_NESTING` brackets are open somewhere, or more than so many signs `!` stand one after another.
-pub fn nests_too_deep(lexemes: &[Lexeme]) -> bool
+pub fn nests_too_deep(lexemes: &LexemeList) -> bool
     ensures { result ≡ lexes.too_deep 0 0 lexemes.now }
 {
     let mut depth = 0;
     let mut nots = 0;
-    for lexeme in lexemes {
-        let terminal = lexeme.terminal();
+    for at in 0..lexemes.len() {
+        let terminal = lexemes.terminal(at);
         depth = depth_behind(depth, terminal);
         nots = nots_behind(nots, terminal);
         if depth > MAX_NESTING {
@@ -299,12 +301,12 @@ pub fn nests_too_deep(lexemes: &[Lexeme]) -> bool
     false
 }
 
-fn tokens_of(alloc: Global, lexemes: &[Lexeme]) -> Result<Vec<Token>, Memory>
+fn tokens_of(alloc: Global, lexemes: &LexemeList) -> Result<Vec<Token>, Memory>
     ensures { IfOk result (λ ts. ts.items ≡ map token_of lexemes.now) }
 {
     let mut found = Vec::new(alloc);
-    for lexeme in lexemes {
-        found.push(lexeme.token())?;
+    for at in 0..lexemes.len() {
+        found.push(lexemes.token(at))?;
     }
     Ok(found)
 }

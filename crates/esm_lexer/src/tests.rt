@@ -75,10 +75,10 @@ fn spelled(alloc: Global, text: &[u8]) -> Result<String, AllocError> {
     let arena = Bump::new(alloc);
     match lexemes(alloc, &arena, text) {
         Ok((found, whole)) => {
-            for lexeme in &found {
+            for at in 0..found.len() {
                 let gap = if shown.is_empty() { "" } else { " " };
-                let terminal = lexeme.terminal();
-                let text = lexeme.text();
+                let terminal = found.terminal(at);
+                let text = found.text(at);
                 let one = format!(in alloc; "{gap}{terminal:?}:{text}")?;
                 shown.push_str(&one)?;
             }

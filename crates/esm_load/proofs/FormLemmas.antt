@@ -5,6 +5,7 @@ use Rattle.std.specs.declared.alloc.Global.{Global}
 use Rattle.std.proofs.lemmas.List.{drop_more, drop_all}
 use Rattle.esm_base.specs.Urls.{Text}
 use Rattle.esm_tree.specs.declared.node.ExprId.{ExprId}
+use Rattle.esm_tree.specs.ExprIds.{ExprIds}
 use Rattle.esm_tree.specs.declared.node.StmtId.{StmtId}
 use Rattle.esm_tree.specs.declared.node.ExprNode.{ExprNode}
 use Rattle.esm_tree.specs.declared.node.ExprNode.TheVariants as e
@@ -23,7 +24,7 @@ pub other_literal : (exprs : List Expr) (node : ExprNode) → ((t : Text) → no
 other_literal exprs (e.Text t) h = absurd (h t refl)
 other_literal exprs _ h = refl
 
-pub other_printed : (exprs : List Expr) (node : ExprNode) → ((ids : Vec ExprId Global) → node ≢ e.Print ids) → None ≡ printed_text (expr_of exprs node)
+pub other_printed : (exprs : List Expr) (node : ExprNode) → ((ids : ExprIds) → node ≢ e.Print ids) → None ≡ printed_text (expr_of exprs node)
 other_printed exprs (e.Print ids) h = absurd (h ids refl)
 other_printed exprs _ h = refl
 

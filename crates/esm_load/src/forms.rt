@@ -5,8 +5,7 @@ ghost use Rattle.esm_load.specs.Forms as forms;
 ghost use Rattle.esm_load.specs.Forms.{literal_text, only_text, printed_text, statement_form};
 ghost use Rattle.esm_load.specs.FormsView.{form_view};
 
-use esm_ast::{ExprId, ExprNode, ItemNode, StmtId, StmtNode, Tree};
-use esm_base::Text;
+use esm_ast::{ExprId, ExprNode, ItemNode, NodeText, StmtId, StmtNode, Tree};
 
 /// An item that can be run.
 #[derive(Clone, Copy)]
@@ -14,13 +13,13 @@ pub enum Form<'a> {
     /// An import for its effect.
     Import,
     /// `print(TEXT)` as a statement, with the text.
-    Print(&'a Text),
+    Print(&'a NodeText),
     /// The empty statement.
     Empty,
 }
 
 // The text of a string literal.
-fn literal<'a>(tree: &'a Tree, id: ExprId) -> Option<&'a Text>
+fn literal<'a>(tree: &'a Tree, id: ExprId) -> Option<&'a NodeText>
     requires { id.0 < length tree.now.exprs }
     ensures { option_copied result ≡ literal_text (part tree.now.exprs id) }
 {
@@ -31,7 +30,7 @@ fn literal<'a>(tree: &'a Tree, id: ExprId) -> Option<&'a Text>
 }
 
 // The one argument, where it is a string literal.
-fn only<'a>(tree: &'a Tree, ids: &[ExprId]) -> Option<&'a Text>
+fn only<'a>(tree: &'a Tree, ids: &[ExprId]) -> Option<&'a NodeText>
     requires { AllBelow (length tree.now.exprs) ids.now }
     ensures { option_copied result ≡ only_text (parts tree.now.exprs ids.now) }
 {
@@ -43,12 +42,12 @@ fn only<'a>(tree: &'a Tree, ids: &[ExprId]) -> Option<&'a Text>
 }
 
 // The text that `print(TEXT)` prints.
-fn printed<'a>(tree: &'a Tree, id: ExprId) -> Option<&'a Text>
+fn printed<'a>(tree: &'a Tree, id: ExprId) -> Option<&'a NodeText>
     requires { id.0 < length tree.now.exprs }
     ensures { option_copied result ≡ printed_text (part tree.now.exprs id) }
 {
     match tree.expr(id) {
-        ExprNode::Print(ids) => only(tree, ids),
+        ExprNode::Print(ids) => only(tree, ids.as_slice()),
         _ => None,
     }
 }

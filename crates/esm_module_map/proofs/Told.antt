@@ -8,7 +8,7 @@ use Rattle.esm_base.specs.Urls.{Url}
 use Rattle.esm_module_map.specs.declared.event.MapEvent.{MapEvent}
 use Rattle.esm_module_map.specs.declared.event.MapEvent.TheVariants.{Begin, Enrol, Ask, Take, Post, Shut}
 use Rattle.esm_module_map.specs.Replay.{Replay, opening, taken_by, is_numbered, is_order, is_out_with, next_order, step, replay, replay_from, is_legal, may_come, maker_of, asked_by}
-use Rattle.esm_module_map.specs.Histories.{url_at, asks_in, takes_in, answers_in, along, asks_by, takes_by, answers_by}
+use Rattle.esm_module_map.specs.Histories.{url_at, asks_in, takes_in, answers_in, shuts_in, along, asks_by, takes_by, answers_by, shuts_by}
 use Rattle.esm_module_map.specs.Replies.{ContinuesFor}
 use Rattle.esm_module_map.specs.Saying.{SaysSame}
 use Rattle.esm_module_map.proofs.Replays.{both_true, true_both, eq_true, replay_more}
@@ -76,6 +76,14 @@ module _ {P G : Type 0} (weight : P → ℕ) where
   answers_of_one k s (Post d n p) other = ap (λ t. cond t (record { number = n; url = url_at s n; payload = arc_value p } ∷ []) []) other
   answers_of_one k s (Shut d) other = refl
 
+  pub shuts_of_one : (k : ℕ) → IsOf k (shuts_in k)
+  shuts_of_one k s (Begin g) other = refl
+  shuts_of_one k s (Enrol d) other = refl
+  shuts_of_one k s (Ask d n u why) other = refl
+  shuts_of_one k s (Take d n) other = refl
+  shuts_of_one k s (Post d n p) other = refl
+  shuts_of_one k s (Shut d) other = ap (λ t. cond t (d ∷ []) []) other
+
   -- ---- URLs keep their numbers
 
   url_step : (n : ℕ) (u : Url) (k : ℕ) (s : Replay) (e : MapEvent P G) → may_come s e ≡ true → is_maker k (maker_of e) ≡ false → HasUrl n u s → HasUrl n u (step weight s e)
@@ -126,19 +134,21 @@ module _ {P G : Type 0} (weight : P → ℕ) where
 
   -- what a Take changes of what the history has of its caller
   pub after_take : (c n : ℕ) (u : Url) (seen found now : List (MapEvent P G)) → ContinuesFor maker_of found seen (Some c) → now ≡ found ++ Take c n ∷ [] → HasUrl n u (replay weight found)
-      → (takes_by weight c now ≡ takes_by weight c seen ++ u ∷ []) × (answers_by weight c now ≡ answers_by weight c seen) × (asks_by weight c now ≡ asks_by weight c seen)
+      → (takes_by weight c now ≡ takes_by weight c seen ++ u ∷ []) × (answers_by weight c now ≡ answers_by weight c seen) × (asks_by weight c now ≡ asks_by weight c seen) × (shuts_by weight c now ≡ shuts_by weight c seen)
   after_take c n u seen found now q more h = (
     along_more c (takes_in c) (takes_of_one c) seen found now (Take c n) q more ∙ ap (λ l. takes_by weight c seen ++ l) (takes_one (Take c n) c n (replay weight found) u refl h),
     along_more c (answers_in c) (answers_of_one c) seen found now (Take c n) q more ∙ append-nil (answers_by weight c seen),
     along_more c (asks_in c) (asks_of_one c) seen found now (Take c n) q more ∙ append-nil (asks_by weight c seen),
+    along_more c (shuts_in c) (shuts_of_one c) seen found now (Take c n) q more ∙ append-nil (shuts_by weight c seen),
   )
 
   pub after_post : (c n : ℕ) (u : Url) (p : Arc P Global) (seen found now : List (MapEvent P G)) → is_legal weight found ≡ true → ContinuesFor maker_of found seen (Some c) → now ≡ found ++ Post c n p ∷ [] → HasUrl n u (replay weight seen)
-      → (takes_by weight c now ≡ takes_by weight c seen) × (answers_by weight c now ≡ answers_by weight c seen ++ record { number = n; url = u; payload = arc_value p } ∷ []) × (asks_by weight c now ≡ asks_by weight c seen)
+      → (takes_by weight c now ≡ takes_by weight c seen) × (answers_by weight c now ≡ answers_by weight c seen ++ record { number = n; url = u; payload = arc_value p } ∷ []) × (asks_by weight c now ≡ asks_by weight c seen) × (shuts_by weight c now ≡ shuts_by weight c seen)
   after_post c n u p seen found now ok q more h = (
     along_more c (takes_in c) (takes_of_one c) seen found now (Post c n p) q more ∙ append-nil (takes_by weight c seen),
     along_more c (answers_in c) (answers_of_one c) seen found now (Post c n p) q more ∙ ap (λ l. answers_by weight c seen ++ l) (answers_one (Post c n p) c n (replay weight found) u p refl (url_found n u c seen found ok q h)),
     along_more c (asks_in c) (asks_of_one c) seen found now (Post c n p) q more ∙ append-nil (asks_by weight c seen),
+    along_more c (shuts_in c) (shuts_of_one c) seen found now (Post c n p) q more ∙ append-nil (shuts_by weight c seen),
   )
 
   pub after_nothing : (c : ℕ) (seen found now : List (MapEvent P G)) → ContinuesFor maker_of found seen (Some c) → now ≡ found → SaysSame weight c seen now
@@ -146,13 +156,15 @@ module _ {P G : Type 0} (weight : P → ℕ) where
     ap (takes_by weight c) same ∙ along_found c (takes_in c) (takes_of_one c) seen found q,
     ap (answers_by weight c) same ∙ along_found c (answers_in c) (answers_of_one c) seen found q,
     ap (asks_by weight c) same ∙ along_found c (asks_in c) (asks_of_one c) seen found q,
+    ap (shuts_by weight c) same ∙ along_found c (shuts_in c) (shuts_of_one c) seen found q,
   )
 
-  pub after_shut : (c : ℕ) (seen found now : List (MapEvent P G)) → ContinuesFor maker_of found seen (Some c) → now ≡ cond (replay weight found).shut found (found ++ Shut c ∷ []) → SaysSame weight c seen now
+  pub after_shut : (c : ℕ) (seen found now : List (MapEvent P G)) → ContinuesFor maker_of found seen (Some c) → now ≡ cond (replay weight found).shut found (found ++ Shut c ∷ [])
+      → (takes_by weight c now ≡ takes_by weight c seen) × (answers_by weight c now ≡ answers_by weight c seen) × (asks_by weight c now ≡ asks_by weight c seen)
   after_shut c seen found now q is = by_test (replay weight found).shut is
     where
-      by_test : (b : Bool) → now ≡ cond b found (found ++ Shut c ∷ []) → SaysSame weight c seen now
-      by_test true e = after_nothing c seen found now q e
+      by_test : (b : Bool) → now ≡ cond b found (found ++ Shut c ∷ []) → (takes_by weight c now ≡ takes_by weight c seen) × (answers_by weight c now ≡ answers_by weight c seen) × (asks_by weight c now ≡ asks_by weight c seen)
+      by_test true e = let s = after_nothing c seen found now q e in (s.0, s.1, s.2)
       by_test false e = (
         along_more c (takes_in c) (takes_of_one c) seen found now (Shut c) q e ∙ append-nil (takes_by weight c seen),
         along_more c (answers_in c) (answers_of_one c) seen found now (Shut c) q e ∙ append-nil (answers_by weight c seen),

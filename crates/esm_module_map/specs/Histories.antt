@@ -1,4 +1,4 @@
--- What a history has of a caller: the URLs that it asked for and took, and what it posted.
+-- What a history has of a caller: the URLs that it asked for and took, what it posted, and its Shuts.
 use Rattle.std.specs.Prelude.{◌≡◌, ℕ, ◌==◌, Bool, false, cond, List, [], ◌∷◌, ◌++◌, slice_get, slice_index_or, Some}
 use Rattle.std.specs.Arc.{arc_value}
 use Rattle.std.specs.declared.sync.Arc.{Arc}
@@ -61,6 +61,14 @@ module _ {P G : Type 0} where
   answers_in c s (Post d n p) = cond (d == c) (record { number = n; url = url_at s n; payload = arc_value p } ∷ []) []
   answers_in c s (Shut d) = []
 
+  abbrev pub shuts_in : ℕ → Replay → MapEvent P G → List ℕ
+  shuts_in c s (Begin g) = []
+  shuts_in c s (Enrol d) = []
+  shuts_in c s (Ask d n url why) = []
+  shuts_in c s (Take d n) = []
+  shuts_in c s (Post d n p) = []
+  shuts_in c s (Shut d) = cond (d == c) (d ∷ []) []
+
   module _ (weight : P → ℕ) where
     -- what the events say, one after the other
     abbrev pub along : {A : Type 0} → (Replay → MapEvent P G → List A) → Replay → List (MapEvent P G) → List A
@@ -77,3 +85,7 @@ module _ {P G : Type 0} where
     -- what the caller c posted, in order
     abbrev pub answers_by : ℕ → List (MapEvent P G) → List (Answer P)
     answers_by c h = along (answers_in c) opening h
+
+    -- its Shuts, each by its number
+    abbrev pub shuts_by : ℕ → List (MapEvent P G) → List ℕ
+    shuts_by c h = along (shuts_in c) opening h

@@ -1,12 +1,14 @@
 -- Statements of `laws`.
-use Rattle.std.specs.Prelude.{◌≡◌, ℕ, ◌≤◌, ◌==◌, Bool, true, false, List}
+use Rattle.std.specs.Prelude.{◌≡◌, ℕ, ◌≤◌, ◌==◌, Bool, true, false, List, Some, slice_get, Contains}
 use Rattle.std.specs.List.{count_by}
 use Rattle.esm_base.specs.Urls.{Url}
 use Rattle.esm_module_map.specs.declared.event.MapEvent.{MapEvent}
 use Rattle.esm_module_map.specs.declared.event.MapEvent.TheVariants.{Begin, Enrol, Ask, Take, Post, Shut}
-use Rattle.esm_module_map.specs.Replay.{replay, is_legal}
-use Rattle.esm_module_map.specs.Histories.{is_post_of}
-use Rattle.esm_module_map.specs.Counts.{count}
+use Rattle.esm_hlock.specs.Makers.{times, names}
+use Rattle.esm_module_map.specs.Replay.{replay, is_legal, maker_of}
+use Rattle.esm_module_map.specs.Histories.{is_post_of, IsPostIn, asks_by, takes_by, answers_by}
+use Rattle.esm_module_map.specs.Counts.{count, AreTakenOnce}
+use Rattle.esm_module_map.specs.Saying.{Begins}
 
 -- the event takes the number
 abbrev pub is_take_of : {P G : Type 0} → ℕ → MapEvent P G → Bool
@@ -16,6 +18,10 @@ is_take_of n (Ask c m url why) = false
 is_take_of n (Take c m) = m == n
 is_take_of n (Post c m p) = false
 is_take_of n (Shut c) = false
+
+-- what is posted stays so as the history grows
+abbrev pub PostsStay : (P G : Type 0) → Type 0
+PostsStay P G = (n : ℕ) (p : P) (old new : List (MapEvent P G)) → Begins old new → IsPostIn old n p → IsPostIn new n p
 
 module _ (P G : Type 0) (weight : P → ℕ) where
   -- in a legal history each number is taken at most once
@@ -29,3 +35,24 @@ module _ (P G : Type 0) (weight : P → ℕ) where
   -- numbers have different URLs
   abbrev pub UrlsDiffer : Type 0
   UrlsDiffer = (u : Url) (h : List (MapEvent P G)) → count u (replay weight h).urls ≤ 1
+
+  -- a number keeps its URL as the history grows
+  abbrev pub UrlsStay : Type 0
+  UrlsStay = (n : ℕ) (u : Url) (old new : List (MapEvent P G)) → Begins old new → slice_get (replay weight old).urls n ≡ Some u
+      → slice_get (replay weight new).urls n ≡ Some u
+
+  -- what is posted was answered by a caller, under the URL of its number
+  abbrev pub PostsAreAnswers : Type 0
+  PostsAreAnswers = (n : ℕ) (u : Url) (p : P) (h : List (MapEvent P G)) → is_legal weight h ≡ true
+      → slice_get (replay weight h).urls n ≡ Some u → IsPostIn h n p
+      → (c : ℕ) × (names maker_of c h ≡ 1) × Contains (answers_by weight c h) (record { number = n; url = u; payload = p })
+
+  -- a URL that a caller took was asked for by a caller
+  abbrev pub TakesWereAsked : Type 0
+  TakesWereAsked = (c : ℕ) (u : Url) (h : List (MapEvent P G)) → is_legal weight h ≡ true → Contains (takes_by weight c h) u
+      → (d : ℕ) × (names maker_of d h ≡ 1) × Contains (asks_by weight d h) u
+
+  -- callers among whom each maker of an event is listed once have taken no URL twice, all together
+  abbrev pub TakenOnceByMakers : Type 0
+  TakenOnceByMakers = (cs : List ℕ) (h : List (MapEvent P G)) → is_legal weight h ≡ true
+      → ((k : ℕ) → names maker_of k h ≡ 1 → times k cs ≡ 1) → AreTakenOnce weight h cs

@@ -14,6 +14,12 @@ use Rattle.esm_module_map.specs.declared.reply.Taken.{Taken}
 use Rattle.esm_module_map.specs.declared.reply.Taken.TheVariants as taken
 use Rattle.esm_module_map.specs.Replay.{Replay, is_numbered, number_for, is_posted, is_order, has_room, next_order, replay, is_legal, maker_of}
 
+-- the number that an answer has
+abbrev pub number_in : Asked → ℕ
+number_in (New n) = n
+number_in (Waiting n) = n
+number_in (Here n) = n
+
 -- how an ask is answered
 abbrev pub answer_by : Bool → Bool → ℕ → Asked
 answer_by false here n = New n

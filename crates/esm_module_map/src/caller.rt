@@ -1,5 +1,5 @@
 //! The map, and who calls it.
-ghost use Rattle.std.specs.Prelude.{◌≡◌, ◌++◌, ◌∷◌, ◌+◌, ◌<◌, [], ℕ, List, true, false, nat_lt, None, Some, IfOk, IfSome, MatchResult, drop, slice_get, is_some};
+ghost use Rattle.std.specs.Prelude.{◌≡◌, ◌++◌, ◌∷◌, ◌+◌, ◌<◌, [], ℕ, List, true, false, nat_lt, None, Some, IfOk, IfSome, MatchResult, slice_get, string_bytes, is_some};
 ghost use Rattle.std.proofs.Props.{props};
 ghost use Rattle.std.specs.Arc.{arc_value};
 ghost use Rattle.esm_hlock.specs.Makers.{Continues, makers_of, times};
@@ -11,13 +11,13 @@ ghost use Rattle.esm_module_map.specs.Leading.{is_led, leads_to};
 ghost use Rattle.esm_module_map.specs.Replies.{AskReply, TakeReply, ShutReply, Called, Found};
 ghost use Rattle.esm_module_map.specs.Histories.{IsPostIn};
 ghost use Rattle.esm_module_map.specs.Counts.{AreTakenOnce};
-ghost use Rattle.esm_module_map.specs.Saying.{Stays, IsShut, IsOrderIn, PostedOne, TakeSays, AskSays};
+ghost use Rattle.esm_module_map.specs.Saying.{SaysNothing, Stays, ShutSays, IsShut, IsOrderIn, PostedOne, TakeSays, AskSays};
 ghost use Rattle.esm_module_map.specs.Views.{is_there, view_in, table_of, Same};
 
 use crate::event::{MapEvent, Payload, Why};
 use crate::reply::{Asked, MapEnd, Order, Taken};
 use crate::state::MapState;
-use esm_base::{Memory, Text};
+use esm_base::{MAX_URL_BYTES, Memory, Text};
 use esm_hlock::{Busy, Hlock, Pass};
 use std::alloc::Global;
 use std::sync::{Arc, Wait};
@@ -88,6 +88,7 @@ impl<P: Payload> ModuleMap<P> {
         ensures seen { IfOk result (λ c. Called P.weight (knows pass).seen None
             (λ found. (c.number ≡ (replay P.weight found).callers)
             × ((view_in c.pass).seen ≡ found ++ MapEvent.Enrol c.number ∷ []))) }
+        ensures fresh { IfOk result (λ c. SaysNothing P.weight c.number (view_in c.pass).seen) }
         ensures shares { MatchResult result (λ c. (view_in c.pass).shares ≡ (knows pass).shares)
             (λ p. (knows p).shares ≡ (knows pass).shares) }
         ensures numbers { MatchResult result (λ c. (view_in c.pass).numbers
@@ -131,11 +132,46 @@ impl<P: Payload> ModuleMap<P> {
         ensures same { Same (view_in caller.old.pass) (view_in caller.new.pass)
             × (caller.new.number ≡ caller.old.number) }
     {
+        let Ok(copy) = url.clone() else {
+            return Err(MapEnd::Memory);
+        };
+        let Ok(key) = url.clone() else {
+            return Err(MapEnd::Memory);
+        };
+        self.ask_with(rt, caller, copy, key, why)
+    }
+
+    // The same, with two copies of the URL, so that nothing is copied under the lock.
+    fn ask_with<R: Wait>(
+        &self,
+        rt: &R,
+        caller: &mut Caller<P>,
+        url: Text,
+        key: Text,
+        why: Why,
+    ) -> Result<Asked, MapEnd>
+        requires own { table_of self.now.lock.table.shared.table_id caller.old.pass
+            ≡ self.now.lock.table.shared.table_id }
+        requires key { key ≡ url }
+        requires usable { is_usable url ≡ true }
+        requires ahead { may_be_ahead (replay P.weight (view_in caller.old.pass).seen) why ≡ true }
+        requires leads { leads_to P.leads (view_in caller.old.pass).seen why url ≡ true }
+        ensures led { is_led P.leads (view_in caller.new.pass).seen ≡ true }
+        ensures own { table_of self.now.lock.table.shared.table_id caller.new.pass
+            ≡ self.now.lock.table.shared.table_id }
+        ensures call { Called P.weight (view_in caller.old.pass).seen (Some caller.old.number)
+            (λ found. AskReply P.weight found caller.old.number url why result
+            (view_in caller.new.pass).seen) }
+        ensures says { AskSays P.weight caller.old.number
+            (view_in caller.old.pass).seen url result (view_in caller.new.pass).seen }
+        ensures same { Same (view_in caller.old.pass) (view_in caller.new.pass)
+            × (caller.new.number ≡ caller.old.number) }
+    {
         let Some(pass) = caller.pass.take() else {
             unreachable!()
         };
         let mut held = self.lock.enter(rt, pass);
-        let reply = held.state().ask(caller.number, url, why);
+        let reply = held.state().ask(caller.number, url, key, why);
         caller.pass = Some(self.lock.leave(held));
         reply
     }
@@ -143,9 +179,40 @@ impl<P: Payload> ModuleMap<P> {
     /// Takes the least number that is wanted and not taken; where there is none, and what is posted weighs less than
     /// `MAX_DELIVERED_BYTES`, the least that isn't taken. `Closed` comes exactly where the map is shut, `NotYet` exactly
     /// where there is no such number. The room for the post is reserved here. Where memory runs out nothing is taken.
-    pub fn take<R: Wait>(&self, rt: &R, caller: &mut Caller<P>) -> Result<Taken, Memory>
+    pub fn take<R: Wait>(
+        &self,
+        rt: &R,
+        alloc: Global,
+        caller: &mut Caller<P>,
+    ) -> Result<Taken, Memory>
         requires own { table_of self.now.lock.table.shared.table_id caller.old.pass
             ≡ self.now.lock.table.shared.table_id }
+        ensures own { table_of self.now.lock.table.shared.table_id caller.new.pass
+            ≡ self.now.lock.table.shared.table_id }
+        ensures call { Called P.weight (view_in caller.old.pass).seen (Some caller.old.number)
+            (λ found. TakeReply P.weight found caller.old.number result
+            (view_in caller.new.pass).seen) }
+        ensures says { TakeSays P.weight caller.old.number (view_in caller.old.pass).seen result
+            (view_in caller.new.pass).seen }
+        ensures same { Same (view_in caller.old.pass) (view_in caller.new.pass)
+            × (caller.new.number ≡ caller.old.number) }
+    {
+        let Ok(room) = String::with_capacity(alloc, MAX_URL_BYTES) else {
+            return Err(Memory);
+        };
+        self.take_into(rt, caller, room)
+    }
+
+    // The same, with room for a URL, so that no text is made under the lock.
+    fn take_into<R: Wait>(
+        &self,
+        rt: &R,
+        caller: &mut Caller<P>,
+        room: String,
+    ) -> Result<Taken, Memory>
+        requires own { table_of self.now.lock.table.shared.table_id caller.old.pass
+            ≡ self.now.lock.table.shared.table_id }
+        requires room { string_bytes room ≡ [] }
         ensures own { table_of self.now.lock.table.shared.table_id caller.new.pass
             ≡ self.now.lock.table.shared.table_id }
         ensures call { Called P.weight (view_in caller.old.pass).seen (Some caller.old.number)
@@ -160,7 +227,7 @@ impl<P: Payload> ModuleMap<P> {
             unreachable!()
         };
         let mut held = self.lock.enter(rt, pass);
-        let reply = held.state().take(caller.number);
+        let reply = held.state().take(caller.number, room);
         caller.pass = Some(self.lock.leave(held));
         reply
     }
@@ -204,7 +271,7 @@ impl<P: Payload> ModuleMap<P> {
         ensures makers { HasAllMakers maker_of (view_in caller.new.pass) }
         ensures call { Called P.weight (view_in caller.old.pass).seen (Some caller.old.number)
             (λ found. ShutReply P.weight found caller.old.number (view_in caller.new.pass).seen) }
-        ensures says { Stays P.weight caller.old.number (view_in caller.old.pass).seen
+        ensures says { ShutSays P.weight caller.old.number (view_in caller.old.pass).seen
             (view_in caller.new.pass).seen }
         ensures shut { IsShut P.weight (view_in caller.new.pass).seen }
         ensures same { Same (view_in caller.old.pass) (view_in caller.new.pass)
@@ -218,22 +285,16 @@ impl<P: Payload> ModuleMap<P> {
         caller.pass = Some(self.lock.leave(held));
     }
 
-    /// The posted numbers in order of their posts, without the first `from` of them.
-    pub fn news<R: Wait>(
-        &self,
-        rt: &R,
-        alloc: Global,
-        caller: &mut Caller<P>,
-        from: usize,
-    ) -> Result<Vec<u32>, Memory>
+    /// The number that was posted behind the first `from` posts, if there are more. It doesn't allocate.
+    pub fn post_at<R: Wait>(&self, rt: &R, caller: &mut Caller<P>, from: usize) -> Option<u32>
         requires own { table_of self.now.lock.table.shared.table_id caller.old.pass
             ≡ self.now.lock.table.shared.table_id }
         ensures own { table_of self.now.lock.table.shared.table_id caller.new.pass
             ≡ self.now.lock.table.shared.table_id }
         ensures call { Called P.weight (view_in caller.old.pass).seen (Some caller.old.number)
             (λ found. (view_in caller.new.pass).seen ≡ found) }
-        ensures news { IfOk result (λ v. v.items
-            ≡ drop from (replay P.weight (view_in caller.new.pass).seen).posts) }
+        ensures post { result
+            ≡ slice_get (replay P.weight (view_in caller.new.pass).seen).posts from }
         ensures says { Stays P.weight caller.old.number (view_in caller.old.pass).seen
             (view_in caller.new.pass).seen }
         ensures same { Same (view_in caller.old.pass) (view_in caller.new.pass)
@@ -243,7 +304,7 @@ impl<P: Payload> ModuleMap<P> {
             unreachable!()
         };
         let mut held = self.lock.enter(rt, pass);
-        let reply = held.state().news(alloc, from);
+        let reply = held.state().post_at(from);
         caller.pass = Some(self.lock.leave(held));
         reply
     }

@@ -1,5 +1,5 @@
-//! Laws of legal histories, as functions without effect.
-ghost use Rattle.esm_module_map.specs.Laws.{TakenOnce, PostedOnce, UrlsDiffer};
+//! Laws of histories, as functions without effect.
+ghost use Rattle.esm_module_map.specs.Laws.{PostedOnce, PostsAreAnswers, PostsStay, TakenOnce, TakenOnceByMakers, TakesWereAsked, UrlsDiffer, UrlsStay};
 
 use crate::event::Payload;
 
@@ -16,4 +16,22 @@ pub fn posted_once<P: Payload>()
 /// The URLs of numbers differ.
 pub fn urls_differ<P: Payload>()
     ensures { UrlsDiffer P P.Guide P.weight }
+{}
+
+/// A number keeps its URL as the history grows.
+pub fn urls_stay<P: Payload>()
+    ensures { UrlsStay P P.Guide P.weight }
+{}
+
+/// What is posted stays so as the history grows.
+pub fn posts_stay<P: Payload>()
+    ensures { PostsStay P P.Guide }
+{}
+
+/// In a legal history what is posted was posted by a caller, under the URL of its number, what is taken was asked for,
+/// and where each maker of an event is listed once, the listed callers have taken no URL twice.
+pub fn callers<P: Payload>()
+    ensures posts { PostsAreAnswers P P.Guide P.weight }
+    ensures takes { TakesWereAsked P P.Guide P.weight }
+    ensures once { TakenOnceByMakers P P.Guide P.weight }
 {}

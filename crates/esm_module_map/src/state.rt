@@ -1,5 +1,5 @@
 // The state under the lock.
-ghost use Rattle.std.specs.Prelude.{◌≡◌, ◌≤◌, ◌<◌, ◌+◌, ◌++◌, ◌∷◌, List, ℕ, [], true, false, if◌then◌else◌, length, drop, vec_len, slice_get, nat_lt, min, bytes_eq, position, IfOk, OnErr, IfSome, MatchResult, MatchOption, Some, None, option_map, is_some};
+ghost use Rattle.std.specs.Prelude.{◌≡◌, ◌≤◌, ◌<◌, ◌+◌, ◌++◌, ◌∷◌, List, ℕ, [], true, false, if◌then◌else◌, length, vec_len, slice_get, string_bytes, nat_lt, min, bytes_eq, position, IfOk, OnErr, IfSome, MatchResult, MatchOption, Some, None, option_map, is_some};
 ghost use Rattle.std.specs.Arc.{arc_value};
 ghost use Rattle.std.specs.Vec.{vec_capacity};
 ghost use Rattle.std.specs.List.{position_or_len};
@@ -132,27 +132,18 @@ impl<P: Payload> MapState<P> {
     }
 
     // An ask for a URL that has the number at this place.
-    fn ask_known(
-        &mut self,
-        caller: u64,
-        place: usize,
-        url: &Text,
-        why: Why,
-    ) -> Result<Asked, MapEnd>
+    fn ask_known(&mut self, caller: u64, place: usize, url: Text, why: Why) -> Result<Asked, MapEnd>
         requires is_in { caller < self.old.callers }
         requires live { self.old.shut ≡ false }
-        requires usable { is_usable url.now ≡ true }
+        requires usable { is_usable url ≡ true }
         requires ahead { may_be_ahead (replay P.weight self.old.events.items) why ≡ true }
-        requires leads { leads_to P.leads self.old.events.items why url.now ≡ true }
-        requires known { place ≡ position_or_len (bytes_eq url.now) self.old.urls.keys }
+        requires leads { leads_to P.leads self.old.events.items why url ≡ true }
+        requires known { place ≡ position_or_len (bytes_eq url) self.old.urls.keys }
         requires within { place < vec_len self.old.numbers }
-        ensures reply { AskReply P.weight self.old.events.items caller url.now why result
+        ensures reply { AskReply P.weight self.old.events.items caller url why result
             self.new.events.items }
         ensures callers { self.new.callers ≡ self.old.callers }
     {
-        let Ok(copy) = url.clone() else {
-            return Err(MapEnd::Memory);
-        };
         let MapState {
             events,
             numbers,
@@ -165,32 +156,27 @@ impl<P: Payload> MapState<P> {
         let number = place as u32;
         let asked = known_as(numbers, place, number);
         ask_again(numbers, place, why);
-        events.push_reserved(MapEvent::Ask(caller, number, copy, why));
+        events.push_reserved(MapEvent::Ask(caller, number, url, why));
         Ok(asked)
     }
 
     // An ask for a URL that has no number, and gets the next.
-    fn ask_new(&mut self, caller: u64, url: &Text, why: Why) -> Result<Asked, MapEnd>
+    fn ask_new(&mut self, caller: u64, url: Text, key: Text, why: Why) -> Result<Asked, MapEnd>
         requires is_in { caller < self.old.callers }
         requires live { self.old.shut ≡ false }
-        requires usable { is_usable url.now ≡ true }
+        requires usable { is_usable url ≡ true }
+        requires key { key ≡ url }
         requires ahead { may_be_ahead (replay P.weight self.old.events.items) why ≡ true }
-        requires leads { leads_to P.leads self.old.events.items why url.now ≡ true }
-        requires fresh { position_or_len (bytes_eq url.now) self.old.urls.keys
+        requires leads { leads_to P.leads self.old.events.items why url ≡ true }
+        requires fresh { position_or_len (bytes_eq key) self.old.urls.keys
             ≡ length self.old.urls.keys }
-        ensures reply { AskReply P.weight self.old.events.items caller url.now why result
+        ensures reply { AskReply P.weight self.old.events.items caller url why result
             self.new.events.items }
         ensures callers { self.new.callers ≡ self.old.callers }
     {
         if !has_room(self.wanted, self.ahead, why) {
             return Err(MapEnd::Full);
         }
-        let Ok(copy) = url.clone() else {
-            return Err(MapEnd::Memory);
-        };
-        let Ok(key) = url.clone() else {
-            return Err(MapEnd::Memory);
-        };
         let MapState {
             events,
             urls,
@@ -212,26 +198,33 @@ impl<P: Payload> MapState<P> {
         let number = numbers.len() as u32;
         numbers.push_reserved(fresh(why));
         count_number(wanted, ahead, why);
-        events.push_reserved(MapEvent::Ask(caller, number, copy, why));
+        events.push_reserved(MapEvent::Ask(caller, number, url, why));
         Ok(Asked::New(number))
     }
 
-    // The caller asks for a URL.
-    pub(crate) fn ask(&mut self, caller: u64, url: &Text, why: Why) -> Result<Asked, MapEnd>
+    // The caller asks for a URL. `key` is a second copy of it.
+    pub(crate) fn ask(
+        &mut self,
+        caller: u64,
+        url: Text,
+        key: Text,
+        why: Why,
+    ) -> Result<Asked, MapEnd>
         requires is_in { caller < (replay P.weight self.old.events.items).callers }
-        requires usable { is_usable url.now ≡ true }
+        requires usable { is_usable url ≡ true }
+        requires key { key ≡ url }
         requires ahead { may_be_ahead (replay P.weight self.old.events.items) why ≡ true }
-        requires leads { leads_to P.leads self.old.events.items why url.now ≡ true }
-        ensures reply { AskReply P.weight self.old.events.items caller url.now why result
+        requires leads { leads_to P.leads self.old.events.items why url ≡ true }
+        ensures reply { AskReply P.weight self.old.events.items caller url why result
             self.new.events.items }
         ensures callers { self.new.callers ≡ self.old.callers }
     {
         if self.shut {
             return Err(MapEnd::Closed);
         }
-        match self.urls.get_index_of(url) {
+        match self.urls.get_index_of(&key) {
             Some(place) => self.ask_known(caller, place, url, why),
-            None => self.ask_new(caller, url, why),
+            None => self.ask_new(caller, url, key, why),
         }
     }
 
@@ -257,8 +250,9 @@ impl<P: Payload> MapState<P> {
         }
     }
 
-    // The caller takes the number at this place.
-    fn give_out(&mut self, caller: u64, place: usize) -> Result<Taken, Memory>
+    // The caller takes the number at this place. Its URL is copied into `room`.
+    fn give_out(&mut self, caller: u64, place: usize, room: String) -> Result<Taken, Memory>
+        requires room { string_bytes room ≡ [] }
         requires is_in { caller < self.old.callers }
         requires live { self.old.shut ≡ false }
         requires next { next_order (replay P.weight self.old.events.items) ≡ Some place }
@@ -269,9 +263,10 @@ impl<P: Payload> MapState<P> {
         let Some(url) = self.urls.get_index(place) else {
             unreachable!()
         };
-        let Ok(url) = url.clone() else {
+        let mut room = room;
+        if room.push_str(url.as_str()).is_err() {
             return Err(Memory);
-        };
+        }
         let MapState {
             events,
             numbers,
@@ -286,15 +281,17 @@ impl<P: Payload> MapState<P> {
             return Err(Memory);
         }
         let number = place as u32;
+        let url = Text::from_string(room);
         set_taker(numbers, place, caller);
         *out += 1;
         events.push_reserved(MapEvent::Take(caller, number));
         Ok(Taken::Order(Order { number, url }))
     }
 
-    // The caller takes what is to be taken next.
-    pub(crate) fn take(&mut self, caller: u64) -> Result<Taken, Memory>
-        requires { caller < (replay P.weight self.old.events.items).callers }
+    // The caller takes what is to be taken next. `room` is empty, and has room for a URL.
+    pub(crate) fn take(&mut self, caller: u64, room: String) -> Result<Taken, Memory>
+        requires room { string_bytes room ≡ [] }
+        requires is_in { caller < (replay P.weight self.old.events.items).callers }
         ensures reply { TakeReply P.weight self.old.events.items caller result
             (self.new.events.items) }
         ensures callers { self.new.callers ≡ self.old.callers }
@@ -303,7 +300,7 @@ impl<P: Payload> MapState<P> {
             return Ok(Taken::Closed);
         }
         match self.next() {
-            Some(place) => self.give_out(caller, place),
+            Some(place) => self.give_out(caller, place, room),
             None => Ok(Taken::NotYet),
         }
     }
@@ -332,15 +329,14 @@ impl<P: Payload> MapState<P> {
         events.push_reserved(MapEvent::Post(caller, number, payload));
     }
 
-    // The posted numbers, without the first so many.
-    pub(crate) fn news(&self, alloc: Global, from: usize) -> Result<Vec<u32>, Memory>
-        ensures { IfOk result (λ v. v.items
-            ≡ drop from (replay P.weight self.now.events.items).posts) }
+    // The number of the post behind the first so many.
+    pub(crate) fn post_at(&self, from: usize) -> Option<u32>
+        ensures { result ≡ slice_get (replay P.weight self.now.events.items).posts from }
     {
-        if from >= self.posts.len() {
-            return Ok(Vec::new(alloc));
+        match self.posts.get(from) {
+            Some(number) => Some(*number),
+            None => None,
         }
-        Ok(Vec::from_slice(alloc, &self.posts[from..])?)
     }
 
     // What is posted under a number.

@@ -1,6 +1,5 @@
 pub mod Lists
 pub mod Compared
 pub mod OutcomeLemmas
-pub mod TokensLemmas
 pub mod Top
 pub mod Levels

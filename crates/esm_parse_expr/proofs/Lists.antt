@@ -1,11 +1,10 @@
 -- Lists of parts that a loop gathers.
 use Rattle.std.proofs.Common.{◌≡◌, ◌≢◌, ℕ, zero, suc, ◌+◌, ◌-◌, ◌<◌, ◌≤◌, true, false, List, [], ◌∷◌, ◌++◌, length, Some, None, refl, sym, ap, ◌∙◌, arith}
-use Rattle.std.specs.Prelude.{Vec}
-use Rattle.std.specs.declared.alloc.Global.{Global}
 use Rattle.esm_grammar.specs.Grammar.{linked, joined}
 use Rattle.esm_tree.specs.Syntax.{Expr, Post, Exprs, none, more, Links, ends, member, call, Parts}
 use Rattle.esm_tree.specs.Flat.{part, parts, links, AllBelow, AllLinksBelow}
 use Rattle.esm_tree.specs.declared.node.ExprId.{ExprId}
+use Rattle.esm_tree.specs.ExprIds.{ExprIds}
 use Rattle.esm_tree.specs.declared.node.Link.{Link}
 use Rattle.esm_tree.specs.declared.node.Link.TheVariants as l
 use Rattle.esm_tree.proofs.FlatLemmas.{parts_stay, links_stay}
@@ -144,7 +143,7 @@ member_below n [] s h = tt
 member_below n (l.Member x ∷ ls) s h = member_below n ls s h
 member_below n (l.Call ids ∷ ls) s h = (h.0, member_below n ls s h.1)
 
-pub call_below : (n : ℕ) (ls : List Link) (ids : Vec ExprId Global) → AllLinksBelow n ls → AllBelow n ids.items → AllLinksBelow n (ls ++ l.Call ids ∷ [])
+pub call_below : (n : ℕ) (ls : List Link) (ids : ExprIds) → AllLinksBelow n ls → AllBelow n ids.items → AllLinksBelow n (ls ++ l.Call ids ∷ [])
 call_below n [] ids h b = (b, tt)
 call_below n (l.Member x ∷ ls) ids h b = call_below n ls ids h b
 call_below n (l.Call xs ∷ ls) ids h b = (h.0, call_below n ls ids h.1 b)
@@ -154,10 +153,10 @@ links_member es [] s = refl
 links_member es (l.Member x ∷ ls) s = ap (member x) (links_member es ls s)
 links_member es (l.Call ids ∷ ls) s = ap (call (parts es ids.items)) (links_member es ls s)
 
-pub links_call : (es : List Expr) (ls : List Link) (ids : Vec ExprId Global) → links es (ls ++ l.Call ids ∷ []) ≡ append_links (links es ls) (call (parts es ids.items) ends)
-links_call es [] ids = refl
-links_call es (l.Member x ∷ ls) ids = ap (member x) (links_call es ls ids)
-links_call es (l.Call xs ∷ ls) ids = ap (call (parts es xs.items)) (links_call es ls ids)
+pub links_call : (es : List Expr) (ls : List Link) (ids : ExprIds) (list : List ExprId) → ids.items ≡ list → links es (ls ++ l.Call ids ∷ []) ≡ append_links (links es ls) (call (parts es list) ends)
+links_call es [] ids list same = ap (λ given. call (parts es given) ends) same
+links_call es (l.Member x ∷ ls) ids list same = ap (member x) (links_call es ls ids list same)
+links_call es (l.Call xs ∷ ls) ids list same = ap (call (parts es xs.items)) (links_call es ls ids list same)
 
 pub links_later : (a b : Parts) (ls : List Link) → Grows a b → AllLinksBelow (length a.exprs) ls → links b.exprs ls ≡ links a.exprs ls
 links_later a b ls p h = ap (λ (t : Parts). links t.exprs ls) p.is ∙ links_stay a.exprs p.added ls h

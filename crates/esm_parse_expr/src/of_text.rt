@@ -12,14 +12,14 @@ ghost use Rattle.esm_parse_expr.specs.TextExpressions.{SpellsTokens, ExprBegins}
 use crate::reader::{Stop, read_expr};
 use bumpalo::Bump;
 use esm_base::{MAX_FILE_BYTES, ReadEnd, TextFault};
-use esm_lexer::lexemes;
-use esm_tree::{ExprId, Lexeme, Token, Tree};
+use esm_lexer::{LexemeList, lexemes};
+use esm_tree::{ExprId, Token, Tree};
 use std::alloc::Global;
 
 // The same over the tokens as the grammar sees them.
 fn parse_among(
     alloc: Global,
-    found: &[Lexeme],
+    found: &LexemeList,
     at: usize,
     tree: &mut Tree,
 ) -> Result<(ExprId, usize), ReadEnd>

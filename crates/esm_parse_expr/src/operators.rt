@@ -11,7 +11,8 @@ ghost use Rattle.esm_parse_expr.specs.Inner.Operators.{joined_with, compared_wit
 
 use crate::reader::{Reader, Stop, done};
 use crate::tokens::{sees, terminal};
-use esm_tree::{ExprId, ExprNode, Lexeme, Terminal, Tree};
+use esm_lexer::LexemeList;
+use esm_tree::{ExprId, ExprIds, ExprNode, Terminal, Tree};
 use std::alloc::Global;
 
 /// The operand as it is, or several.
@@ -33,7 +34,8 @@ fn sum_of(
     if others.is_empty() {
         Ok((first, behind))
     } else {
-        done(tree, ExprNode::Sum(first, others), behind)
+        let operands = ExprIds::of(others)?;
+        done(tree, ExprNode::Sum(first, operands), behind)
     }
 }
 
@@ -56,7 +58,8 @@ fn both_of(
     if others.is_empty() {
         Ok((first, behind))
     } else {
-        done(tree, ExprNode::And(first, others), behind)
+        let operands = ExprIds::of(others)?;
+        done(tree, ExprNode::And(first, operands), behind)
     }
 }
 
@@ -75,7 +78,8 @@ fn either_of(
     if others.is_empty() {
         Ok((first, behind))
     } else {
-        done(tree, ExprNode::Or(first, others), behind)
+        let operands = ExprIds::of(others)?;
+        done(tree, ExprNode::Or(first, operands), behind)
     }
 }
 
@@ -103,10 +107,11 @@ fn equal_of(
 }
 
 /// Whether a comparison goes on, and with which sign.
-fn comparison(tokens: &[Lexeme], at: usize) -> Option<bool>
+fn comparison(tokens: &LexemeList, at: usize) -> Option<bool>
     ensures some { IfSome result (λ is_same. Compares is_same (terminal_at tokens.now at)) }
     ensures none { IfNone result (EndsComparison (terminal_at tokens.now at)) }
     ensures there { IsSome result → at < length tokens.now }
+    ensures small { IsSome result → at < 9223372036854775807 }
 {
     if sees(tokens, at, Terminal::Same) {
         Some(true)
@@ -118,7 +123,7 @@ fn comparison(tokens: &[Lexeme], at: usize) -> Option<bool>
 }
 
 // Whether an operator stands at a place, which joins an operand to the one before.
-fn is_operator(tokens: &[Lexeme], at: usize) -> bool
+fn is_operator(tokens: &LexemeList, at: usize) -> bool
     ensures { result ≡ is_operator (terminal_at tokens.now at) }
 {
     match terminal(tokens, at) {
@@ -128,11 +133,13 @@ fn is_operator(tokens: &[Lexeme], at: usize) -> bool
     }
 }
 
-impl<F: Fn(Global, &[Lexeme], &mut Tree, usize, usize) -> Result<(ExprId, usize), Stop>> Reader<F> {
+impl<F: Fn(Global, &LexemeList, &mut Tree, usize, usize) -> Result<(ExprId, usize), Stop>> Reader<
+    F,
+> {
     /// An operand behind at most so many `!`. ECMA-262, UnaryExpression.
     pub fn unary(
         &self,
-        tokens: &[Lexeme],
+        tokens: &LexemeList,
         tree: &mut Tree,
         turns: usize,
         at: usize,
@@ -155,7 +162,7 @@ impl<F: Fn(Global, &[Lexeme], &mut Tree, usize, usize) -> Result<(ExprId, usize)
     // The operands that `+` joins to the first, from the place behind it.
     fn sum_from(
         &self,
-        tokens: &[Lexeme],
+        tokens: &LexemeList,
         tree: &mut Tree,
         first: ExprId,
         at: usize,
@@ -182,7 +189,7 @@ impl<F: Fn(Global, &[Lexeme], &mut Tree, usize, usize) -> Result<(ExprId, usize)
     }
 
     // ECMA-262, AdditiveExpression.
-    fn sum(&self, tokens: &[Lexeme], tree: &mut Tree, at: usize) -> Result<(ExprId, usize), Stop>
+    fn sum(&self, tokens: &LexemeList, tree: &mut Tree, at: usize) -> Result<(ExprId, usize), Stop>
         requires { Nests self.now.room (F.pre self.now.whole) (F.post self.now.whole) }
         ensures { ReadsExpr tree.old tree.new result
             (read.sum tokens.now (read.expr tokens.now self.now.room) self.now.room at) }
@@ -194,7 +201,7 @@ impl<F: Fn(Global, &[Lexeme], &mut Tree, usize, usize) -> Result<(ExprId, usize)
     // The operands that are compared with the first, from the place behind it.
     fn equal_from(
         &self,
-        tokens: &[Lexeme],
+        tokens: &LexemeList,
         tree: &mut Tree,
         first: ExprId,
         at: usize,
@@ -221,7 +228,12 @@ impl<F: Fn(Global, &[Lexeme], &mut Tree, usize, usize) -> Result<(ExprId, usize)
     }
 
     // ECMA-262, EqualityExpression.
-    fn equal(&self, tokens: &[Lexeme], tree: &mut Tree, at: usize) -> Result<(ExprId, usize), Stop>
+    fn equal(
+        &self,
+        tokens: &LexemeList,
+        tree: &mut Tree,
+        at: usize,
+    ) -> Result<(ExprId, usize), Stop>
         requires { Nests self.now.room (F.pre self.now.whole) (F.post self.now.whole) }
         ensures { ReadsExpr tree.old tree.new result
             (read.equal tokens.now (read.expr tokens.now self.now.room) self.now.room at) }
@@ -233,7 +245,7 @@ impl<F: Fn(Global, &[Lexeme], &mut Tree, usize, usize) -> Result<(ExprId, usize)
     // The operands that `&&` joins to the first, from the place behind it.
     fn both_from(
         &self,
-        tokens: &[Lexeme],
+        tokens: &LexemeList,
         tree: &mut Tree,
         first: ExprId,
         at: usize,
@@ -260,7 +272,7 @@ impl<F: Fn(Global, &[Lexeme], &mut Tree, usize, usize) -> Result<(ExprId, usize)
     }
 
     // ECMA-262, LogicalANDExpression.
-    fn both(&self, tokens: &[Lexeme], tree: &mut Tree, at: usize) -> Result<(ExprId, usize), Stop>
+    fn both(&self, tokens: &LexemeList, tree: &mut Tree, at: usize) -> Result<(ExprId, usize), Stop>
         requires { Nests self.now.room (F.pre self.now.whole) (F.post self.now.whole) }
         ensures { ReadsExpr tree.old tree.new result
             (read.both tokens.now (read.expr tokens.now self.now.room) self.now.room at) }
@@ -272,7 +284,7 @@ impl<F: Fn(Global, &[Lexeme], &mut Tree, usize, usize) -> Result<(ExprId, usize)
     // The operands that `||` joins to the first, from the place behind it.
     fn either_from(
         &self,
-        tokens: &[Lexeme],
+        tokens: &LexemeList,
         tree: &mut Tree,
         first: ExprId,
         at: usize,
@@ -302,7 +314,7 @@ impl<F: Fn(Global, &[Lexeme], &mut Tree, usize, usize) -> Result<(ExprId, usize)
     /// tried first.
     pub fn either(
         &self,
-        tokens: &[Lexeme],
+        tokens: &LexemeList,
         tree: &mut Tree,
         at: usize,
     ) -> Result<(ExprId, usize), Stop>

@@ -9,7 +9,8 @@ ghost use Rattle.esm_parse_expr.specs.Inner.Nests.{Nests};
 ghost use Rattle.esm_parse_expr.specs.declared.reader.Stop.TheVariants.{Memory};
 
 use esm_base::Memory;
-use esm_tree::{ExprId, ExprNode, Lexeme, Tree};
+use esm_lexer::LexemeList;
+use esm_tree::{ExprId, ExprNode, Tree};
 use std::alloc::{AllocError, AllocFailed, Global};
 
 /// Why nothing is read.
@@ -70,11 +71,13 @@ pub fn done(tree: &mut Tree, node: ExprNode, behind: usize) -> Result<(ExprId, u
     }
 }
 
-impl<F: Fn(Global, &[Lexeme], &mut Tree, usize, usize) -> Result<(ExprId, usize), Stop>> Reader<F> {
+impl<F: Fn(Global, &LexemeList, &mut Tree, usize, usize) -> Result<(ExprId, usize), Stop>> Reader<
+    F,
+> {
     /// An expression in brackets.
     pub fn whole(
         &self,
-        tokens: &[Lexeme],
+        tokens: &LexemeList,
         tree: &mut Tree,
         at: usize,
     ) -> Result<(ExprId, usize), Stop>
@@ -89,7 +92,7 @@ impl<F: Fn(Global, &[Lexeme], &mut Tree, usize, usize) -> Result<(ExprId, usize)
 /// before, and nothing else has changed.
 pub fn expr(
     alloc: Global,
-    tokens: &[Lexeme],
+    tokens: &LexemeList,
     tree: &mut Tree,
     room: usize,
     at: usize,
@@ -111,7 +114,7 @@ pub fn expr(
 /// may have more expressions than before, and nothing else has changed.
 pub fn operand(
     alloc: Global,
-    tokens: &[Lexeme],
+    tokens: &LexemeList,
     tree: &mut Tree,
     room: usize,
     at: usize,
@@ -130,7 +133,7 @@ pub fn operand(
 /// Reads the expression that begins at a token, and gives the place behind it. After a refusal the tree is as before.
 pub fn read_expr(
     alloc: Global,
-    tokens: &[Lexeme],
+    tokens: &LexemeList,
     at: usize,
     tree: &mut Tree,
 ) -> Result<(ExprId, usize), Stop>

@@ -4,53 +4,56 @@ ghost use Rattle.esm_grammar.specs.Lexeme.{terminal_at, text_at, newline_at, is_
 ghost use Rattle.esm_grammar.specs.Reading.{same};
 
 use esm_base::{Memory, Text};
-use esm_tree::{Lexeme, Terminal};
+use esm_lexer::LexemeList;
+use esm_tree::{NodeText, Terminal};
 use std::alloc::Global;
 
 /// What the token at a place is, or `End` behind the last.
-pub fn terminal(tokens: &[Lexeme], at: usize) -> Terminal
+pub fn terminal(tokens: &LexemeList, at: usize) -> Terminal
     ensures value { result ≡ terminal_at tokens.now at }
     ensures there { result ≢ Terminal.End → at < length tokens.now }
+    ensures small { result ≢ Terminal.End → at < 9223372036854775807 }
 {
-    match tokens.get(at) {
-        Some(token) => token.terminal(),
-        None => Terminal::End,
-    }
+    let _ = tokens.len();
+    tokens.terminal(at)
 }
 
 /// Whether the token at a place is this one.
-pub fn sees(tokens: &[Lexeme], at: usize, wanted: Terminal) -> bool
+pub fn sees(tokens: &LexemeList, at: usize, wanted: Terminal) -> bool
     requires { wanted ≢ Terminal.End }
     ensures value { result ≡ same (terminal_at tokens.now at) wanted }
     ensures there { result ≡ true → at < length tokens.now }
+    ensures small { result ≡ true → at < 9223372036854775807 }
 {
     terminal(tokens, at) == wanted
 }
 
 /// Whether a line terminator stands before the token at a place. None does behind the last token.
-pub fn newline_at(tokens: &[Lexeme], at: usize) -> bool
+pub fn newline_at(tokens: &LexemeList, at: usize) -> bool
     ensures { result ≡ newline_at tokens.now at }
 {
-    match tokens.get(at) {
-        Some(lexeme) => lexeme.newline_before(),
-        None => false,
-    }
+    tokens.newline_before(at)
 }
 
 /// What the token at a place spells.
-pub fn text(alloc: Global, tokens: &[Lexeme], at: usize) -> Result<Text, Memory>
+pub fn text(alloc: Global, tokens: &LexemeList, at: usize) -> Result<Text, Memory>
     ensures { IfOk result (λ v. v ≡ text_at tokens.now at) }
 {
-    match tokens.get(at) {
-        Some(token) => Text::copy(alloc, token.text()),
-        None => Text::copy(alloc, ""),
-    }
+    Text::copy(alloc, tokens.text(at))
+}
+
+/// The same, for a node of an expression.
+pub fn node_text(alloc: Global, tokens: &LexemeList, at: usize) -> Result<NodeText, Memory>
+    ensures { IfOk result (λ v. v ≡ text_at tokens.now at) }
+{
+    NodeText::copy(alloc, tokens.text(at))
 }
 
 /// Whether the token at a place is a word.
-pub fn is_word_at(tokens: &[Lexeme], at: usize) -> bool
+pub fn is_word_at(tokens: &LexemeList, at: usize) -> bool
     ensures value { result ≡ is_word (terminal_at tokens.now at) }
     ensures there { result ≡ true → at < length tokens.now }
+    ensures small { result ≡ true → at < 9223372036854775807 }
 {
     match terminal(tokens, at) {
         Terminal::Name
@@ -83,9 +86,10 @@ pub fn is_word_at(tokens: &[Lexeme], at: usize) -> bool
 }
 
 /// Whether the token at a place is a word that isn't reserved.
-pub fn is_name_at(tokens: &[Lexeme], at: usize) -> bool
+pub fn is_name_at(tokens: &LexemeList, at: usize) -> bool
     ensures value { result ≡ is_name (terminal_at tokens.now at) }
     ensures there { result ≡ true → at < length tokens.now }
+    ensures small { result ≡ true → at < 9223372036854775807 }
 {
     match terminal(tokens, at) {
         Terminal::Name | Terminal::As | Terminal::From | Terminal::Meta | Terminal::Url => true,

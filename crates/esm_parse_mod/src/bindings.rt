@@ -7,20 +7,21 @@ ghost use Rattle.esm_grammar.specs.Statements as grammar;
 ghost use Rattle.esm_parse_mod.specs.Inner.Outcome.{EndsAt, ReadsInit, ReadsBinding, ReadsBindingStep, ReadsBindings, ReadsDeclaration};
 
 use crate::statements::Room;
+use esm_lexer::LexemeList;
 use esm_parse_expr::tokens::{is_name_at, newline_at, sees, terminal, text};
 use esm_parse_expr::{Stop, expr, operand};
-use esm_tree::{Initializer, Lexeme, LexicalBinding, Terminal, Tree};
+use esm_tree::{Initializer, LexicalBinding, Terminal, Tree};
 use std::alloc::Global;
 
 /// Whether no token stands at a place.
-pub(crate) fn at_end(tokens: &[Lexeme], at: usize) -> bool
+pub(crate) fn at_end(tokens: &LexemeList, at: usize) -> bool
     ensures { result ≡ same (terminal_at tokens.now at) Terminal.End }
 {
     terminal(tokens, at) == Terminal::End
 }
 
 #[tactic(auto, unfolding(esm_grammar::specs::Statements::may_miss))]
-fn may_miss(tokens: &[Lexeme], at: usize, continued: bool) -> bool
+fn may_miss(tokens: &LexemeList, at: usize, continued: bool) -> bool
     ensures { result ≡ grammar.may_miss tokens.now continued at }
 {
     (sees(tokens, at, Terminal::BraceClose) || at_end(tokens, at) || newline_at(tokens, at))
@@ -28,7 +29,7 @@ fn may_miss(tokens: &[Lexeme], at: usize, continued: bool) -> bool
 }
 
 /// The place behind a `;`, which may be missing. ECMA-262, Automatic Semicolon Insertion.
-pub(crate) fn end(tokens: &[Lexeme], at: usize, continued: bool) -> Result<usize, Stop>
+pub(crate) fn end(tokens: &LexemeList, at: usize, continued: bool) -> Result<usize, Stop>
     ensures { EndsAt tokens.now continued at result }
 {
     if sees(tokens, at, Terminal::Semicolon) {
@@ -44,7 +45,7 @@ pub(crate) fn end(tokens: &[Lexeme], at: usize, continued: bool) -> Result<usize
 /// `await` before an operand, or an expression.
 pub(crate) fn init(
     alloc: Global,
-    tokens: &[Lexeme],
+    tokens: &LexemeList,
     tree: &mut Tree,
     room: Room,
     at: usize,
@@ -64,7 +65,7 @@ pub(crate) fn init(
 
 fn one_binding(
     alloc: Global,
-    tokens: &[Lexeme],
+    tokens: &LexemeList,
     tree: &mut Tree,
     room: Room,
     constant: bool,
@@ -91,7 +92,7 @@ fn one_binding(
 // One more binding behind a comma, or the end of the list.
 fn step(
     alloc: Global,
-    tokens: &[Lexeme],
+    tokens: &LexemeList,
     tree: &mut Tree,
     room: Room,
     constant: bool,
@@ -109,7 +110,7 @@ fn step(
 
 fn bindings(
     alloc: Global,
-    tokens: &[Lexeme],
+    tokens: &LexemeList,
     tree: &mut Tree,
     room: Room,
     constant: bool,
@@ -136,7 +137,7 @@ fn bindings(
 /// Behind `const` or `let`, up to the end.
 pub(crate) fn declaration(
     alloc: Global,
-    tokens: &[Lexeme],
+    tokens: &LexemeList,
     tree: &mut Tree,
     room: Room,
     constant: bool,
@@ -146,6 +147,7 @@ pub(crate) fn declaration(
     ensures { ReadsDeclaration tokens.now tree.old tree.new result
         (read.bindings tokens.now room.turns room.inside constant (at + 1)) }
 {
+    let _ = tokens.len();
     let (found, behind) = bindings(alloc, tokens, tree, room, constant, at + 1)?;
     let behind = end(tokens, behind, false)?;
     Ok((found, behind))

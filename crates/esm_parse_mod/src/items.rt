@@ -10,9 +10,10 @@ use crate::bindings::{end, init};
 use crate::names::{clause, exported_names, from, is_export_name, parameters};
 use crate::statements::{Room, add, block, statement};
 use esm_base::Text;
+use esm_lexer::LexemeList;
 use esm_parse_expr::Stop;
 use esm_parse_expr::tokens::{is_name_at, sees, terminal, text};
-use esm_tree::{ItemNode, Lexeme, StmtId, StmtNode, Terminal, Tree};
+use esm_tree::{ItemNode, StmtId, StmtNode, Terminal, Tree};
 use std::alloc::Global;
 
 fn outside(turns: usize) -> Room
@@ -34,9 +35,10 @@ fn inside(turns: usize) -> Room
 }
 
 #[tactic(auto, unfolding(esm_grammar::specs::Items::is_import_form))]
-fn is_import_form(tokens: &[Lexeme], at: usize) -> bool
+fn is_import_form(tokens: &LexemeList, at: usize) -> bool
     ensures value { result ≡ grammar.is_import_form tokens.now at }
     ensures there { result ≡ true → at < length tokens.now }
+    ensures small { result ≡ true → at < 9223372036854775807 }
 {
     sees(tokens, at, Terminal::Import)
         && !(sees(tokens, at + 1, Terminal::Open) || sees(tokens, at + 1, Terminal::Dot))
@@ -44,13 +46,14 @@ fn is_import_form(tokens: &[Lexeme], at: usize) -> bool
 
 fn import_form(
     alloc: Global,
-    tokens: &[Lexeme],
+    tokens: &LexemeList,
     turns: usize,
     at: usize,
 ) -> Result<(ItemNode, usize), Stop>
     requires { at < length tokens.now }
     ensures { ReadsBare result (read.import_form tokens.now turns at) }
 {
+    let _ = tokens.len();
     if sees(tokens, at + 1, Terminal::Literal) {
         let specifier = text(alloc, tokens, at + 1)?;
         let behind = end(tokens, at + 2, false)?;
@@ -64,7 +67,7 @@ fn import_form(
 // Parameters and body. ECMA-262, FormalParameters, FunctionBody.
 fn rest(
     alloc: Global,
-    tokens: &[Lexeme],
+    tokens: &LexemeList,
     tree: &mut Tree,
     turns: usize,
     at: usize,
@@ -82,7 +85,7 @@ fn rest(
 // Name, parameters and body.
 fn function(
     alloc: Global,
-    tokens: &[Lexeme],
+    tokens: &LexemeList,
     tree: &mut Tree,
     turns: usize,
     exported: bool,
@@ -92,6 +95,7 @@ fn function(
     ensures { ReadsItem tree.old tree.new result
         (read.function_form tokens.now turns (function_of exported) at) }
 {
+    let _ = tokens.len();
     if !is_name_at(tokens, at + 1) {
         return Err(Stop::Fault);
     }
@@ -105,10 +109,11 @@ fn function(
     }
 }
 
-fn export_all(alloc: Global, tokens: &[Lexeme], at: usize) -> Result<(ItemNode, usize), Stop>
+fn export_all(alloc: Global, tokens: &LexemeList, at: usize) -> Result<(ItemNode, usize), Stop>
     requires { at < length tokens.now }
     ensures { ReadsBare result (read.export_all_form tokens.now 0 at) }
 {
+    let _ = tokens.len();
     if sees(tokens, at + 1, Terminal::As) {
         if !is_export_name(tokens, at + 2) {
             return Err(Stop::Fault);
@@ -123,13 +128,14 @@ fn export_all(alloc: Global, tokens: &[Lexeme], at: usize) -> Result<(ItemNode, 
 
 fn export_list(
     alloc: Global,
-    tokens: &[Lexeme],
+    tokens: &LexemeList,
     turns: usize,
     at: usize,
 ) -> Result<(ItemNode, usize), Stop>
     requires { at < length tokens.now }
     ensures { ReadsBare result (read.export_list_form tokens.now turns at) }
 {
+    let _ = tokens.len();
     let (found, behind) = exported_names(alloc, tokens, turns, at + 1)?;
     if sees(tokens, behind, Terminal::From) {
         let (specifier, behind) = from(alloc, tokens, behind)?;
@@ -141,7 +147,7 @@ fn export_list(
 
 fn default_function(
     alloc: Global,
-    tokens: &[Lexeme],
+    tokens: &LexemeList,
     tree: &mut Tree,
     turns: usize,
     name: Option<Text>,
@@ -157,7 +163,7 @@ fn default_function(
 
 fn export_default(
     alloc: Global,
-    tokens: &[Lexeme],
+    tokens: &LexemeList,
     tree: &mut Tree,
     turns: usize,
     at: usize,
@@ -165,6 +171,7 @@ fn export_default(
     requires { at < length tokens.now }
     ensures { ReadsItem tree.old tree.new result (read.export_default_form tokens.now turns at) }
 {
+    let _ = tokens.len();
     if sees(tokens, at + 1, Terminal::Function) {
         if is_name_at(tokens, at + 2) {
             let name = text(alloc, tokens, at + 2)?;
@@ -180,7 +187,7 @@ fn export_default(
 
 fn export_statement(
     alloc: Global,
-    tokens: &[Lexeme],
+    tokens: &LexemeList,
     tree: &mut Tree,
     turns: usize,
     at: usize,
@@ -194,7 +201,7 @@ fn export_statement(
 // Behind `export`.
 fn export_form(
     alloc: Global,
-    tokens: &[Lexeme],
+    tokens: &LexemeList,
     tree: &mut Tree,
     turns: usize,
     at: usize,
@@ -214,7 +221,7 @@ fn export_form(
 
 fn item(
     alloc: Global,
-    tokens: &[Lexeme],
+    tokens: &LexemeList,
     tree: &mut Tree,
     turns: usize,
     at: usize,
@@ -237,14 +244,15 @@ fn item(
 /// One more item, or the end of the module.
 pub(crate) fn item_step(
     alloc: Global,
-    tokens: &[Lexeme],
+    tokens: &LexemeList,
     tree: &mut Tree,
     turns: usize,
     at: usize,
 ) -> Result<(Option<ItemNode>, usize), Stop>
     ensures { ReadsItemStep tree.old tree.new result (read.item_step tokens.now turns at) }
 {
-    if at >= tokens.len() {
+    let count = tokens.len();
+    if at >= count {
         return Ok((None, at));
     }
     let (node, behind) = item(alloc, tokens, tree, turns, at)?;

@@ -11,17 +11,18 @@ use crate::errors::has_early_error;
 use crate::items::item_step;
 use bumpalo::Bump;
 use esm_base::{MAX_FILE_BYTES, ReadEnd, TextFault};
-use esm_lexer::{lexemes, nests_too_deep};
+use esm_lexer::{LexemeList, lexemes, nests_too_deep};
 use esm_parse_expr::Stop;
-use esm_tree::{Lexeme, Tree};
+use esm_tree::Tree;
 use std::alloc::Global;
 
 // The items from the first token up to the last.
-fn items(alloc: Global, tokens: &[Lexeme]) -> Result<Tree, Stop>
+fn items(alloc: Global, tokens: &LexemeList) -> Result<Tree, Stop>
     ensures { ReadsModule result (module_items tokens.now) }
 {
-    let turns = tokens.len() + 2;
-    let mut tree = Tree::new(alloc);
+    let count = tokens.len();
+    let turns = count + 2;
+    let mut tree = Tree::with_room(alloc, count)?;
     let mut next = 0;
     'turns: for _turn in 0..turns {
         let (one, behind) = item_step(alloc, tokens, &mut tree, turns, next)?;
@@ -35,7 +36,7 @@ fn items(alloc: Global, tokens: &[Lexeme]) -> Result<Tree, Stop>
 }
 
 // Reads the tree that the tokens of a text derive, which are whole or end at a place where no token can be read.
-fn tree_of(alloc: Global, tokens: &[Lexeme], whole: bool) -> Result<Tree, ReadEnd>
+fn tree_of(alloc: Global, tokens: &LexemeList, whole: bool) -> Result<Tree, ReadEnd>
     ensures { (bytes : List ℕ) → length bytes ≤ MAX_FILE_BYTES → AreTokens bytes tokens.now whole →
         MatchResult result (λ tree. Derives bytes tree.items) (IsRefusedFor bytes) }
 {

@@ -8,15 +8,17 @@ ghost use Rattle.esm_parse_mod.specs.Inner.Lists.{GoesOn, ReadsSame, ReadsList, 
 
 use crate::bindings::end;
 use esm_base::{Memory, Text};
+use esm_lexer::LexemeList;
 use esm_parse_expr::Stop;
 use esm_parse_expr::tokens::{is_name_at, is_word_at, sees, text};
-use esm_tree::{ExportSpecifier, ImportBinding, Lexeme, Terminal, Wanted};
+use esm_tree::{ExportSpecifier, ImportBinding, Terminal, Wanted};
 use std::alloc::Global;
 
 /// Whether the token at a place is a word or a string. ECMA-262, ModuleExportName.
-pub(crate) fn is_export_name(tokens: &[Lexeme], at: usize) -> bool
+pub(crate) fn is_export_name(tokens: &LexemeList, at: usize) -> bool
     ensures value { result ≡ grammar.is_export_name (terminal_at tokens.now at) }
     ensures there { result ≡ true → at < length tokens.now }
+    ensures small { result ≡ true → at < 9223372036854775807 }
 {
     if sees(tokens, at, Terminal::Literal) {
         return true;
@@ -25,7 +27,7 @@ pub(crate) fn is_export_name(tokens: &[Lexeme], at: usize) -> bool
 }
 
 // The place at which the list goes on behind an element: behind a comma, or at the closing sign.
-fn after(tokens: &[Lexeme], close: Terminal, at: usize) -> Result<usize, Stop>
+fn after(tokens: &LexemeList, close: Terminal, at: usize) -> Result<usize, Stop>
     requires { close ≢ Terminal.End }
     ensures { GoesOn tokens.now close at result }
 {
@@ -39,7 +41,7 @@ fn after(tokens: &[Lexeme], close: Terminal, at: usize) -> Result<usize, Stop>
     }
 }
 
-fn parameter(alloc: Global, tokens: &[Lexeme], at: usize) -> Result<(Text, usize), Stop>
+fn parameter(alloc: Global, tokens: &LexemeList, at: usize) -> Result<(Text, usize), Stop>
     ensures { ReadsSame result (read.parameter tokens.now at) }
 {
     if !is_name_at(tokens, at) {
@@ -51,7 +53,7 @@ fn parameter(alloc: Global, tokens: &[Lexeme], at: usize) -> Result<(Text, usize
 
 fn parameter_step(
     alloc: Global,
-    tokens: &[Lexeme],
+    tokens: &LexemeList,
     at: usize,
 ) -> Result<(Option<Text>, usize), Stop>
     ensures { ReadsSame result (read.listed_step tokens.now
@@ -68,7 +70,7 @@ fn parameter_step(
 /// The parameters behind `(`, and the place behind `)`.
 pub(crate) fn parameters(
     alloc: Global,
-    tokens: &[Lexeme],
+    tokens: &LexemeList,
     turns: usize,
     at: usize,
 ) -> Result<(Vec<Text>, usize), Stop>
@@ -88,7 +90,7 @@ pub(crate) fn parameters(
     Err(Stop::Fault)
 }
 
-fn imported(alloc: Global, tokens: &[Lexeme], at: usize) -> Result<(ImportBinding, usize), Stop>
+fn imported(alloc: Global, tokens: &LexemeList, at: usize) -> Result<(ImportBinding, usize), Stop>
     ensures { ReadsSame result (read.imported_name tokens.now at) }
 {
     if !is_export_name(tokens, at) {
@@ -113,7 +115,7 @@ fn imported(alloc: Global, tokens: &[Lexeme], at: usize) -> Result<(ImportBindin
 
 fn imported_step(
     alloc: Global,
-    tokens: &[Lexeme],
+    tokens: &LexemeList,
     at: usize,
 ) -> Result<(Option<ImportBinding>, usize), Stop>
     ensures { ReadsSame result (read.listed_step tokens.now
@@ -130,7 +132,7 @@ fn imported_step(
 // The imported names behind `{`, after those that are there, and the place behind `}`.
 fn imported_names(
     alloc: Global,
-    tokens: &[Lexeme],
+    tokens: &LexemeList,
     turns: usize,
     at: usize,
     before: Vec<ImportBinding>,
@@ -151,7 +153,7 @@ fn imported_names(
     Err(Stop::Fault)
 }
 
-fn exported(alloc: Global, tokens: &[Lexeme], at: usize) -> Result<(ExportSpecifier, usize), Stop>
+fn exported(alloc: Global, tokens: &LexemeList, at: usize) -> Result<(ExportSpecifier, usize), Stop>
     ensures { ReadsSame result (read.exported_name tokens.now at) }
 {
     if !is_export_name(tokens, at) {
@@ -186,7 +188,7 @@ fn exported(alloc: Global, tokens: &[Lexeme], at: usize) -> Result<(ExportSpecif
 
 fn exported_step(
     alloc: Global,
-    tokens: &[Lexeme],
+    tokens: &LexemeList,
     at: usize,
 ) -> Result<(Option<ExportSpecifier>, usize), Stop>
     ensures { ReadsSame result (read.listed_step tokens.now
@@ -203,7 +205,7 @@ fn exported_step(
 /// The exported names behind `{`, and the place behind `}`.
 pub(crate) fn exported_names(
     alloc: Global,
-    tokens: &[Lexeme],
+    tokens: &LexemeList,
     turns: usize,
     at: usize,
 ) -> Result<(Vec<ExportSpecifier>, usize), Stop>
@@ -224,10 +226,11 @@ pub(crate) fn exported_names(
 }
 
 // The name behind `* as`.
-fn space(alloc: Global, tokens: &[Lexeme], at: usize) -> Result<(ImportBinding, usize), Stop>
+fn space(alloc: Global, tokens: &LexemeList, at: usize) -> Result<(ImportBinding, usize), Stop>
     requires { at < length tokens.now }
     ensures { ReadsSame result (read.space tokens.now at) }
 {
+    let _ = tokens.len();
     if !sees(tokens, at + 1, Terminal::As) {
         return Err(Stop::Fault);
     }
@@ -242,7 +245,7 @@ fn space(alloc: Global, tokens: &[Lexeme], at: usize) -> Result<(ImportBinding, 
 // `* as NAME`, or names in braces, after those that are there.
 fn names(
     alloc: Global,
-    tokens: &[Lexeme],
+    tokens: &LexemeList,
     turns: usize,
     at: usize,
     before: Vec<ImportBinding>,
@@ -272,7 +275,7 @@ fn default_name(alloc: Global) -> Result<Wanted, Memory>
 /// What an import declares, and the place behind it. ECMA-262, ImportClause.
 pub(crate) fn clause(
     alloc: Global,
-    tokens: &[Lexeme],
+    tokens: &LexemeList,
     turns: usize,
     at: usize,
 ) -> Result<(Vec<ImportBinding>, usize), Stop>
@@ -292,7 +295,7 @@ pub(crate) fn clause(
 }
 
 /// `from SPECIFIER`, up to the end. ECMA-262, FromClause.
-pub(crate) fn from(alloc: Global, tokens: &[Lexeme], at: usize) -> Result<(Text, usize), Stop>
+pub(crate) fn from(alloc: Global, tokens: &LexemeList, at: usize) -> Result<(Text, usize), Stop>
     ensures { ReadsSame result (read.from tokens.now at) }
 {
     if !sees(tokens, at, Terminal::From) {

@@ -9,9 +9,10 @@ ghost use Rattle.esm_parse_mod.specs.Inner.Outcome.{ReadsStmt, ReadsStmts, Reads
 ghost use Rattle.esm_parse_mod.specs.Inner.Nests.{Nests};
 
 use crate::bindings::{at_end, declaration, end, init};
+use esm_lexer::LexemeList;
 use esm_parse_expr::tokens::{is_name_at, newline_at, sees, terminal, text};
 use esm_parse_expr::{Stop, expr, operand};
-use esm_tree::{Lexeme, StmtId, StmtNode, Terminal, Tree};
+use esm_tree::{StmtId, StmtNode, Terminal, Tree};
 use std::alloc::Global;
 
 /// How many turns a list may take, and whether it is read in a function's body.
@@ -38,7 +39,7 @@ pub(crate) fn add(tree: &mut Tree, node: StmtNode, behind: usize) -> Result<(Stm
 }
 
 #[tactic(auto, unfolding(esm_grammar::specs::Statements::is_assign))]
-fn is_assign(tokens: &[Lexeme], at: usize) -> bool
+fn is_assign(tokens: &LexemeList, at: usize) -> bool
     ensures value { result ≡ grammar.is_assign tokens.now at }
     ensures there { result ≡ true → at < length tokens.now }
 {
@@ -46,7 +47,7 @@ fn is_assign(tokens: &[Lexeme], at: usize) -> bool
 }
 
 #[tactic(auto, unfolding(esm_grammar::specs::Statements::is_print_await))]
-fn is_print_await(tokens: &[Lexeme], at: usize) -> bool
+fn is_print_await(tokens: &LexemeList, at: usize) -> bool
     ensures value { result ≡ grammar.is_print_await tokens.now at }
     ensures there { result ≡ true → at < length tokens.now }
 {
@@ -56,7 +57,7 @@ fn is_print_await(tokens: &[Lexeme], at: usize) -> bool
 }
 
 #[tactic(auto, unfolding(esm_grammar::specs::Statements::no_value))]
-fn has_no_value(tokens: &[Lexeme], at: usize) -> bool
+fn has_no_value(tokens: &LexemeList, at: usize) -> bool
     ensures value { result ≡ grammar.no_value tokens.now at }
 {
     newline_at(tokens, at)
@@ -67,7 +68,7 @@ fn has_no_value(tokens: &[Lexeme], at: usize) -> bool
 
 fn assign(
     alloc: Global,
-    tokens: &[Lexeme],
+    tokens: &LexemeList,
     tree: &mut Tree,
     room: Room,
     at: usize,
@@ -76,6 +77,7 @@ fn assign(
     ensures { ReadsStmt tree.old tree.new result
         (read.assign tokens.now room.turns room.inside at) }
 {
+    let _ = tokens.len();
     let name = text(alloc, tokens, at)?;
     let (value, behind) = init(alloc, tokens, tree, room, at + 2)?;
     let behind = end(tokens, behind, false)?;
@@ -84,7 +86,7 @@ fn assign(
 
 fn thrown(
     alloc: Global,
-    tokens: &[Lexeme],
+    tokens: &LexemeList,
     tree: &mut Tree,
     room: Room,
     at: usize,
@@ -93,6 +95,7 @@ fn thrown(
     ensures { ReadsStmt tree.old tree.new result
         (read.thrown tokens.now room.turns room.inside at) }
 {
+    let _ = tokens.len();
     if newline_at(tokens, at + 1) {
         return Err(Stop::Fault);
     }
@@ -103,7 +106,7 @@ fn thrown(
 
 fn returned(
     alloc: Global,
-    tokens: &[Lexeme],
+    tokens: &LexemeList,
     tree: &mut Tree,
     room: Room,
     at: usize,
@@ -112,6 +115,7 @@ fn returned(
     ensures { ReadsStmt tree.old tree.new result
         (read.returned tokens.now room.turns room.inside at) }
 {
+    let _ = tokens.len();
     if !room.inside {
         return Err(Stop::Fault);
     }
@@ -126,7 +130,7 @@ fn returned(
 
 fn await_statement(
     alloc: Global,
-    tokens: &[Lexeme],
+    tokens: &LexemeList,
     tree: &mut Tree,
     room: Room,
     at: usize,
@@ -135,6 +139,7 @@ fn await_statement(
     ensures { ReadsStmt tree.old tree.new result
         (read.await_statement tokens.now room.turns room.inside at) }
 {
+    let _ = tokens.len();
     if room.inside {
         return Err(Stop::Fault);
     }
@@ -145,7 +150,7 @@ fn await_statement(
 
 fn print_await(
     alloc: Global,
-    tokens: &[Lexeme],
+    tokens: &LexemeList,
     tree: &mut Tree,
     room: Room,
     at: usize,
@@ -154,6 +159,7 @@ fn print_await(
     ensures { ReadsStmt tree.old tree.new result
         (read.print_await tokens.now room.turns room.inside at) }
 {
+    let _ = tokens.len();
     if room.inside {
         return Err(Stop::Fault);
     }
@@ -167,7 +173,7 @@ fn print_await(
 
 fn expression(
     alloc: Global,
-    tokens: &[Lexeme],
+    tokens: &LexemeList,
     tree: &mut Tree,
     room: Room,
     at: usize,
@@ -196,11 +202,11 @@ pub struct BlockReader<F> {
 }
 
 impl<
-    F: Fn(Global, &[Lexeme], &mut Tree, Room, usize, usize) -> Result<(Vec<StmtId>, usize), Stop>,
+    F: Fn(Global, &LexemeList, &mut Tree, Room, usize, usize) -> Result<(Vec<StmtId>, usize), Stop>,
 > BlockReader<F> {
     fn block(
         &self,
-        tokens: &[Lexeme],
+        tokens: &LexemeList,
         tree: &mut Tree,
         at: usize,
     ) -> Result<(Vec<StmtId>, usize), Stop>
@@ -212,7 +218,12 @@ impl<
         (self.block)(self.alloc, tokens, tree, self.room, self.depth, at)
     }
 
-    fn choice(&self, tokens: &[Lexeme], tree: &mut Tree, at: usize) -> Result<(StmtId, usize), Stop>
+    fn choice(
+        &self,
+        tokens: &LexemeList,
+        tree: &mut Tree,
+        at: usize,
+    ) -> Result<(StmtId, usize), Stop>
         requires nests { Nests self.now.room self.now.depth
             (F.pre self.now.block) (F.post self.now.block) }
         requires there { at < length tokens.now }
@@ -220,6 +231,7 @@ impl<
             (read.choice tokens.now self.now.room.turns self.now.room.inside
             (read.block tokens.now self.now.room.turns self.now.room.inside self.now.depth) at) }
     {
+        let _ = tokens.len();
         if !sees(tokens, at + 1, Terminal::Open) {
             return Err(Stop::Fault);
         }
@@ -235,7 +247,12 @@ impl<
         add(tree, StmtNode::If(condition, then), behind)
     }
 
-    fn tried(&self, tokens: &[Lexeme], tree: &mut Tree, at: usize) -> Result<(StmtId, usize), Stop>
+    fn tried(
+        &self,
+        tokens: &LexemeList,
+        tree: &mut Tree,
+        at: usize,
+    ) -> Result<(StmtId, usize), Stop>
         requires nests { Nests self.now.room self.now.depth
             (F.pre self.now.block) (F.post self.now.block) }
         requires there { at < length tokens.now }
@@ -243,6 +260,7 @@ impl<
             (read.tried tokens.now self.now.room.turns self.now.room.inside
             (read.block tokens.now self.now.room.turns self.now.room.inside self.now.depth) at) }
     {
+        let _ = tokens.len();
         let (body, behind) = self.block(tokens, tree, at + 1)?;
         if !sees(tokens, behind, Terminal::Catch) {
             return Err(Stop::Fault);
@@ -264,7 +282,7 @@ impl<
 
     pub fn statement(
         &self,
-        tokens: &[Lexeme],
+        tokens: &LexemeList,
         tree: &mut Tree,
         at: usize,
     ) -> Result<(StmtId, usize), Stop>
@@ -300,7 +318,7 @@ impl<
     // One more statement of a block, or its end.
     fn step(
         &self,
-        tokens: &[Lexeme],
+        tokens: &LexemeList,
         tree: &mut Tree,
         at: usize,
     ) -> Result<(Option<StmtId>, usize), Stop>
@@ -319,7 +337,7 @@ impl<
 
     pub fn statements(
         &self,
-        tokens: &[Lexeme],
+        tokens: &LexemeList,
         tree: &mut Tree,
         at: usize,
     ) -> Result<(Vec<StmtId>, usize), Stop>
@@ -347,7 +365,7 @@ impl<
 /// The block at a place, up to so many blocks deep.
 pub fn block(
     alloc: Global,
-    tokens: &[Lexeme],
+    tokens: &LexemeList,
     tree: &mut Tree,
     room: Room,
     depth: usize,
@@ -374,7 +392,7 @@ pub fn block(
 /// The statement at a place, with blocks up to so many deep.
 pub fn statement(
     alloc: Global,
-    tokens: &[Lexeme],
+    tokens: &LexemeList,
     tree: &mut Tree,
     room: Room,
     depth: usize,

@@ -1,6 +1,6 @@
 -- Reading the command-line arguments.
 use Rattle.std.proofs.Common.{◌≡◌, ◌≢◌, ap, subst, refl, List, [], ◌∷◌, length, map, arith}
-use Rattle.std.specs.Prelude.{codes, Option, Some, None, Bool, true, false, ◌&&◌, bytes_eq, string_bytes, String, if◌then◌else◌}
+use Rattle.std.specs.Prelude.{Option, Some, None, Bool, true, false, ◌&&◌, string_bytes, String, if◌then◌else◌}
 use Rattle.url.specs.Parts.{Parts, serialize}
 use Rattle.esm_base.specs.Urls.{Text, is_usable, url_of}
 use Rattle.esm_run.specs.declared.arguments.Command.{Command}

@@ -1,7 +1,6 @@
 -- The import map of a command is one.
-use mathlib.Core.Bool.{true≢false}
-use Rattle.std.proofs.Common.{◌≡◌, ◌≢◌, ◌<◌, ◌≤◌, ◌∙◌, ap, sym, subst, refl, ℕ, List, [], ◌∷◌, ◌++◌, length, take, arith, Bool, true, false, inr}
-use Rattle.std.specs.Prelude.{Option, Some, None, Result, Ok, Err, IfSome, IsSomeAnd, nat_le, ◌&&◌}
+use Rattle.std.proofs.Common.{◌≡◌, ◌<◌, ◌≤◌, ◌∙◌, ap, sym, subst, refl, ℕ, List, [], ◌∷◌, ◌++◌, length, take, arith, Bool, true, false, inr}
+use Rattle.std.specs.Prelude.{Option, Some, None, Result, Ok, Err, IsSomeAnd, nat_le}
 use Rattle.std.proofs.lemmas.Bool.Decides.{nat_tests}
 use Rattle.std.proofs.lemmas.List.{take_all, length-take-le}
 use Rattle.url.specs.Parts.{Parts}
@@ -13,13 +12,10 @@ use Rattle.esm_base.specs.Ends.{Gives}
 use Rattle.esm_ports.specs.declared.asked.Asked.{Asked}
 use Rattle.esm_ports.specs.declared.asked.AskKind.{AskKind}
 use Rattle.esm_ports.specs.declared.asked.AskKind.TheVariants.{Body, Absent, Failed}
-use Rattle.esm_ports.specs.Asks.{asks_with}
 use Rattle.esm_import_map.specs.ImportMap.{Maps, no_maps}
 use Rattle.esm_import_map.specs.Reading.{import_map_of, json_of, of_json}
 use Rattle.esm_run.specs.Inner.MapReading.{FetchesMap}
-use Rattle.esm_run.specs.Taken.{Contents}
 use Rattle.esm_run.specs.declared.command_map.MapRefusal.{MapRefusal}
-use Rattle.esm_run.specs.declared.command_map.MapRefusal.TheVariants.{NotFetched, NotRead}
 use Rattle.esm_run.specs.CommandMap.{DeskChange, WasAsked, AreHeld, map_said, said_by, ReadsMap, NoFile, NoAnswer, Read, MapBy, HoldsMap, KnownBy}
 
 nat_le-true : (a b : ℕ) → nat_le a b ≡ true → a ≤ b

@@ -1,5 +1,5 @@
 -- The import map of a command: what the desk is asked, and what comes of it.
-use Rattle.std.specs.Prelude.{◌≡◌, ◌≢◌, ◌⊎◌, ℕ, List, ◌∷◌, [], ◌++◌, codes, take, Option, Some, None, IfSome, IsSomeAnd, Result, Ok, Err}
+use Rattle.std.specs.Prelude.{◌≡◌, ℕ, List, ◌++◌, codes, take, Option, Some, None, IfSome, IsSomeAnd, Result, Ok, Err}
 use Rattle.url.specs.Parts.{Parts}
 use Rattle.esm_base.specs.Urls.{Text, Url}
 use Rattle.esm_base.specs.declared.limits.TheConstants.{MAX_BODY_BYTES}
@@ -14,7 +14,7 @@ use Rattle.esm_import_map.specs.Reading.{import_map_of}
 use Rattle.esm_run.specs.declared.arguments.Command.{Command}
 use Rattle.esm_run.specs.declared.command_map.MapRefusal.{MapRefusal}
 use Rattle.esm_run.specs.declared.command_map.MapRefusal.TheVariants.{NotFetched, NotRead}
-use Rattle.esm_run.specs.Taken.{Contents}
+use Rattle.esm_fetch.specs.Answered.{Contents}
 
 -- what contracts see of the desk as a call begins and at its return: what it was asked, and what it holds, where it
 -- tells

@@ -1,14 +1,10 @@
 -- What a run took, and what the sources were asked.
-use Rattle.std.specs.Prelude.{◌≡◌, ◌≢◌, ℕ, List, map, Option, None, IfSome, IsSomeAnd, take, drop, Any, All, AllPairs, Contains, flat_map, true, ⊤}
-use Rattle.esm_base.specs.declared.limits.TheConstants.{MAX_BODY_BYTES}
+use Rattle.std.specs.Prelude.{◌≡◌, ◌≢◌, List, map, Option, IfSome, drop, Any, All, AllPairs, Contains, flat_map, true}
 use Rattle.esm_ports.specs.declared.asked.Asked.{Asked}
-use Rattle.esm_ports.specs.declared.asked.AskKind.{AskKind}
-use Rattle.esm_ports.specs.declared.asked.AskKind.TheVariants.{Body, Absent, Failed}
-use Rattle.esm_grammar.specs.ModuleText.{Spells, FaultOf}
-use Rattle.esm_ast.specs.Outcome as fetched
-use Rattle.esm_ast.specs.Outcome.{OutcomeView, outcome_view}
+use Rattle.esm_ast.specs.Outcome.{outcome_view}
 use Rattle.esm_base.specs.Urls.{has}
-use Rattle.esm_turn.specs.Run.{Delivery, completed, Shown, StandardRun}
+use Rattle.esm_fetch.specs.Answered.{Contents, kind_of, IsToldOutcome}
+use Rattle.esm_turn.specs.Run.{Delivery, completed, Shown}
 use Rattle.esm_run.specs.declared.report.Delivery as report
 
 -- the delivery as the standard run takes it
@@ -17,24 +13,6 @@ delivery_of taken = completed taken.url (outcome_view taken.outcome)
 
 abbrev pub deliveries_of : List report.Delivery → List Delivery
 deliveries_of taken = map delivery_of taken
-
--- how the ask was answered
-abbrev pub kind_of : OutcomeView → AskKind
-kind_of (fetched.Script text) = Body
-kind_of (fetched.Broken broken) = Body
-kind_of fetched.Absent = Absent
-kind_of fetched.Failed = Failed
-
--- what a source holds for each URL
-abbrev pub Contents : Type 0
-Contents = List ℕ → Option (List ℕ)
-
--- the outcome is that of a source with these contents
-abbrev pub IsToldOutcome : Contents → List ℕ → OutcomeView → Type 0
-IsToldOutcome contents url (fetched.Script text) = IsSomeAnd (contents url) (λ bytes. text.bytes ≡ take MAX_BODY_BYTES bytes)
-IsToldOutcome contents url (fetched.Broken broken) = IsSomeAnd (contents url) (λ bytes. broken.bytes ≡ take MAX_BODY_BYTES bytes)
-IsToldOutcome contents url fetched.Absent = contents url ≡ None
-IsToldOutcome contents url fetched.Failed = ⊤
 
 -- where the source tells what it holds, the delivery is of that
 abbrev pub IsTold : Option Contents → Delivery → Type 0
@@ -63,10 +41,3 @@ pub record IsAskedOnce {S : Type 0} (asked_of : S → List Asked) (holds_of : S 
 -- each URL that was asked for is one that the standard run of what was taken asks for
 abbrev pub AreStandardAsks : {S : Type 0} → (S → List Asked) → Shown → List S → Type 0
 AreStandardAsks asked_of what sources = All (λ ask. has what.asked ask.url ≡ true) (flat_map asked_of sources)
-
--- a delivered body is what its bytes are read as
-abbrev pub IsRead : OutcomeView → Type 0
-IsRead (fetched.Script text) = Spells text.bytes text.items
-IsRead (fetched.Broken broken) = FaultOf broken.bytes broken.fault
-IsRead fetched.Absent = ⊤
-IsRead fetched.Failed = ⊤

@@ -7,10 +7,10 @@ ghost use Rattle.esm_turn.specs.Represents.{RepresentsOn, asks_of, Represents};
 ghost use Rattle.esm_run.specs.Taken.{deliveries_of};
 ghost use Rattle.esm_run.specs.Inner.Driving.{IsAmong, IsOpenAsk, Drives, DrivesOn, IsDriven};
 
-use crate::fetch::fetch_outcome;
 use crate::report::Delivery;
 use esm_ast::Outcome;
 use esm_base::{Memory, Text};
+use esm_fetch::fetch_outcome;
 use esm_import_map::ImportMap;
 use esm_ports::Source;
 use esm_turn::{Machine, TurnEnd, laws};

@@ -133,13 +133,13 @@ returns-in-Group-clause-keeps g c =
 pub returns-in-Some-clause-tells : goal.returns-in-Some-clause-tells
 returns-in-Some-clause-tells g c =
     let node = rw c.in-Print.is at c.expr.ensures in
-    let id = (rw c.deref.ensures.value at c.in-Some.ensures.next) c.args.tree.now.exprs c.args.id.0 node.below in
+    let id = (rw c.as_slice.ensures at c.in-Some.ensures.next) c.args.tree.now.exprs c.args.id.0 node.below in
     steps.begun_tells g.W.World.url_of g.W.World.acts c.args.tree.now.exprs c.args.frames.now.items _ _ _ (f.Print c.args.id 1 c.new.result) c.in-Some.first _ (steps.print_begun c.args.tree.now.exprs c.args.id c.in-Some.first _ c.new.result node.node c.new.ensures.items id.1) c.begin_in-in-Some.ensures
 
 pub returns-in-Some-clause-keeps : goal.returns-in-Some-clause-keeps
 returns-in-Some-clause-keeps g c =
     let node = rw c.in-Print.is at c.expr.ensures in
-    let id = (rw c.deref.ensures.value at c.in-Some.ensures.next) c.args.tree.now.exprs c.args.id.0 node.below in
+    let id = (rw c.as_slice.ensures at c.in-Some.ensures.next) c.args.tree.now.exprs c.args.id.0 node.below in
     let a = c.requires.id in
     let b = id.0 in
     let m = steps.operand_work id.1 in
@@ -148,7 +148,7 @@ returns-in-Some-clause-keeps g c =
 pub returns-in-None-clause-tells : goal.returns-in-None-clause-tells
 returns-in-None-clause-tells g c =
     let node = rw c.in-Print.is at c.expr.ensures in
-    let nothing = (rw c.deref.ensures.value at c.in-None.ensures.next) c.args.tree.now.exprs c.args.id.0 node.below in
+    let nothing = (rw c.as_slice.ensures at c.in-None.ensures.next) c.args.tree.now.exprs c.args.id.0 node.below in
     let called = rw c.new-in-None.ensures.items at c.print.ensures in
     rw (node.node, nothing) (steps.printed_tells g.W.World.url_of g.W.World.acts c.args.tree.now.exprs c.args.frames.now.items _ _ [] _ called)
 

@@ -35,7 +35,7 @@ returns-in-Some-clause-tells g c =
     let s = sym c.index-links-next.is ∙ c.in-Call.is in
     let it = links_stand c.args.tree.now.exprs _ c.links-links.result.now _ c.args.next c.links-links.ensures.links c.if-next-links.true s in
     let below = below_is c.args.at.0 c.links-links.result.now _ c.args.next c.links-links.ensures.below c.if-next-links.true s in
-    let id = (rw c.deref.ensures.value at c.in-Some.ensures.next) c.args.tree.now.exprs c.args.at.0 below in
+    let id = (rw c.as_slice.ensures at c.in-Some.ensures.next) c.args.tree.now.exprs c.args.at.0 below in
     steps.begins_tells g.W.World.url_of g.W.World.acts c.args.tree.now.exprs c.args.frames.now.items _ _ _ (f.Arguments c.args.at c.args.next 1 c.args.value c.new.result) c.in-Some.id _ (steps.argument_first g.W.World.url_of g.W.World.acts c.args.tree.now.exprs c.args.frames.now.items _ c.args.at c.args.next c.args.value c.new.result c.in-Some.id (parts c.args.tree.now.exprs c.in-Call.ids.items) c.new.ensures.items it id.1) c.begin_in.ensures
 
 pub returns-in-Some-clause-keeps : goal.returns-in-Some-clause-keeps
@@ -43,7 +43,7 @@ returns-in-Some-clause-keeps g c =
     let s = sym c.index-links-next.is ∙ c.in-Call.is in
     let it = links_stand c.args.tree.now.exprs _ c.links-links.result.now _ c.args.next c.links-links.ensures.links c.if-next-links.true s in
     let below = below_is c.args.at.0 c.links-links.result.now _ c.args.next c.links-links.ensures.below c.if-next-links.true s in
-    let id = (rw c.deref.ensures.value at c.in-Some.ensures.next) c.args.tree.now.exprs c.args.at.0 below in
+    let id = (rw c.as_slice.ensures at c.in-Some.ensures.next) c.args.tree.now.exprs c.args.at.0 below in
     let b = id.0 in
     let a = c.requires.at in
     let k = steps.call_work it in
@@ -55,7 +55,7 @@ returns-in-None-clause-tells g c =
     let s = sym c.index-links-next.is ∙ c.in-Call.is in
     let it = links_stand c.args.tree.now.exprs _ c.links-links.result.now _ c.args.next c.links-links.ensures.links c.if-next-links.true s in
     let below = below_is c.args.at.0 c.links-links.result.now _ c.args.next c.links-links.ensures.below c.if-next-links.true s in
-    let nothing = (rw c.deref.ensures.value at c.in-None.ensures.next) c.args.tree.now.exprs c.args.at.0 below in
+    let nothing = (rw c.as_slice.ensures at c.in-None.ensures.next) c.args.tree.now.exprs c.args.at.0 below in
     let called = rw c.new-in-None.ensures.items at c.call.ensures in
     rw (it, nothing) (steps.called_tells g.W.World.url_of g.W.World.acts c.args.tree.now.exprs c.args.frames.now.items _ _ _ c.args.at (c.args.next + 1) (value_of c.args.value) _ _ called)
 

@@ -5,7 +5,7 @@ use Rattle.esm_lexer.proofs.LexLemmas.{scan_begins, scan_blank, scan_token, scan
 use Rattle.esm_lexer.proofs.scan.scan.Goals as goal
 
 pub loop-at-init : goal.loop-at-init
-loop-at-init c = (search rules, scan_begins _ _ _ _ c.requires.source c.new-found.ensures.items)
+loop-at-init c = (search rules, scan_begins _ _ _ _ c.requires.source c.new-found.ensures)
 
 -- the text of what is left
 source_is : (text left : List ℕ) (at : ℕ) → left ≡ encode_utf8_all (drop at text) → left ≡ encode_utf8_all (take (length text - at) (drop at text))
@@ -28,7 +28,7 @@ loop-at-preserved-in-Some c =
     let within = rw (range_is l.at text) at c.in-Some.ensures.within in
     let behind = rw (range_is l.at text) at c.front.ensures.behind in (
       search rules,
-      scan_blank c.args.total text l.at _ c.in-Some.n _ l.newline c.in-Some.ends_line _ _ l.invariant.1 value (omega (arith, within.1, length-drop l.at text)) behind c.either-newline.ensures,
+      scan_blank (length c.args.bytes.now) text l.at _ c.in-Some.n _ l.newline c.in-Some.ends_line _ _ l.invariant.1 value (omega (arith, within.1, length-drop l.at text)) behind c.either-newline.ensures,
     )
 
 pub loop-at-preserved : goal.loop-at-preserved
@@ -39,8 +39,8 @@ loop-at-preserved c =
     let found = rw (c.in-Some-2.is, range_is l.at text) at c.in_ok-token-in-None.ensures in
     let behind = rw (range_is l.at text) at c.front-in-Some-2.ensures.behind in (
       search rules,
-      scan_token c.args.total text l.at _ c.in-Some-2.token.len _ l.newline _ _ _ _ _ l.invariant.1 none found behind (omega (arith, found.within, length-drop l.at text))
-          (rw (← c.saturating_sub.ensures, ← c.saturating_sub-in-Some-2.ensures, ← c.new.ensures) c.in_ok-push-in-Some-2.ensures.items),
+      scan_token (length c.args.bytes.now) text l.at _ c.in-Some-2.token.len _ l.newline _ _ _ _ _ l.invariant.1 none found behind (omega (arith, found.within, length-drop l.at text))
+          (rw (← c.saturating_sub.ensures, ← c.saturating_sub-in-Some-2.ensures, ← c.new.ensures) c.in_ok-push-in-Some-2.ensures.ok),
     )
 
 pub returns-in-None-2 : goal.returns-in-None-2
@@ -49,10 +49,10 @@ returns-in-None-2 c =
     let l = c.loop-at in
     let none = rw (range_is l.at text) at c.in-None.ensures.value in
     let stuck = rw (c.in-None-2.is, range_is l.at text) at c.in_ok-token-in-None.ensures in
-    scan_stuck c.args.total text l.at _ l.newline _ _ _ l.invariant.1 (at_is text l.at (get_or text l.at 0) c.loop-at-test.true (get_or_default text l.at 0 (get_or text l.at 0) c.loop-at-test.true)) none stuck
+    scan_stuck (length c.args.bytes.now) text l.at _ l.newline _ _ _ l.invariant.1 (at_is text l.at (get_or text l.at 0) c.loop-at-test.true (get_or_default text l.at 0 (get_or text l.at 0) c.loop-at-test.true)) none stuck
 
 pub returns : goal.returns
 returns c =
     let text = c.args.text.now in
     let l = c.loop-at in
-    scan_ends c.args.total text l.at _ l.newline _ l.invariant.1 (past text l.at c.loop-at-test.false)
+    scan_ends (length c.args.bytes.now) text l.at _ l.newline _ l.invariant.1 (past text l.at c.loop-at-test.false)

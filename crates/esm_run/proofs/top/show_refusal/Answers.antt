@@ -1,8 +1,7 @@
-use Rattle.std.proofs.Common.{subst, ◌∙◌, refl}
+use Rattle.std.proofs.Common.{subst, ◌∙◌}
 use Rattle.std.specs.Prelude.{Some}
 use Rattle.esm_base.specs.declared.status.Status.TheVariants.{MapRefused}
-use Rattle.esm_run.specs.Written.{EndsWith, OutOfMemory, change_of}
-use Rattle.esm_run.proofs.ClauseLemmas.{nothing_written}
+use Rattle.esm_run.specs.Written.{EndsWith, change_of}
 use Rattle.esm_run.proofs.top.show_refusal.Goals as goal
 
 pub returns-in-Ok : goal.returns-in-Ok

@@ -1,0 +1,4 @@
+pub mod Answered
+pub mod Serving
+pub mod Pool
+pub mod Inner

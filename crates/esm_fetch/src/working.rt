@@ -1,0 +1,230 @@
+// A worker: it takes, fetches from its own source, reads, and posts, until the map is shut.
+ghost use Rattle.std.specs.Prelude.{◌≡◌, ◌⊎◌, ℕ, false, IfOk, OnOk, OnErr};
+ghost use Rattle.std.specs.Arc.{arc_value};
+ghost use Rattle.esm_ports.specs.declared.asked.AskKind.{AskKind};
+ghost use Rattle.esm_ports.specs.Asks.{asks_with};
+ghost use Rattle.esm_ast.specs.Outcome.{outcome_view};
+ghost use Rattle.esm_module_map.specs.Views.{view_in, table_of, Same};
+ghost use Rattle.esm_module_map.specs.Histories.{asks_by, takes_by, answers_by, shuts_by};
+ghost use Rattle.esm_module_map.specs.Saying.{Begins, ShutSays, IsOrderIn, IsShut};
+ghost use Rattle.esm_fetch.specs.Answered.{kind_of};
+ghost use Rattle.esm_fetch.specs.Serving.{weight, IsTrueAnswer, Serves, ServedBy, ServedIf, ShutBy, TurnSays};
+ghost use Rattle.esm_fetch.specs.Inner.Asking.{IsAsking, FilledBy};
+
+use crate::bell::Bell;
+use crate::fetch::fetch_outcome;
+use crate::posted::Posted;
+use esm_base::Memory;
+use esm_module_map::{Caller, ModuleMap, Order, Taken};
+use esm_ports::Source;
+use std::alloc::Global;
+use std::sync::{Arc, Wait};
+
+/// What a turn came to.
+#[derive(Clone, Copy, Debug, PartialEq, Eq)]
+pub enum Turned {
+    /// This number was posted.
+    Posted(u32),
+    /// There is nothing to take now.
+    NotYet,
+    /// The map is shut.
+    Closed,
+}
+
+/// A worker that has ended.
+#[derive(Drop)]
+pub struct WorkerEnd<S> {
+    /// Its source.
+    pub source: S,
+    /// Its caller.
+    pub caller: Caller<Posted>,
+    /// Memory ran out.
+    pub short: bool,
+}
+
+// Memory ran out: the map is shut, so that all end.
+fn give_up<R: Wait>(
+    rt: &R,
+    modules: &ModuleMap<Posted>,
+    bell: &Bell,
+    caller: &mut Caller<Posted>,
+) -> Memory
+    requires own { table_of modules.now.lock.table.shared.table_id caller.old.pass
+        ≡ modules.now.lock.table.shared.table_id }
+    ensures own { table_of modules.now.lock.table.shared.table_id caller.new.pass
+        ≡ modules.now.lock.table.shared.table_id }
+    ensures same { Same (view_in caller.old.pass) (view_in caller.new.pass)
+        × (caller.new.number ≡ caller.old.number) }
+    ensures begins { Begins (view_in caller.old.pass).seen (view_in caller.new.pass).seen }
+    ensures says { ShutSays weight caller.old.number (view_in caller.old.pass).seen
+        (view_in caller.new.pass).seen }
+    ensures shut { IsShut weight (view_in caller.new.pass).seen }
+{
+    modules.shut(rt, caller);
+    bell.ring(rt);
+    Memory
+}
+
+// Fetches and reads what was taken.
+fn fetch_order<S: Source>(
+    alloc: Global,
+    source: &mut S,
+    order: &Order,
+) -> Result<Arc<Posted, Global>, Memory>
+    ensures asked { IfOk result (λ p. S.asked source.new
+        ≡ asks_with (S.asked source.old) order.now.url
+        (kind_of (outcome_view (arc_value p).outcome))) }
+    ensures answer { IfOk result (λ p. (n : ℕ) → IsTrueAnswer (S.holds source.old)
+        (record { number = n; url = order.now.url; payload = arc_value p })) }
+    ensures holds { S.holds source.new ≡ S.holds source.old }
+    ensures memory { OnErr result ((S.asked source.new ≡ S.asked source.old)
+        ⊎ ((kind : AskKind)
+        × (S.asked source.new ≡ asks_with (S.asked source.old) order.now.url kind))) }
+{
+    let Ok(outcome) = fetch_outcome(alloc, source, order.url()) else {
+        return Err(Memory);
+    };
+    let Ok(payload) = Arc::new(alloc, Posted { outcome }) else {
+        return Err(Memory);
+    };
+    Ok(payload)
+}
+
+// Fetches, reads and posts what was taken.
+fn fill<R: Wait, S: Source>(
+    rt: &R,
+    alloc: Global,
+    modules: &ModuleMap<Posted>,
+    bell: &Bell,
+    caller: &mut Caller<Posted>,
+    source: &mut S,
+    order: Order,
+) -> Result<Turned, Memory>
+    requires own { table_of modules.now.lock.table.shared.table_id caller.old.pass
+        ≡ modules.now.lock.table.shared.table_id }
+    requires order { IsOrderIn weight (view_in caller.old.pass).seen caller.old.number
+        order.number order.url }
+    requires asking { IsAsking (S.holds source.old) (S.asked source.old)
+        (takes_by weight caller.old.number (view_in caller.old.pass).seen)
+        (answers_by weight caller.old.number (view_in caller.old.pass).seen) order.url }
+    ensures own { table_of modules.now.lock.table.shared.table_id caller.new.pass
+        ≡ modules.now.lock.table.shared.table_id }
+    ensures same { Same (view_in caller.old.pass) (view_in caller.new.pass)
+        × (caller.new.number ≡ caller.old.number) }
+    ensures begins { Begins (view_in caller.old.pass).seen (view_in caller.new.pass).seen }
+    ensures asks { asks_by weight caller.old.number (view_in caller.new.pass).seen
+        ≡ asks_by weight caller.old.number (view_in caller.old.pass).seen }
+    ensures holds { S.holds source.new ≡ S.holds source.old }
+    ensures served { ServedBy result (S.holds source.old) (S.asked source.new) caller.old.number
+        (view_in caller.new.pass).seen }
+    ensures shut { ShutBy result (view_in caller.new.pass).seen }
+    ensures shuts { OnOk result (shuts_by weight caller.old.number (view_in caller.new.pass).seen
+        ≡ shuts_by weight caller.old.number (view_in caller.old.pass).seen) }
+    ensures filled { FilledBy caller.old.number order.url (view_in caller.old.pass).seen result
+        (view_in caller.new.pass).seen }
+{
+    match fetch_order(alloc, source, &order) {
+        Ok(payload) => {
+            let number = order.number();
+            modules.post(rt, caller, order, payload);
+            bell.ring(rt);
+            Ok(Turned::Posted(number))
+        }
+        Err(_) => Err(give_up(rt, modules, bell, caller)),
+    }
+}
+
+/// Takes a number, fetches its URL from the source, reads it, and posts what came; then rings the bell. `NotYet` and
+/// `Closed` are those of the take; the source isn't asked then. Where memory runs out the map is shut, and at most one
+/// URL was taken and not posted.
+pub fn fetch_one<R: Wait, S: Source>(
+    rt: &R,
+    alloc: Global,
+    modules: &ModuleMap<Posted>,
+    bell: &Bell,
+    caller: &mut Caller<Posted>,
+    source: &mut S,
+) -> Result<Turned, Memory>
+    requires own { table_of modules.now.lock.table.shared.table_id caller.old.pass
+        ≡ modules.now.lock.table.shared.table_id }
+    requires served { Serves (S.holds source.old) (S.asked source.old) caller.old.number
+        (view_in caller.old.pass).seen }
+    ensures own { table_of modules.now.lock.table.shared.table_id caller.new.pass
+        ≡ modules.now.lock.table.shared.table_id }
+    ensures same { Same (view_in caller.old.pass) (view_in caller.new.pass)
+        × (caller.new.number ≡ caller.old.number) }
+    ensures begins { Begins (view_in caller.old.pass).seen (view_in caller.new.pass).seen }
+    ensures asks { asks_by weight caller.old.number (view_in caller.new.pass).seen
+        ≡ asks_by weight caller.old.number (view_in caller.old.pass).seen }
+    ensures holds { S.holds source.new ≡ S.holds source.old }
+    ensures served { ServedBy result (S.holds source.old) (S.asked source.new) caller.old.number
+        (view_in caller.new.pass).seen }
+    ensures shut { ShutBy result (view_in caller.new.pass).seen }
+    ensures shuts { OnOk result (shuts_by weight caller.old.number (view_in caller.new.pass).seen
+        ≡ shuts_by weight caller.old.number (view_in caller.old.pass).seen) }
+    ensures says { TurnSays caller.old.number (view_in caller.old.pass).seen result
+        (view_in caller.new.pass).seen }
+{
+    match modules.take(rt, alloc, caller) {
+        Ok(Taken::Order(order)) => fill(rt, alloc, modules, bell, caller, source, order),
+        Ok(Taken::NotYet) => Ok(Turned::NotYet),
+        Ok(Taken::Closed) => Ok(Turned::Closed),
+        Err(_) => Err(give_up(rt, modules, bell, caller)),
+    }
+}
+
+/// Takes, fetches, reads and posts, one URL after the other, until the map is shut or memory runs out, and waits on the
+/// bell where there is nothing to take. It comes back only with a shut map, and `short` says that memory ran out; where
+/// it isn't set, all that was taken is posted, and it wasn't this call that shut the map.
+pub fn worker<R: Wait, S: Source>(
+    rt: &R,
+    alloc: Global,
+    modules: &ModuleMap<Posted>,
+    bell: &Bell,
+    caller: Caller<Posted>,
+    source: S,
+) -> WorkerEnd<S>
+    requires own { table_of modules.now.lock.table.shared.table_id caller.pass
+        ≡ modules.now.lock.table.shared.table_id }
+    requires served { Serves (S.holds source) (S.asked source) caller.number
+        (view_in caller.pass).seen }
+    ensures own { table_of modules.now.lock.table.shared.table_id result.caller.pass
+        ≡ modules.now.lock.table.shared.table_id }
+    ensures same { Same (view_in caller.pass) (view_in result.caller.pass)
+        × (result.caller.number ≡ caller.number) }
+    ensures begins { Begins (view_in caller.pass).seen (view_in result.caller.pass).seen }
+    ensures asks { asks_by weight caller.number (view_in result.caller.pass).seen
+        ≡ asks_by weight caller.number (view_in caller.pass).seen }
+    ensures holds { S.holds result.source ≡ S.holds source }
+    ensures served { ServedIf result.short (S.holds source) (S.asked result.source) caller.number
+        (view_in result.caller.pass).seen }
+    ensures shut { IsShut weight (view_in result.caller.pass).seen }
+    ensures shuts { result.short ≡ false
+        → shuts_by weight caller.number (view_in result.caller.pass).seen
+        ≡ shuts_by weight caller.number (view_in caller.pass).seen }
+{
+    let mut caller = caller;
+    let mut source = source;
+    let mut heard = 0;
+    for _ in rt.forever() {
+        let Ok(turned) = fetch_one(rt, alloc, modules, bell, &mut caller, &mut source) else {
+            return WorkerEnd {
+                source,
+                caller,
+                short: true,
+            };
+        };
+        match turned {
+            Turned::Posted(_) => (),
+            Turned::NotYet => heard = bell.wait(rt, heard),
+            Turned::Closed => {
+                return WorkerEnd {
+                    source,
+                    caller,
+                    short: false,
+                };
+            }
+        }
+    }
+    unreachable!()
+}
