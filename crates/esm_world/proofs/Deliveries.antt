@@ -36,12 +36,12 @@ asks_live None us u h = (refl, h)
 asks_live (Some limit) us u h = absurd (true≢false (sym h))
 
 -- an open ask was asked, isn't fetched, and no limit has stopped
-record IsOpenAsk (w : World) (u : Url) : Type 0 where
-  live : stopped w ≡ None
-  asked : has w.loading.asked u ≡ true
-  fetching : is_fetching (w.loading.entries u) ≡ true
+pub record IsOpenAsk (w : World) (u : Url) : Type 0 where
+  pub live : stopped w ≡ None
+  pub asked : has w.loading.asked u ≡ true
+  pub fetching : is_fetching (w.loading.entries u) ≡ true
 
-open_ask : (w : World) (u : Url) → has (asks w) u ≡ true → IsOpenAsk w u
+pub open_ask : (w : World) (u : Url) → has (asks w) u ≡ true → IsOpenAsk w u
 open_ask w u h =
     let k = asks_live (stopped w) (open_asks w.loading) u h in
     let found = has_filter (λ v. is_fetching (w.loading.entries v)) w.loading.asked u k.1 in

@@ -9,15 +9,18 @@ use Rattle.esm_ast.specs.Outcome.{OutcomeView}
 use Rattle.esm_loads.specs.UrlTable.{Found, Nothing, Faulty, Script, found}
 use Rattle.esm_loads.specs.Loading.{Loading}
 use Rattle.esm_loads.specs.Host.{Host, with_loading}
-use Rattle.esm_loads.specs.Arrival.{after_fetch, store_by, put_found, count, count_by, bytes_of, AnswersNext}
+use Rattle.esm_loads.specs.Arrival.{after_fetch, store_by, put_found, count, count_by, bytes_of, AnswersNext, pending_left}
 use Rattle.esm_loads.specs.ImportCall.{BeginsImport}
 use Rattle.esm_loads.specs.Laws.{Grows, IsOrderly}
 use Rattle.esm_loads.proofs.Orderly.{only_grows, stays_orderly}
+use Rattle.esm_loads.proofs.Pending.{fewer_left}
 
 -- it grows, and stays in order
 pub record Progress (l m : Loading) : Type 0 where
   pub grows : Grows l m
   pub orderly : IsOrderly l → IsOrderly m
+  -- of fetched URLs as many requests are pending, unless one is answered
+  pub left : pending_left m ≡ pending_left l
 
 grows_same : (l : Loading) → Grows l l
 grows_same l = record { maps = refl; built = refl; entries = refl; bytes = refl; more = []; asked = sym (append-nil l.asked) }
@@ -33,18 +36,33 @@ grows_on {k} p q = record {
 }
 
 pub same_progress : (l : Loading) → Progress l l
-same_progress l = record { grows = grows_same l; orderly = λ o. o }
+same_progress l = record { grows = grows_same l; orderly = λ o. o; left = refl }
 
 pub progress_on : {k l m : Loading} → Progress k l → Progress l m → Progress k m
-progress_on p q = record { grows = grows_on p.grows q.grows; orderly = λ o. q.orderly (p.orderly o) }
+progress_on p q = record { grows = grows_on p.grows q.grows; orderly = λ o. q.orderly (p.orderly o); left = q.left ∙ p.left }
 
-pub next_progress : {h k : Host} → AnswersNext h k → Progress h.imports k.imports
-next_progress {h} {k} p = record { grows = only_grows.next h k p; orderly = λ o. stays_orderly.next h k o p }
+-- the same, where requests are answered
+pub record GrowsOn (l m : Loading) : Type 0 where
+  pub grows : Grows l m
+  pub orderly : IsOrderly l → IsOrderly m
+
+pub next_grows : {h k : Host} → AnswersNext h k → GrowsOn h.imports k.imports
+next_grows {h} {k} p = record { grows = only_grows.next h k p; orderly = λ o. stays_orderly.next h k o p }
+
+pub on_same : (l : Loading) → GrowsOn l l
+on_same l = record { grows = grows_same l; orderly = λ o. o }
+
+pub on_both : {k l m : Loading} → GrowsOn k l → GrowsOn l m → GrowsOn k m
+on_both p q = record { grows = grows_on p.grows q.grows; orderly = λ o. q.orderly (p.orderly o) }
+
+pub progress_grows : {l m : Loading} → Progress l m → GrowsOn l m
+progress_grows p = record { grows = p.grows; orderly = p.orderly }
 
 pub begins_progress : {h k : Host} {referrer : Url} {specifier : List ℕ} {promise : ℕ} {end : Result (Unit {0}) Limit} → BeginsImport h referrer specifier promise end k → Progress h.imports k.imports
 begins_progress {h} {k} {referrer} {specifier} {promise} p = record {
   grows = only_grows.imports h k referrer specifier promise p.imports;
   orderly = λ o. stays_orderly.imports h k referrer specifier promise o p.imports;
+  left = fewer_left.import_call h k referrer specifier promise p.imports;
 }
 
 -- ---- where a fetch ends

@@ -13,4 +13,11 @@ pub mod BodyStops
 pub mod EvalStops
 pub mod StartsOnce
 pub mod runs
+pub mod ExprFalls
+pub mod BodyFalls
+pub mod TurnsEnd
+pub mod Counting
+pub mod StepsWithin
+pub mod EvalFalls
+pub mod ReactsLower
 pub mod LoadedFits

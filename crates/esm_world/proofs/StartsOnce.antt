@@ -45,7 +45,7 @@ use Rattle.esm_world.proofs.BodyStops.{StopsState, StopsTold, starts_body_stop, 
 
 -- ---- a stop leaves a world that is stopped
 
-abbrev IsStoppedState : State Url Loading → Type 0
+abbrev pub IsStoppedState : State Url Loading → Type 0
 IsStoppedState s = is_some (option_or s.outer.imports.stopped s.engine.stopped) ≡ true
 
 abbrev pub IsStopped : World → Type 0
@@ -59,7 +59,7 @@ import_stop : (o e : Option Limit) → (limit : Limit) → ◌≡◌ {A = Result
 import_stop None e limit h = absurd cc
 import_stop (Some other) e limit h = refl
 
-stops_state : StopsState BeginsImport IsStoppedState
+pub stops_state : StopsState BeginsImport IsStoppedState
 stops_state = record {
   stops = λ w limit. engine_stop w.outer.imports.stopped limit;
   begin = λ {o} {x} {m} {text} {p} {limit} b w. import_stop x.imports.stopped w.engine.stopped limit b.ends;
@@ -69,7 +69,7 @@ by_stop : {v w : World} {c : Call Url} {r : Result (CallAnswer (Value Url) c) Li
 by_stop (Executes.start p) = starts_body_stop BeginsImport IsStoppedState stops_state same_url modules_in p
 by_stop (Executes.run p) = runs_body_stop BeginsImport IsStoppedState stops_state same_url modules_in p
 
-stops_call : StopsCall evaluation Executes IsStopped
+pub stops_call : StopsCall evaluation Executes IsStopped
 stops_call = record { call = λ p. by_stop p }
 
 -- ---- bodies that have begun
@@ -80,7 +80,7 @@ has_is (Begins x ∷ es) m = ap (λ b. same_url m x || b) (has_is es m)
 has_is (Ends x ∷ es) m = has_is es m
 has_is (Throws x ∷ es) m = has_is es m
 
-abbrev starts : World → List Url
+abbrev pub starts : World → List Url
 starts w = started w.engine.events
 
 begun_is : (w : World) (m : Url) → evaluation.begun w m ≡ has (starts w) m
@@ -97,19 +97,19 @@ call_begins : {v w : World} {c : Call Url} {r : Result (CallAnswer (Value Url) c
 call_begins (Executes.start p) = record { starts_are = (starts_body_keeps same_url modules_in BeginsImport Progress imported p).starts }
 call_begins (Executes.run p) = record { starts_are = (runs_body_keeps same_url modules_in BeginsImport Progress imported p).starts }
 
-abbrev IsOk : {A : Type 0} → Result A Limit → Type 0
+abbrev pub IsOk : {A : Type 0} → Result A Limit → Type 0
 IsOk (Ok a) = Unit {0}
 IsOk (Err limit) = ⊥
 
-ok_unit : (r : Result (Unit {0}) Limit) → IsOk r → r ≡ Ok tt
+pub ok_unit : (r : Result (Unit {0}) Limit) → IsOk r → r ≡ Ok tt
 ok_unit (Ok tt) h = refl
 ok_unit (Err limit) h = absurd h
 
-ok_some : {A : Type 0} (r : Result A Limit) → IsOk r → (a : A) × (r ≡ Ok a)
+pub ok_some : {A : Type 0} (r : Result A Limit) → IsOk r → (a : A) × (r ≡ Ok a)
 ok_some (Ok a) h = (a, refl)
 ok_some (Err limit) h = absurd h
 
-call_starts : {v w : World} {c : Call Url} {r : Result (CallAnswer (Value Url) c) Limit} → Executes v c r w → IsOk r → starts w ≡ starts v ++ module_of c ∷ []
+pub call_starts : {v w : World} {c : Call Url} {r : Result (CallAnswer (Value Url) c) Limit} → Executes v c r w → IsOk r → starts w ≡ starts v ++ module_of c ∷ []
 call_starts (Executes.start {end = end} p) h = starts_body_begins same_url modules_in BeginsImport Progress imported p (ok_unit end h)
 call_starts (Executes.run {end = end} p) h = let k = ok_some end h in runs_body_begins same_url modules_in BeginsImport Progress imported p k.0 k.1
 
@@ -217,7 +217,7 @@ pub record Once (w : World) : Type 0 where
   pub distinct : AreDistinct (starts w)
   pub calm : stopped w ≡ None → HaveBegunOnce evaluation w
 
-none_stopped : (o : Option Limit) → is_some o ≡ true → o ≡ None → ⊥
+pub none_stopped : (o : Option Limit) → is_some o ≡ true → o ≡ None → ⊥
 none_stopped None h e = cc
 none_stopped (Some limit) h e = cc
 

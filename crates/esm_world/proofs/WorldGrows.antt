@@ -13,7 +13,7 @@ use Rattle.esm_world.specs.Layers.{Executes, evaluation, with_linked}
 use Rattle.esm_world.specs.Jobs.{EvaluatesLoad, Reacts, Jobs, when_evaluated}
 use Rattle.esm_world.specs.Jobs.Reacts.{entry_linked, entry_fault, entry_refused, entry_ended, entry_threw, linked, fault, refused, evaluated, threw, body_ended, body_threw, resumes}
 use Rattle.esm_world.specs.Turn.{Tasks, Turn}
-use Rattle.esm_world.proofs.Grows.{Progress, same_progress, progress_on, begins_progress, next_progress}
+use Rattle.esm_world.proofs.Grows.{Progress, GrowsOn, same_progress, progress_on, begins_progress, on_same, on_both, next_grows, progress_grows}
 use Rattle.esm_world.proofs.EvalKeeps.{Lasts, evaluates_keeps, fulfills_keeps, rejects_keeps}
 use Rattle.esm_world.proofs.BodyKeeps.{Imported, starts_body_keeps, runs_body_keeps, resumes_body_keeps}
 
@@ -62,12 +62,12 @@ reacts_progress (body_ended p) = fulfills_keeps evaluation Executes WorldProgres
 reacts_progress (body_threw p) = rejects_keeps evaluation Executes WorldProgress lasts p
 reacts_progress (resumes p) = (resumes_body_keeps same_url modules_in BeginsImport Progress imported p).imports
 
-jobs_progress : {v w : World} → Jobs v w → WorldProgress v w
+pub jobs_progress : {v w : World} → Jobs v w → WorldProgress v w
 jobs_progress {v} (Jobs.none n) = same_progress v.loading
 jobs_progress {v} (Jobs.stops l s) = same_progress v.loading
 jobs_progress (Jobs.job j left how live i h f p) = progress_on (reacts_progress f) (jobs_progress p)
 
-pub tasks_progress : {v w : World} → Tasks v w → WorldProgress v w
-tasks_progress {v} (Tasks.none n) = same_progress v.loading
-tasks_progress {v} (Tasks.stops l s) = same_progress v.loading
-tasks_progress (Tasks.task live a j p) = progress_on (next_progress a) (progress_on (jobs_progress j) (tasks_progress p))
+pub tasks_progress : {v w : World} → Tasks v w → GrowsOn v.loading w.loading
+tasks_progress {v} (Tasks.none n) = on_same v.loading
+tasks_progress {v} (Tasks.stops l s) = on_same v.loading
+tasks_progress (Tasks.task live a j p) = on_both (next_grows a) (on_both (progress_grows (jobs_progress j)) (tasks_progress p))
