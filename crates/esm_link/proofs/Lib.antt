@@ -2,3 +2,4 @@ pub mod OneLink
 pub mod HasLinking
 pub mod LinksWhole
 pub mod WorkedLinks
+pub mod ClosedLinks

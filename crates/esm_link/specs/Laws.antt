@@ -17,14 +17,15 @@ abbrev pub IsClosedUnder : {N : Type 0} → (N → N → Bool) → Modules N →
 IsClosedUnder {N} same g modules =
     (x t : N) → is_in same modules x ≡ true → is_in same (targets g x) t ≡ true → is_in same modules t ≡ true
 
--- each name that is asked of a module has a resolution
-abbrev pub HaveResolutions : {N : Type 0} → Modules N → Type 0
-HaveResolutions {N} g = (x : N) (name : List ℕ) → (r : Resolution) × Exports g x name r
+-- each name that is asked of these modules has a resolution
+abbrev pub HaveResolutions : {N : Type 0} → (N → N → Bool) → Modules N → List N → Type 0
+HaveResolutions {N} same g modules =
+    (x : N) (name : List ℕ) → is_in same modules x ≡ true → (r : Resolution) × Exports g x name r
 
 -- linking a module of a finite graph has an outcome
 abbrev pub HasLinking : Type 0 → Type 0
 HasLinking N = (same : N → N → Bool) (g : Modules N) (modules closed : List N) (root : N) → IsSameness same
-    → HaveResolutions g → IsClosedUnder same g modules → is_in same modules root ≡ true
+    → HaveResolutions same g modules → IsClosedUnder same g modules → is_in same modules root ≡ true
     → (fault : Option (FaultAt N)) × (after : List N) × IsLinking same g closed root fault after
 
 -- the modules that the marks enter, in order
@@ -40,3 +41,15 @@ LinksWhole N = (same : N → N → Bool) (g : Modules N) (closed after : List N)
     → IsWalkOf same (targets g) closed root marks → IsLinking same g closed root None after → (x : N)
     → (is_in same closed x ≡ true → is_in same after x ≡ true)
     × (is_in same (entered marks) x ≡ true → is_in same after x ≡ true)
+
+-- with a fault or without one, what is closed behind linking is closed under requests, has what was closed before, and is of these
+-- modules, where what was closed before is so
+pub record ClosesWhole (N : Type 0) : Type 0 where
+  pub closed : (same : N → N → Bool) (g : Modules N) (modules closed after : List N) (root : N) (fault : Option (FaultAt N))
+      → IsSameness same → IsClosedUnder same g modules → is_in same modules root ≡ true → IsClosedUnder same g closed
+      → ((x : N) → is_in same closed x ≡ true → is_in same modules x ≡ true) → IsLinking same g closed root fault after
+      → IsClosedUnder same g after × ((x : N) → is_in same closed x ≡ true → is_in same after x ≡ true)
+      × ((x : N) → is_in same after x ≡ true → is_in same modules x ≡ true)
+  -- without a fault the root is closed
+  pub root : (same : N → N → Bool) (g : Modules N) (closed after : List N) (root : N) → IsSameness same
+      → IsLinking same g closed root None after → is_in same after root ≡ true

@@ -1,5 +1,5 @@
 // Laws of the definitions, as functions without effect.
-ghost use Rattle.esm_link.specs.Laws.{HasLinking, LinksWhole, OneLinking};
+ghost use Rattle.esm_link.specs.Laws.{ClosesWhole, HasLinking, LinksWhole, OneLinking};
 
 /// Linking a module has one outcome: a fault or none, and the modules that are closed then.
 pub fn one_linking<N>()
@@ -14,4 +14,9 @@ pub fn links_whole<N>()
 /// Linking a module of a finite graph in which each name has a resolution has an outcome.
 pub fn has_linking<N>()
     ensures { HasLinking N }
+{}
+
+/// With a fault or without one, what is closed behind linking is closed under requests.
+pub fn closes_whole<N>()
+    ensures { ClosesWhole N }
 {}

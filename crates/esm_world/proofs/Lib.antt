@@ -26,3 +26,4 @@ pub mod EvalFalls
 pub mod StartsRise
 pub mod ReactsLower
 pub mod HasTurns
+pub mod LoadedFits

@@ -7,6 +7,7 @@ pub mod Run
 pub mod Fits
 pub mod FitLaws
 pub mod Plain
+pub mod Loaded
 pub mod Laws
 pub mod ImportCalls
 pub mod Direct
