@@ -1,0 +1,15 @@
+pub mod ExprKeeps
+pub mod EvalKeeps
+pub mod BodyKeeps
+pub mod Distinct
+pub mod Grows
+pub mod OneRun
+pub mod WorldGrows
+pub mod Members
+pub mod Deliveries
+pub mod Plain
+pub mod ExprStops
+pub mod BodyStops
+pub mod EvalStops
+pub mod StartsOnce
+pub mod runs

@@ -1,0 +1,12 @@
+pub mod World
+pub mod Layers
+pub mod Jobs
+pub mod Turn
+pub mod LastLine
+pub mod Run
+pub mod Plain
+pub mod Laws
+pub mod ImportCalls
+pub mod Direct
+pub mod Unproved
+pub mod Examples

@@ -1,0 +1,59 @@
+//! Laws of the definitions, each the contract of a function without effect.
+ghost use Rattle.esm_world.specs.Laws.{AsksOnce, BytesStopFirst, DeliversAll, DeliversOnce, DeliversOnlyAsked, FewDeliveries, KeepsMaps, OneStandardRun, OneTurn, OpenAsks, StartsOnce, StoppedAsksNothing, StopsAreTold, StopsAtOnce};
+ghost use Rattle.esm_world.specs.Plain.{PlainEvaluation};
+
+/// A turn has one outcome.
+pub fn one_turn()
+    ensures { OneTurn }
+{}
+
+/// A list of deliveries has one standard run.
+pub fn one_standard_run()
+    ensures { OneStandardRun }
+{}
+
+/// No URL is asked twice.
+pub fn asks_once()
+    ensures { AsksOnce }
+{}
+
+/// A run that a limit has stopped has no open ask, and does nothing more.
+pub fn limit_stops()
+    ensures asks { StoppedAsksNothing }
+    ensures at_once { StopsAtOnce }
+    ensures bytes { BytesStopFirst }
+{}
+
+/// A limit is told only where it has stopped the world.
+pub fn limits_are_told()
+    ensures { StopsAreTold }
+{}
+
+/// A turn keeps the import map, and which module texts can be run.
+pub fn keeps_maps()
+    ensures { KeepsMaps }
+{}
+
+/// An open ask was asked and isn't delivered.
+pub fn open_asks()
+    ensures { OpenAsks }
+{}
+
+/// No URL is delivered twice, each was asked, and while an ask is open there are fewer than 4,096 deliveries. Where no
+/// limit has stopped the run, each URL that was asked is an open ask or was delivered.
+pub fn deliveries()
+    ensures once { DeliversOnce }
+    ensures asked { DeliversOnlyAsked }
+    ensures few { FewDeliveries }
+    ensures all { DeliversAll }
+{}
+
+/// Where no module awaits, evaluation runs the bodies in the order in which the walk leaves them.
+pub fn plain_evaluation()
+    ensures { PlainEvaluation }
+{}
+
+/// No body begins twice.
+pub fn starts_once()
+    ensures { StartsOnce }
+{}

@@ -1,0 +1,5 @@
+//! The world of a run, whole: definitions with their laws.
+#![tactic(auto)]
+
+pub mod examples;
+pub mod laws;
