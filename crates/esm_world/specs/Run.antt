@@ -13,7 +13,7 @@ use Rattle.esm_world.specs.World.{World, opening, stopped}
 use Rattle.esm_world.specs.Turn.{Turn}
 use Rattle.esm_world.specs.LastLine.{Ending, ending_by, status_of, IsLastLine}
 
--- a completed fetch: a URL, and what its fetch came to
+-- own: a completed fetch: a URL, and what its fetch came to
 pub record Delivery : Type 0 where
   pub url : Url
   pub outcome : OutcomeView
@@ -36,7 +36,7 @@ HasModuleTree (Broken broken) = Unit {0}
 HasModuleTree Absent = Unit {0}
 HasModuleTree Failed = Unit {0}
 
--- a delivery is allowed where its URL is an open ask, and its outcome one that a fetch can come to
+-- a delivery is allowed where its URL is an open ask, and the tree of its script, if it has one, is a module's
 pub record IsAllowed (w : World) (d : Delivery) : Type 0 where
   pub asked : has (asks w) d.url ≡ true
   pub tree : HasModuleTree d.outcome
