@@ -1,4 +1,4 @@
--- The standard run: all turns of a list of deliveries, and what it shows.
+-- The standard run: all turns of a list of deliveries, and what it shows. own, as far as no algorithm is named
 use Rattle.std.specs.Prelude.{◌≡◌, Bool, true, List, [], ◌∷◌, Option, Some, None, is_some, option_map}
 use Rattle.esm_tree.specs.Syntax.{Item}
 use Rattle.esm_import_map.specs.ImportMap.{Maps}
@@ -13,7 +13,7 @@ use Rattle.esm_world.specs.World.{World, opening, stopped}
 use Rattle.esm_world.specs.Turn.{Turn}
 use Rattle.esm_world.specs.LastLine.{Ending, ending_by, status_of, IsLastLine}
 
--- own: a completed fetch: a URL, and what its fetch came to
+-- a completed fetch: a URL, and what its fetch came to
 pub record Delivery : Type 0 where
   pub url : Url
   pub outcome : OutcomeView
