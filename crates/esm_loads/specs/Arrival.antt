@@ -17,7 +17,7 @@ abbrev pub count_by : Bool → Loading → ℕ → Loading
 count_by true l bytes = record l { bytes = l.bytes + bytes; stopped = Some L2 }
 count_by false l bytes = record l { bytes = l.bytes + bytes }
 
--- the bytes are counted. No more than MAX_DELIVERED_BYTES are delivered
+-- own: the bytes are counted. No more than MAX_DELIVERED_BYTES are delivered
 abbrev pub count : Loading → ℕ → Loading
 count l bytes = count_by (nat_lt MAX_DELIVERED_BYTES (l.bytes + bytes)) l bytes
 
@@ -41,7 +41,7 @@ store_by (Some limit) h u c = h
 abbrev pub store : Host → Url → OutcomeView → Host
 store h u c = store_by h.imports.stopped h u c
 
--- HTML, "fetch a single module script", where the fetch of this URL has ended. The bytes are counted first
+-- HTML, "fetch a single module script", where the fetch of this URL has ended. own: the bytes are counted first
 abbrev pub after_fetch : Host → Url → OutcomeView → Host
 after_fetch h u c = store (with_loading h (count h.imports (bytes_of c))) u c
 

@@ -1,4 +1,4 @@
--- Worked examples of loading.
+-- Worked examples of loading. A state from which one begins leaves out what nothing in it reads: the items of m, and the bytes.
 use Rattle.std.specs.Prelude.{◌≡◌, Bool, true, List, [], ◌∷◌, Option, Some, None, codes}
 use Rattle.esm_base.specs.Urls.{Url, url_of}
 use Rattle.esm_base.specs.declared.fault.TextFault.TheVariants.{P2}

@@ -10,7 +10,7 @@ use Rattle.esm_loads.specs.UrlTable.{TableEntry, specifier_error}
 use Rattle.esm_loads.specs.Loading.{Loading, Root, Asked, ForImport, ask}
 use Rattle.esm_loads.specs.Host.{Host, Answered, with_loading, reject_new}
 
--- so many calls were begun that no more is
+-- own: so many calls were begun that no more is
 abbrev pub IsFull : Loading → Type 0
 IsFull l = (l.import_calls == MAX_IMPORT_CALLS) ≡ true
 
@@ -39,7 +39,7 @@ abbrev pub ask_root : Host → ℕ → Url → Host
 ask_root h s u = with_loading h (ask h.imports u (Root s))
 
 -- HTML, HostLoadImportedModule of an import(): its specifier stands in the module at the URL referrer, and its promise is there.
--- No more than MAX_IMPORT_CALLS calls are begun
+-- own: no more than MAX_IMPORT_CALLS calls are begun
 pub data Imports : Host → Url → Text → ℕ → Host → Type 0 where
   limit : {h : Host} {referrer : Url} {specifier : Text} {promise : ℕ} → IsFull h.imports
       → Imports h referrer specifier promise (stop_imports h)

@@ -136,7 +136,7 @@ ask_by true room l u a = add_pending l u a
 ask_by false true l u a = add_pending (record l { asked = l.asked ++ u ∷ [] }) u a
 ask_by false false l u a = record l { stopped = Some L1 }
 
--- the URL is asked for, unless it was, and the request is pending. No more than MAX_URLS URLs are asked
+-- the URL is asked for, unless it was, and the request is pending. own: no more than MAX_URLS URLs are asked
 abbrev pub ask : Loading → Url → PendingRequest → Loading
 ask l u a = ask_by (has l.asked u) (nat_lt (length l.asked) MAX_URLS) l u a
 

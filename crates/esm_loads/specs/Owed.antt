@@ -1,4 +1,4 @@
--- The promises that loads have still to settle.
+-- The promises that loads have still to settle. own
 use Rattle.std.specs.Prelude.{◌≡◌, ℕ, ◌+◌, ◌==◌, Bool, true, false, cond, List, [], ◌∷◌, length, slice_get, Option, Some, None}
 use Rattle.esm_base.specs.Urls.{Url}
 use Rattle.esm_promise.specs.Promises.{is_pending}

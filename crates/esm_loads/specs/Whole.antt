@@ -1,5 +1,5 @@
 -- What holds between two answers: what is Unlinked is loaded with all that it reaches, and a load that goes on waits for
--- something.
+-- something. own
 use Rattle.std.specs.Prelude.{◌≡◌, ◌⊎◌, ℕ, suc, Bool, true, false, Contains, List, [], ◌∷◌, filter, slice_get, Option, Some, None}
 use Rattle.esm_base.specs.Urls.{Url, has}
 use Rattle.esm_loads.specs.UrlTable.{TableEntry, Module}

@@ -1,4 +1,4 @@
--- The direct run, which knows no loading: linking, evaluation and jobs, from the files alone.
+-- The direct run, which knows no loading: linking, evaluation and jobs, from the files alone. own
 use Rattle.std.specs.Prelude.{◌≡◌, ◌≤◌, ℕ, Bool, true, false, List, [], ◌∷◌, length, Option, Some, None, Ok}
 use Rattle.std.specs.List.{sum_by}
 use Rattle.esm_base.specs.declared.limits.TheConstants.{MAX_DELIVERED_BYTES, MAX_URLS}

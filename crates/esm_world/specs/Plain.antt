@@ -1,4 +1,4 @@
--- Bodies that run in the order in which a walk leaves them: what evaluation is where no module awaits.
+-- Bodies that run in the order in which a walk leaves them: what evaluation is where no module awaits. own
 use Rattle.std.specs.Prelude.{◌≡◌, false, List, [], ◌∷◌, slice_get, Some, None, Ok, Err}
 use Rattle.esm_base.specs.declared.limits.Limit.{Limit}
 use Rattle.esm_base.specs.Urls.{Url, same_url}

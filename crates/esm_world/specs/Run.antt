@@ -1,4 +1,4 @@
--- The standard run: all turns of a list of deliveries, and what it shows.
+-- The standard run: all turns of a list of deliveries, and what it shows. own, as far as no algorithm is named
 use Rattle.std.specs.Prelude.{◌≡◌, Bool, true, List, [], ◌∷◌, Option, Some, None, is_some, option_map}
 use Rattle.esm_tree.specs.Syntax.{Item}
 use Rattle.esm_import_map.specs.ImportMap.{Maps}
@@ -36,7 +36,7 @@ HasModuleTree (Broken broken) = Unit {0}
 HasModuleTree Absent = Unit {0}
 HasModuleTree Failed = Unit {0}
 
--- a delivery is allowed where its URL is an open ask, and its outcome one that a fetch can come to
+-- a delivery is allowed where its URL is an open ask, and the tree of its script, if it has one, is a module's
 pub record IsAllowed (w : World) (d : Delivery) : Type 0 where
   pub asked : has (asks w) d.url ≡ true
   pub tree : HasModuleTree d.outcome

@@ -1,4 +1,4 @@
--- The world: one record of the parts of all layers, each as its owner defines it. A module is named by its URL.
+-- The world: one record of the parts of all layers, each as its owner defines it. own: a module is named by its URL.
 use Rattle.std.specs.Prelude.{ℕ, Bool, List, [], length, slice_index_or, Option}
 use Rattle.std.specs.Option.{option_or}
 use Rattle.esm_tree.specs.Syntax.{Item}
@@ -17,7 +17,7 @@ use Rattle.esm_loads.specs.Host.{Host, opening_host}
 use Rattle.esm_eval.specs.Nodes.{Node, untouched}
 use Rattle.esm_body.specs.State.{Engine, State, opening_engine}
 
--- how far the entry has come
+-- own: how far the entry has come
 pub data EntryState : Type 0 where
   -- its evaluation hasn't ended
   Underway : EntryState
@@ -61,7 +61,7 @@ world_of h trace = record {
 abbrev pub opening : Maps → (List Item → Bool) → Url → Bool → World
 opening maps built entry trace = world_of (opening_host maps built entry) trace
 
--- the limit that has stopped the world: one that loading met, or one that a body met
+-- own: the limit that has stopped the world: one that loading met, or one that a body met
 abbrev pub stopped : World → Option Limit
 stopped w = option_or w.loading.stopped w.engine.stopped
 
