@@ -9,6 +9,7 @@ use Rattle.esm_ast.specs.ModuleTree.{IsModuleTree}
 use Rattle.esm_ast.specs.Outcome.{OutcomeView, Script}
 use Rattle.esm_ast.specs.Script.{SpelledText}
 use Rattle.esm_import_map.specs.ImportMap.{Maps}
+use Rattle.esm_realm.specs.Laws.{AreDistinct}
 use Rattle.esm_values.specs.Value.{Undefined}
 use Rattle.esm_promise.specs.Promises.{make, settle, no_promises, Fulfilled}
 use Rattle.esm_promise.specs.Reactions.{EntryLoaded}
@@ -59,6 +60,12 @@ module _ (maps : Maps) (built : List Item → Bool) (files : Files) where
   pub record IsClean (entry : Url) : Type 0 where
     pub files_are : (u : Url) → Closure entry u → IsCleanFile u
 
+  -- these are the URLs of the closure, each once
+  pub record AreClosure (entry : Url) (modules : List Url) : Type 0 where
+    pub each : (u : Url) → Closure entry u → has modules u ≡ true
+    pub only : (u : Url) → has modules u ≡ true → Closure entry u
+    pub once : AreDistinct modules
+
   -- all modules of the closure are there, and the entry's load is complete
   abbrev pub gathered : Url → List Url → Host
   gathered entry modules = record {
@@ -73,10 +80,10 @@ module _ (maps : Maps) (built : List Item → Bool) (files : Files) where
     };
   }
 
-  -- what the direct run of the entry leaves: it is linked and evaluated, and then jobs run until none is left
-  pub record DirectRun (entry : Url) (trace : Bool) (after : World) : Type 0 where
-    pub modules : List Url
-    pub all : (u : Url) → Closure entry u → has modules u ≡ true
+  -- what the direct run of the entry leaves, over the modules of its closure: it is linked and evaluated, and then jobs run until none
+  -- is left
+  pub record DirectRun (entry : Url) (trace : Bool) (modules : List Url) (after : World) : Type 0 where
+    pub closure : AreClosure entry modules
     pub jobs : Jobs (world_of (gathered entry modules) trace) after
 
   abbrev pub file_bytes_by : Option OutcomeView → ℕ
@@ -88,9 +95,7 @@ module _ (maps : Maps) (built : List Item → Bool) (files : Files) where
   file_bytes u = file_bytes_by (files u)
 
   -- the closure has at most 4,096 URLs and 16,777,216 bytes, and no limit stops the direct run
-  pub record MeetsNoLimit (entry : Url) (after : World) : Type 0 where
-    pub modules : List Url
-    pub all : (u : Url) → Closure entry u → has modules u ≡ true
+  pub record MeetsNoLimit (modules : List Url) (after : World) : Type 0 where
     pub few : length modules ≤ MAX_URLS
     pub small : sum_by file_bytes modules ≤ MAX_DELIVERED_BYTES
     pub live : stopped after ≡ None
