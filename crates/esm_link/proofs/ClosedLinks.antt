@@ -166,13 +166,12 @@ module _ {N : Type 0} (same : N → N → Bool) (own : (x : N) → same x x ≡ 
     passed opened members (next {seen = seen} {between = between} {after = after} {x = x} {t = t} {i = i} {ts = ts} {first = first} {marks = marks} v q) a d p =
         let one = visited (opened ++ x ∷ members) v a (p t (names.in_first same own equal t ts)) in
         both seen between after opened x t i members ts first marks one
-            (passed opened (members ++ one.added) q (subst (λ o. Amid between o) (append_assoc opened (x ∷ members) one.added) one.amid)
-                (λ m u h k. either (names.in_split same own equal members one.added m h) (λ j. one.grows u (d m u j k)) (λ j. one.done m u j k))
-                (λ u h. p u (names.in_later same own equal t ts u h)))
+        (passed opened (members ++ one.added) q (subst (λ o. Amid between o) (append_assoc opened (x ∷ members) one.added) one.amid)
+        (λ m u h k. either (names.in_split same own equal members one.added m h) (λ j. one.grows u (d m u j k)) (λ j. one.done m u j k))
+        (λ u h. p u (names.in_later same own equal t ts u h)))
 
   nothing : Amid closed []
   nothing = record { entered = λ y h. cc; old = λ y h. h; shut = λ m t h c. names.clash same own equal closed m h c }
-
 
   along_walk : (root : N) (marks : List (Mark N)) → P root → IsWalkOf same to closed root marks → Holds closed [] marks
   along_walk root marks p w =
@@ -323,9 +322,9 @@ root_seen same d to (fresh {x = x} {marks = marks} n p) = inr (names.in_first sa
 pub closes_whole : (N : Type 0) → ClosesWhole N
 closes_whole N = record {
   closed = λ same g modules closed after root fault d whole inside shut among l.
-    let c = linking_closed same d g closed (λ x. is_in same modules x ≡ true) (λ x t h k. whole x t h k) among (λ m t h k. shut m t h k) root fault after inside l in
-    (c.whole, c.old, c.good);
+      let c = linking_closed same d g closed (λ x. is_in same modules x ≡ true) (λ x t h k. whole x t h k) among (λ m t h k. shut m t h k) root fault after inside l in
+      (c.whole, c.old, c.good);
   root = λ same g closed after root d l.
-    let w = links_whole N same g closed after root l.marks d l.walk l root in
-    either (root_seen same d (targets g) l.walk.1) w.0 w.1;
+      let w = links_whole N same g closed after root l.marks d l.walk l root in
+      either (root_seen same d (targets g) l.walk.1) w.0 w.1;
 }

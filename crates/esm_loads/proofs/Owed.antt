@@ -146,13 +146,13 @@ mutual
 
 -- ---- what an answer changes of loads
 
-record Ends (s : ℕ) (l m : Loading) : Type 0 where
-  purposes : m.purposes ≡ l.purposes
-  size : length m.loads ≡ length l.loads
-  others : (k : ℕ) → (k ≡ s → ⊥) → slice_get m.loads k ≡ slice_get l.loads k
-  stopped : m.stopped ≡ None → l.stopped ≡ None
-  roots : SameRoots l m
-  begun : slice_get m.loads s ≡ Some Asked → ⊥
+pub record Ends (s : ℕ) (l m : Loading) : Type 0 where
+  pub purposes : m.purposes ≡ l.purposes
+  pub size : length m.loads ≡ length l.loads
+  pub others : (k : ℕ) → (k ≡ s → ⊥) → slice_get m.loads k ≡ slice_get l.loads k
+  pub stopped : m.stopped ≡ None → l.stopped ≡ None
+  pub roots : SameRoots l m
+  pub begun : slice_get m.loads s ≡ Some Asked → ⊥
 
 ends_finish : (l mid : Loading) (s : ℕ) → Framed s l mid → SameRoots l mid → HasBegun mid s → Ends s l (finish mid s)
 ends_finish l mid s f r b = by (open_load mid s) (has_pending mid s)
@@ -175,7 +175,7 @@ ends_throw l s thrown = let f = framed_throw l s thrown in record { purposes = r
 begun_if_open : (l : Loading) (s : ℕ) (o : OpenLoad) → open_load l s ≡ Some o → HasBegun l s
 begun_if_open l s o e = let h = live l.stopped (slice_get l.loads s) e in (λ d. let k = h.1 in cc, λ r d. let k = h.1 in cc)
 
-answers_ends : {l m : Loading} {a : PendingRequest} {u : Url} {e : TableEntry} → Answers l a u e m → IsOrderly l → Ends (load_of a) l m
+pub answers_ends : {l m : Loading} {a : PendingRequest} {u : Url} {e : TableEntry} → Answers l a u e m → IsOrderly l → Ends (load_of a) l m
 answers_ends {l} (no_root {s = s} thrown t) o = ends_throw l s thrown
 answers_ends {l} (no_module {s = s} p thrown h t) o = ends_throw l s thrown
 answers_ends {l} {u = u} (root {mid = mid} {s = s} t q) o =
@@ -189,13 +189,13 @@ answers_ends {l} (request {mid = mid} {s = s} p h t q) o = let e = enters_framed
 abbrev asked_once : Loading → ℕ → ℕ
 asked_once l k = cond (is_asked (slice_get l.loads k)) 1 0
 
-record Stage (s : ℕ) (h : Host) : Type 0 where
-  sizes : length h.imports.purposes ≡ length h.imports.loads
-  roots : h.imports.stopped ≡ None → (k : ℕ) → (k ≡ s → ⊥) → roots_of h.imports k ≡ asked_once h.imports k
-  rootless : h.imports.stopped ≡ None → roots_of h.imports s ≡ 0
-  pending : (k p : ℕ) → owed h.imports k ≡ Some p → is_pending h.promises p ≡ true
-  once : (k j p : ℕ) → owed h.imports k ≡ Some p → owed h.imports j ≡ Some p → k ≡ j
-  going : owes (slice_get h.imports.loads s) ≡ true
+pub record Stage (s : ℕ) (h : Host) : Type 0 where
+  pub sizes : length h.imports.purposes ≡ length h.imports.loads
+  pub roots : h.imports.stopped ≡ None → (k : ℕ) → (k ≡ s → ⊥) → roots_of h.imports k ≡ asked_once h.imports k
+  pub rootless : h.imports.stopped ≡ None → roots_of h.imports s ≡ 0
+  pub pending : (k p : ℕ) → owed h.imports k ≡ Some p → is_pending h.promises p ≡ true
+  pub once : (k j p : ℕ) → owed h.imports k ≡ Some p → owed h.imports j ≡ Some p → k ≡ j
+  pub going : owes (slice_get h.imports.loads s) ≡ true
 
 owed_going : (l : Loading) (s : ℕ) (p : Purpose) → owes (slice_get l.loads s) ≡ true → slice_get l.purposes s ≡ Some p → owed l s ≡ Some (promise_of p)
 owed_going l s p g e = rw (g, e) refl
@@ -244,7 +244,7 @@ own_stage h s q e t = record {
     by_once k j p o r (inr n) (inl c) = absurd (new_is k p (subst (λ i. owed l i ≡ Some p) c r) (sym (other k n) ∙ o))
     by_once k j p o r (inr n) (inr m) = t.once k j p (sym (other k n) ∙ o) (sym (other j m) ∙ r)
 
-begin_stage : (h : Host) (s : ℕ) (t : Option Throw) (p : Option Purpose) → slice_get h.imports.purposes s ≡ p → Stage s h → Stage s (begin_by h s t p)
+pub begin_stage : (h : Host) (s : ℕ) (t : Option Throw) (p : Option Purpose) → slice_get h.imports.purposes s ≡ p → Stage s h → Stage s (begin_by h s t p)
 begin_stage h s (Some t) p e g = g
 begin_stage h s None None e g = g
 begin_stage h s None (Some (ForEntry q)) e g = g
@@ -336,7 +336,7 @@ ends_owing b m s t e = owes_of after (subst (λ l. Owing l after.promises) (sym 
 
 -- ---- an answer of a host
 
-begun_same : (h : Host) (s : ℕ) (t : Option Throw) (p : Option Purpose) → IsOrderly h.imports → IsOrderly (begin_by h s t p).imports
+pub begun_same : (h : Host) (s : ℕ) (t : Option Throw) (p : Option Purpose) → IsOrderly h.imports → IsOrderly (begin_by h s t p).imports
 begun_same h s t p o = begin_keeps OrderlyTable h s t p o
 
 root_owes : {h k : Host} {s : ℕ} {u : Url} {e : TableEntry} → IsOrderly h.imports → Stage s h → Answered h (Root s) u e k → OwesPromises k
@@ -380,7 +380,7 @@ asked_state (Some (Open x v)) r e = absurd (omega (arith, e))
 asked_state (Some (LoadComplete x)) r e = absurd (omega (arith, e))
 asked_state (Some (Thrown t)) r e = absurd (omega (arith, e))
 
-root_stage : (h : Host) (n : Next) (s : ℕ) → h.imports.stopped ≡ None → IsOrderly h.imports → n.pending_request ≡ Root s → next h.imports ≡ Some n → OwesPromises h → Stage s (without_next h n)
+pub root_stage : (h : Host) (n : Next) (s : ℕ) → h.imports.stopped ≡ None → IsOrderly h.imports → n.pending_request ≡ Root s → next h.imports ≡ Some n → OwesPromises h → Stage s (without_next h n)
 root_stage h n s stop o is e w = record {
   sizes = w.sizes;
   roots = λ stop k d.
@@ -402,7 +402,7 @@ root_stage h n s stop o is e w = record {
         asked_state (slice_get h.imports.loads s) (roots_of (without_next h n).imports s) (omega (arith, one, own, was))
 
 -- a request of a module isn't one for a root
-without_owes : (h : Host) (n : Next) (s i : ℕ) (x : Url) → IsOrderly h.imports → n.pending_request ≡ Request s x i → next h.imports ≡ Some n → OwesPromises h → OwesPromises (without_next h n)
+pub without_owes : (h : Host) (n : Next) (s i : ℕ) (x : Url) → IsOrderly h.imports → n.pending_request ≡ Request s x i → next h.imports ≡ Some n → OwesPromises h → OwesPromises (without_next h n)
 without_owes h n s i x o is e w = record {
   sizes = w.sizes;
   roots = λ stop k.
@@ -414,7 +414,7 @@ without_owes h n s i x o is e w = record {
   once = w.once;
 }
 
-open_stage : (h : Host) (s : ℕ) (p : OpenLoad) → open_load h.imports s ≡ Some p → OwesPromises h → Stage s h
+pub open_stage : (h : Host) (s : ℕ) (p : OpenLoad) → open_load h.imports s ≡ Some p → OwesPromises h → Stage s h
 open_stage h s p e w =
     let k = live h.imports.stopped (slice_get h.imports.loads s) e in
     record {
@@ -450,13 +450,13 @@ get_end : {A : Type 0} (xs : List A) → slice_get xs (length xs) ≡ None
 get_end [] = refl
 get_end (x ∷ xs) = get_end xs
 
-push_other : {A : Type 0} (xs : List A) (y : A) (k : ℕ) → (k ≡ length xs → ⊥) → slice_get (xs ++ y ∷ []) k ≡ slice_get xs k
+pub push_other : {A : Type 0} (xs : List A) (y : A) (k : ℕ) → (k ≡ length xs → ⊥) → slice_get (xs ++ y ∷ []) k ≡ slice_get xs k
 push_other [] y zero n = absurd (n refl)
 push_other [] y (suc k) n = refl
 push_other (x ∷ xs) y zero n = refl
 push_other (x ∷ xs) y (suc k) n = push_other xs y k (λ e. n (ap suc e))
 
-push_own : {A : Type 0} (xs : List A) (y : A) → slice_get (xs ++ y ∷ []) (length xs) ≡ Some y
+pub push_own : {A : Type 0} (xs : List A) (y : A) → slice_get (xs ++ y ∷ []) (length xs) ≡ Some y
 push_own [] y = refl
 push_own (x ∷ xs) y = push_own xs y
 
@@ -465,7 +465,7 @@ length_push [] y = refl
 length_push (x ∷ xs) y = ap suc (length_push xs y)
 
 -- the new load is the one that has the promise
-added_stage : (h : Host) (promise : ℕ) → is_pending h.promises promise ≡ true → ((s : ℕ) → owed h.imports s ≡ Some promise → ⊥) → OwesPromises h → Stage (next_load h) (add_load (counted h) promise)
+pub added_stage : (h : Host) (promise : ℕ) → is_pending h.promises promise ≡ true → ((s : ℕ) → owed h.imports s ≡ Some promise → ⊥) → OwesPromises h → Stage (next_load h) (add_load (counted h) promise)
 added_stage h promise pends free w = record {
   sizes = sizes;
   roots = λ stop k n. w.roots stop k ∙ ap count_asked (sym (push_other h.imports.loads Asked k n));

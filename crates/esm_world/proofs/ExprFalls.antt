@@ -140,7 +140,6 @@ module _ {W V S : Type 0} (acts : Acting W V S) (steps : W → ℕ) (Quiet : W �
   inside_falls f sizeA sizeB s t n e d v w (Stops why) p = tt
 
   module _ (values : Values V) where
-
     light_complete : {A : Type 0} (size : A → ℕ) (s : ℕ) (rest : V → A) → ((v : V) → size (rest v) < s) → (c : Completion V) → Light size s (complete values rest c)
     light_complete size s rest lt (Normal v) = Light.goes (lt v)
     light_complete size s rest lt (Throw v) = Light.leaves

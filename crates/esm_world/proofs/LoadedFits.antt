@@ -194,10 +194,10 @@ pub loaded_are_linked : LoadedAreLinked
 loaded_are_linked l f = record {
   trees = λ m h. let r = module_at (l.entries m) (f.whole.loaded m h).stands in subst (λ o. IsModuleTree (body_in o)) (sym r.1) (f.trees m r.0 r.1).tree;
   targets = λ m request h lt.
-    let r = module_at (l.entries m) (f.whole.loaded m h).stands in
-    let size : length (targets_in (l.entries m)) ≡ length (entries_of (body_in (l.entries m))).requests =
-        subst (λ o. length (targets_in o) ≡ length (entries_of (body_in o)).requests) (sym r.1) ((f.trees m r.0 r.1).targets ∙ sym (ap (λ (rs : List Text). length rs) (requests_is r.0.body))) in
-    unlinked_at l (targets l m) request (f.whole.loaded m h).targets_are (omega (arith, lt, size));
+      let r = module_at (l.entries m) (f.whole.loaded m h).stands in
+      let size : length (targets_in (l.entries m)) ≡ length (entries_of (body_in (l.entries m))).requests =
+      subst (λ o. length (targets_in o) ≡ length (entries_of (body_in o)).requests) (sym r.1) ((f.trees m r.0 r.1).targets ∙ sym (ap (λ (rs : List Text). length rs) (requests_is r.0.body))) in
+      unlinked_at l (targets l m) request (f.whole.loaded m h).targets_are (omega (arith, lt, size));
   below = λ m h. place_below l.asked m (unlinked_asked l f m h);
   named = λ m h. place_is l.asked m (unlinked_asked l f m h);
 }
@@ -225,13 +225,13 @@ pub has_link : SharedSetAgrees → SharedSetEnds → HasLink
 has_link agrees ends = record {
   root = λ l s start f e. unlinked_is_closed.only l start (unlinked_is_closed.root l s start f.orderly f.whole e);
   links = λ l closed start f h.
-    let g = modules_in l in
-    let linked = loaded_are_linked l f in
-    has_linking Url same_url g (unlinked_modules l) closed start sameness
-        (λ x name inside. let r = resolved g l.unlinked linked agrees ends (g.number x) name (good g l.unlinked linked x (unlinked_is_closed.only l x inside)) in (r.0, r.1.0))
-        (λ x t inside k. from_targets g x t (λ u. has (unlinked_modules l) u ≡ true) 0 (entries g x).requests
-            (λ j lt. let e : 0 + j ≡ j = omega arith in subst (λ n. has (unlinked_modules l) (g.target x n) ≡ true) (sym e) (unlinked_is_closed.all l (g.target x j) f.orderly f.whole (linked.targets x j (unlinked_is_closed.only l x inside) lt))) k)
-        (unlinked_is_closed.all l start f.orderly f.whole h);
+      let g = modules_in l in
+      let linked = loaded_are_linked l f in
+      has_linking Url same_url g (unlinked_modules l) closed start sameness
+      (λ x name inside. let r = resolved g l.unlinked linked agrees ends (g.number x) name (good g l.unlinked linked x (unlinked_is_closed.only l x inside)) in (r.0, r.1.0))
+      (λ x t inside k. from_targets g x t (λ u. has (unlinked_modules l) u ≡ true) 0 (entries g x).requests
+      (λ j lt. let e : 0 + j ≡ j = omega arith in subst (λ n. has (unlinked_modules l) (g.target x n) ≡ true) (sym e) (unlinked_is_closed.all l (g.target x j) f.orderly f.whole (linked.targets x j (unlinked_is_closed.only l x inside) lt))) k)
+      (unlinked_is_closed.all l start f.orderly f.whole h);
 }
 
 -- ---- what is linked
@@ -253,8 +253,8 @@ closed_linked l us f among whole =
     record {
       trees = λ m h. linked.trees m (among m h);
       targets = λ m request h lt.
-        let e : 0 + request ≡ request = omega arith in
-        whole m ((modules_in l).target m request) h (subst (λ n. has (link.targets (modules_in l) m) ((modules_in l).target m n) ≡ true) e (target_among (modules_in l) m 0 request (entries (modules_in l) m).requests lt));
+          let e : 0 + request ≡ request = omega arith in
+          whole m ((modules_in l).target m request) h (subst (λ n. has (link.targets (modules_in l) m) ((modules_in l).target m n) ≡ true) e (target_among (modules_in l) m 0 request (entries (modules_in l) m).requests lt));
       below = λ m h. linked.below m (among m h);
       named = λ m h. linked.named m (among m h);
     }
@@ -267,12 +267,12 @@ linked_closed l us linked x t h k = from_targets (modules_in l) x t (λ u. has u
 pub linked_stays_linked : LinkedStaysLinked
 linked_stays_linked = record {
   links = λ l closed after start fault f h linked among p.
-    let all = closed_linked_modules l f in
-    let c = (closes_whole Url).closed same_url (modules_in l) (unlinked_modules l) closed after start fault sameness all
-        (unlinked_is_closed.all l start f.orderly f.whole h) (linked_closed l closed linked)
-        (λ u k. unlinked_is_closed.all l u f.orderly f.whole (among u k)) p in
-    let fine : (u : Url) → has after u ≡ true → l.unlinked u ≡ true = (λ u k. unlinked_is_closed.only l u (c.2 u k)) in
-    record { modules = closed_linked l after f fine (λ x t i k. c.0 x t i k); unlinked = fine; stays = c.1 };
+      let all = closed_linked_modules l f in
+      let c = (closes_whole Url).closed same_url (modules_in l) (unlinked_modules l) closed after start fault sameness all
+      (unlinked_is_closed.all l start f.orderly f.whole h) (linked_closed l closed linked)
+      (λ u k. unlinked_is_closed.all l u f.orderly f.whole (among u k)) p in
+      let fine : (u : Url) → has after u ≡ true → l.unlinked u ≡ true = (λ u k. unlinked_is_closed.only l u (c.2 u k)) in
+      record { modules = closed_linked l after f fine (λ x t i k. c.0 x t i k); unlinked = fine; stays = c.1 };
   root = λ l closed after start p. (closes_whole Url).root same_url (modules_in l) closed after start sameness p;
 }
   where
@@ -280,4 +280,4 @@ linked_stays_linked = record {
     closed_linked_modules l f x t inside k =
         let linked = loaded_are_linked l f in
         from_targets (modules_in l) x t (λ u. has (unlinked_modules l) u ≡ true) 0 (entries (modules_in l) x).requests
-            (λ j lt. let e : 0 + j ≡ j = omega arith in subst (λ n. has (unlinked_modules l) ((modules_in l).target x n) ≡ true) (sym e) (unlinked_is_closed.all l ((modules_in l).target x j) f.orderly f.whole (linked.targets x j (unlinked_is_closed.only l x inside) lt))) k
+        (λ j lt. let e : 0 + j ≡ j = omega arith in subst (λ n. has (unlinked_modules l) ((modules_in l).target x n) ≡ true) (sym e) (unlinked_is_closed.all l ((modules_in l).target x j) f.orderly f.whole (linked.targets x j (unlinked_is_closed.only l x inside) lt))) k

@@ -42,7 +42,6 @@ module _ {N I : Type 0} (same : N → N → Bool) (modules : I → Modules N) (b
     abbrev Keep : Inner N I → Inner N I → Type 0
     Keep v w = Within (steps_of v) (steps_of w)
 
-
     act_within : (w : Inner N I) (a : Act (Value N)) (t : Answered (AnswerTo a) (Inner N I)) → AnswersAct same modules begins m w a t → Keep w t.1
     act_within w (act.Read x) t p = within_same (ap (λ t. t.0) (act_counted same modules begins m w (act.Read x) t tt p))
     act_within w (act.Member of x) t p = within_same (ap (λ t. t.0) (act_counted same modules begins m w (act.Member of x) t tt p))
