@@ -349,7 +349,6 @@ less_promises n v w one e q =
     record {
       steps = omega (arith, s);
       within = within_same s;
-     
       quiet = λ f. omega (arith, q, l, one);
     }
 
