@@ -1,9 +1,11 @@
 -- What was posted stays so, and what one delivery more leads to.
 use Rattle.std.proofs.lemmas.Bool.Decides.{nat_tests}
 use Rattle.std.specs.List.{list_any, position_or_len}
-use Rattle.std.proofs.Common.{Bool, false, cond, not, nat_lt, position, ◌||◌, ◌≡◌, ℕ, zero, suc, ◌+◌, ◌<◌, ◌≤◌, List, [], ◌∷◌, ◌++◌, map, sym, refl, ap, ◌∙◌, subst, append_assoc, append-nil, Option, Some, None, slice_get, arith, get_or, length, true, Ok, Err, inl}
-use Rattle.std.specs.Prelude.{All, Contains, OnOk, Result}
-use Rattle.std.proofs.lemmas.List.Elements.{All-nil, All-cons, All-append, All-contains, All-weaker}
+use Rattle.std.proofs.Common.{Bool, false, cond, not, nat_lt, position, ◌||◌, ◌≡◌, ℕ, zero, suc, ◌+◌, ◌<◌, ◌≤◌, List, [], ◌∷◌, ◌++◌, map, sym, refl, ap, ◌∙◌, subst, append_assoc, append-nil, Option, Some, None, slice_get, arith, get_or, length, true, Ok, Err, inl, eqb-true}
+use Rattle.std.specs.Prelude.{All, Contains, OnOk, Result, remove, take, drop}
+use mathlib.Core.Bool.{true≢false}
+use Rattle.std.proofs.lemmas.List.Quantifiers.{position-Some}
+use Rattle.std.proofs.lemmas.List.Elements.{All-nil, All-cons, All-append, All-take, All-drop, All-contains, All-contains_itself, All-weaker}
 use Rattle.std.proofs.lemmas.List.{map-append}
 use Rattle.esm_base.specs.declared.memory.Memory.{Memory}
 use Rattle.esm_base.specs.Urls.{Url, has, same_url}
@@ -24,7 +26,7 @@ use Rattle.esm_fetch.specs.Serving.{weight, Served, Serves, ServedBy}
 use Rattle.esm_ports.specs.declared.asked.Asked.{Asked}
 use Rattle.esm_fetch.specs.Answered.{Contents}
 use Rattle.esm_run.specs.declared.tickets.Ticket.{Ticket}
-use Rattle.esm_run.specs.Inner.Leading.{HasTicket, WasPosted, IsDriven, IsCutShort, IsLed, IsLedShort, IsOpenAsk, IsStandardAsk, AsksStandard, AsksOn, KeepsServing, LeadsOn}
+use Rattle.esm_run.specs.Inner.Leading.{has_ticket, is_for, IsFirstPosted, HasTicket, WasPosted, IsDriven, IsCutShort, IsLed, IsLedShort, IsOpenAsk, IsStandardAsk, AsksStandard, AsksOn, KeepsServing, LeadsOn}
 use Rattle.esm_run.proofs.SharedLemmas.{all_posted, cut_of}
 
 module _ {G : Type 0} where
@@ -176,3 +178,33 @@ module _ (p : Ticket → Bool) where
       by_test : (b : Bool) → nat_lt (position_or_len p ts) (length ts) ≡ b → cond b (Some (position_or_len p ts)) None ≡ None → length ts ≤ position_or_len p ts
       by_test true e is = cc
       by_test false e is = grind (arith, nat_tests)
+
+get_there : {X : Type 0} (xs : List X) (k : ℕ) (d : X) → k < length xs → slice_get xs k ≡ Some (get_or xs k d)
+get_there [] k d within = absurd (omega arith)
+get_there (x ∷ xs) zero d within = refl
+get_there (x ∷ xs) (suc k) d within = get_there xs k d (omega arith)
+
+-- what is left of a list is among it
+pub left_among : (ts left : List Ticket) (k : ℕ) → left ≡ remove ts k → All (Contains ts) left
+left_among ts left k is = subst (All (Contains ts)) (sym is) (All-append (Contains ts) (take k ts) (drop (suc k) ts) (All-take (Contains ts) k ts (All-contains_itself ts)) (All-drop (Contains ts) (suc k) ts (All-contains_itself ts)))
+
+pub among_itself : (ts : List Ticket) → All (Contains ts) ts
+among_itself ts = All-contains_itself ts
+
+module _ (tickets t2 t3 : List Ticket) (posted p1 : List ℕ) (at number : ℕ) (p_is : p1 ≡ posted) (t2_is : t2 ≡ tickets) (t3_is : t3 ≡ tickets) (found : position (has_ticket t2) p1 ≡ Some at) where
+  first_found : position (has_ticket tickets) posted ≡ Some at
+  first_found = subst (λ t. position (has_ticket t) posted ≡ Some at) t2_is (subst (λ p. position (has_ticket t2) p ≡ Some at) p_is found)
+
+  pub at_within : at < length posted
+  at_within = (position-Some (has_ticket tickets) posted at 0 first_found).0
+
+  pub no_way : number ≡ get_or posted at number → position (is_for number) t3 ≡ None → ⊥
+  no_way is none =
+      let has : has_ticket tickets number ≡ true = subst (λ n. has_ticket tickets n ≡ true) (sym is) (position-Some (has_ticket tickets) posted at number first_found).1 in
+      true≢false (sym has ∙ no_place (is_for number) tickets (subst (λ t. position (is_for number) t ≡ None) t3_is none))
+
+  pub chosen : (place : ℕ) (ticket : Ticket) (left : List ℕ) → number ≡ get_or posted at number → left ≡ remove posted at → position (is_for number) t3 ≡ Some place → ticket ≡ get_or tickets place ticket → IsFirstPosted tickets posted (Some ticket) left
+  chosen place ticket left is rest there ticket_is =
+      let p = (position-Some (is_for number) tickets place ticket (subst (λ t. position (is_for number) t ≡ Some place) t3_is there)).1 in
+      let same : ticket.number ≡ number = eqb-true ticket.number number (subst (λ (t : Ticket). is_for number t ≡ true) (sym ticket_is) p) in
+      (at, first_found, get_there posted at number at_within ∙ ap Some (sym is ∙ sym same), rest)

@@ -1,6 +1,7 @@
 -- Sources and their callers: what holds of them as the history grows, and what the whole history says of them.
 use Rattle.std.proofs.Common.{◌≡◌, ◌≢◌, ◌⊎◌, inl, inr, ℕ, zero, suc, ◌+◌, ◌<◌, ◌≤◌, ◌==◌, cond, bytes_eq, Bool, true, false, List, [], ◌∷◌, ◌++◌, map, sym, refl, ap, ◌∙◌, subst, arith, Option, Some, None, length, slice_index_or, slice_get, slice_set, eq-eqb, eqb-true, Ok, Err}
-use Rattle.std.specs.Prelude.{All, AllPairs, Any, Contains, flat_map, IfSome, Result, result_ok}
+use Rattle.std.specs.Prelude.{All, AllPairs, Any, Contains, flat_map, IfSome, Result}
+use Rattle.std.specs.Result.{result_ok}
 use Rattle.std.proofs.lemmas.List.{map-append}
 use Rattle.std.proofs.lemmas.Slice.Eq.{bytes_eq-Decides}
 use Rattle.std.proofs.lemmas.List.Elements.{All-nil, All-cons, All-append, All-contains, All-weaker, Contains-append_left, Contains-get_or}
@@ -197,6 +198,10 @@ urls_asked : (answers : List (Answer Posted)) → map url_of (map ask_for answer
 urls_asked [] = refl
 urls_asked (a ∷ answers) = ap (λ l. a.url ∷ l) (urls_asked answers)
 
+all_taken : (asked : List Asked) (takes : List Url) → (takes ≡ map url_of asked) ⊎ ((u : Url) × (takes ≡ map url_of asked ++ u ∷ [])) → (a : Asked) → Contains asked a → Contains takes a.url
+all_taken asked takes (inl e) a there = subst (λ l. Contains l a.url) (sym e) (contains_mapped url_of asked a there)
+all_taken asked takes (inr (u, e)) a there = subst (λ l. Contains l a.url) (sym e) (Contains-append_left (map url_of asked) (u ∷ []) a.url (contains_mapped url_of asked a there))
+
 module _ {G : Type 0} where
   -- a source was asked for what its caller took, and at most one URL that was taken is missing
   asked_urls : (holds : Option Contents) (asked : List Asked) (c : ℕ) (h : List (MapEvent Posted G)) → Served holds asked c h
@@ -209,10 +214,6 @@ module _ {G : Type 0} where
       by_end (inl e) = inr (s.url, s.takes_is ∙ ap (λ l. l ++ s.url ∷ []) (sym (urls_asked (answers_by weight c h)) ∙ ap (map url_of) (sym e)))
       by_end (inr (kind, e)) = inl (s.takes_is ∙ ap (λ l. l ++ s.url ∷ []) (sym (urls_asked (answers_by weight c h)))
           ∙ sym (map-append url_of (map ask_for (answers_by weight c h)) (record { url = s.url; kind = kind } ∷ [])) ∙ ap (map url_of) (sym e))
-
-  all_taken : (asked : List Asked) (takes : List Url) → (takes ≡ map url_of asked) ⊎ ((u : Url) × (takes ≡ map url_of asked ++ u ∷ [])) → (a : Asked) → Contains asked a → Contains takes a.url
-  all_taken asked takes (inl e) a there = subst (λ l. Contains l a.url) (sym e) (contains_mapped url_of asked a there)
-  all_taken asked takes (inr (u, e)) a there = subst (λ l. Contains l a.url) (sym e) (Contains-append_left (map url_of asked) (u ∷ []) a.url (contains_mapped url_of asked a there))
 
   -- what was posted was asked of the source, and is a true answer of it
   answered_there : (holds : Option Contents) (asked : List Asked) (c : ℕ) (h : List (MapEvent Posted G)) (a : Answer Posted) → Served holds asked c h → Contains (answers_by weight c h) a → Contains asked (ask_for a) × IsTrueAnswer holds a
@@ -284,11 +285,8 @@ module _ {G S : Type 0} (holds_of : S → Option Contents) (asked_of : S → Lis
 
   -- ---- each delivery is an answer of a source
 
-  abbrev IsAnswered : List S → Delivery → Type 0
-  IsAnswered ss d = WasDelivered asked_of holds_of ss d × IsRead d.outcome
-
   pub answered_by : PostsAreAnswers Posted G weight → (h : List (MapEvent Posted G)) (cs : List ℕ) (ss : List S) → is_legal weight h ≡ true → ((k : ℕ) → names maker_of k h ≡ 1 → times k cs ≡ 1) → AreServed holds_of asked_of Q h cs ss
-      → (d : Delivery) → WasPosted h d → IsAnswered ss d
+      → (d : Delivery) → WasPosted h d → WasDelivered asked_of holds_of ss d × IsRead d.outcome
   answered_by law h cs ss legal each all d w =
       let a : Answer Posted = record { number = w.number; url = d.url; payload = w.payload } in
       let p = law w.number d.url w.payload h legal w.has_url w.posted in

@@ -1,5 +1,5 @@
 // What the calling thread has asked of the module map and not delivered.
-ghost use Rattle.std.specs.Prelude.{◌≡◌, ◌≤◌, [], ◌+◌, ◌++◌, ℕ, List, length, All, IfOk, IfSome, OnOk, Contains, position, true};
+ghost use Rattle.std.specs.Prelude.{◌≡◌, ◌≤◌, [], ◌+◌, ◌++◌, ℕ, List, length, All, IfOk, IfSome, OnErr, OnOk, Contains, position, true};
 ghost use Rattle.esm_base.specs.Urls.{IsUsable, is_usable};
 ghost use Rattle.esm_turn.specs.Represents.{Represents};
 ghost use Rattle.esm_import_map.specs.ImportMap.{Maps};
@@ -89,6 +89,7 @@ fn ask_one<R: Wait>(
     ensures tickets { All (HasTicket (view_in caller.old.pass).seen) tickets.old.items
         → OnOk result (All (HasTicket (view_in caller.new.pass).seen) tickets.new.items) }
     ensures more { OnOk result (length tickets.new.items ≡ length tickets.old.items + 1) }
+    ensures none { OnErr result (tickets.new.items ≡ tickets.old.items) }
 {
     map_laws::urls_stay::<Posted>();
     let Ok(asked) = modules.ask(rt, caller, &url, Why::Wanted) else {
