@@ -208,3 +208,8 @@ module _ (tickets t2 t3 : List Ticket) (posted p1 : List ℕ) (at number : ℕ) 
       let p = (position-Some (is_for number) tickets place ticket (subst (λ t. position (is_for number) t ≡ Some place) t3_is there)).1 in
       let same : ticket.number ≡ number = eqb-true ticket.number number (subst (λ (t : Ticket). is_for number t ≡ true) (sym ticket_is) p) in
       (at, first_found, get_there posted at number at_within ∙ ap Some (sym is ∙ sym same), rest)
+
+-- ---- what was heard
+
+pub one_more : (xs init more ys : List ℕ) (v : ℕ) → ys ≡ xs ++ v ∷ [] → xs ≡ init ++ more → (m : List ℕ) × (ys ≡ init ++ m)
+one_more xs init more ys v grew before = (more ++ v ∷ [], grew ∙ ap (λ l. l ++ v ∷ []) before ∙ append_assoc init more (v ∷ []))

@@ -1,6 +1,6 @@
-use Rattle.std.proofs.Common.{◌∙◌, refl, sym, ap, [], ◌∷◌, ◌++◌, append-nil, append_assoc}
+use Rattle.std.proofs.Common.{◌∙◌, refl, sym, [], append-nil}
 use Rattle.esm_module_map.specs.Views.{view_in}
-use Rattle.esm_run.proofs.LeadLemmas.{begins_same, stays_on}
+use Rattle.esm_run.proofs.LeadLemmas.{begins_same, one_more, stays_on}
 use Rattle.esm_run.proofs.tickets.hear.Goals as goal
 
 pub loop-init : goal.loop-init
@@ -12,7 +12,7 @@ loop-preserved g c = record {
   same = (c.post_at.ensures.same.0.0 ∙ c.loop.invariant.same.0, c.post_at.ensures.same.0.1 ∙ c.loop.invariant.same.1, c.post_at.ensures.same.0.2 ∙ c.loop.invariant.same.2);
   number = c.post_at.ensures.same.1 ∙ c.loop.invariant.number;
   says = stays_on c.args.caller.now.number c.loop.caller.number (view_in c.args.caller.now.pass).seen (view_in c.loop.caller.pass).seen (view_in c.post_at.new.caller.pass).seen c.loop.invariant.number c.loop.invariant.says c.post_at.ensures.says;
-  order = (c.loop.invariant.order.0 ++ c.in-Some.field-0 ∷ [], c.in-Ok.ensures.items ∙ ap (λ l. l ++ c.in-Some.field-0 ∷ []) c.loop.invariant.order.1 ∙ append_assoc _ c.loop.invariant.order.0 (c.in-Some.field-0 ∷ []));
+  order = one_more _ _ _ _ _ c.in-Ok.ensures.items c.loop.invariant.order.1;
   tickets = c.loop.invariant.tickets;
 }
 
