@@ -5,4 +5,4 @@ use Rattle.esm_turn.specs.Represents.{Represents}
 use Rattle.esm_run.proofs.lead.start.Goals as goal
 
 pub returns : goal.returns
-returns c = subst (λ url. IfOk c.new.result (λ m. Represents (arc_value c.args.map) url m [])) c.in_ok.ensures c.new.ensures.represents
+returns c = subst (λ url. IfOk c.new.result (λ m. Represents (arc_value c.args.map) url m [])) c.in_ok-clone.ensures c.new.ensures.represents
