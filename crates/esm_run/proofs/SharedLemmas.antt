@@ -161,6 +161,16 @@ module _ {G S : Type 0} (holds_of : S → Option Contents) (asked_of : S → Lis
 pub served_if_next : {G : Type 0} (short : Bool) (holds kept : Option Contents) (asked : List Asked) (c d : ℕ) (h : List (MapEvent Posted G)) → kept ≡ holds → d ≡ c → ServedIf short holds asked c h → ServedIf short kept asked d h
 served_if_next short holds kept asked c d h same number s = subst (λ k. ServedIf short k asked d h) (sym same) (subst (λ n. ServedIf short holds asked n h) (sym number) s)
 
+-- ---- callers that have done nothing
+
+pub new_kept : {G : Type 0} (c d : ℕ) (v w : View (MapEvent Posted G)) → d ≡ c → w.numbers ≡ v.numbers → w.seen ≡ v.seen → IsNew c v → IsNew d w
+new_kept c d v w number numbers seen new = subst (λ n. IsNew n w) (sym number) (record {
+  own = numbers ∙ new.own;
+  unasked = ap (asks_by weight c) seen ∙ new.unasked;
+  untaken = ap (takes_by weight c) seen ∙ new.untaken;
+  unanswered = ap (answers_by weight c) seen ∙ new.unanswered;
+})
+
 -- ---- a list of one source
 
 module _ {S : Type 0} where

@@ -4,8 +4,8 @@ use Rattle.esm_module_map.specs.Views.{view_in, table_of}
 use Rattle.esm_run.specs.Inner.Leading.{IsNew}
 use Rattle.esm_run.proofs.workers.enrol_workers.Given as goal
 
-abbrev pub invariant-loop : goal.invariant-loop
-invariant-loop g l = record {
+abbrev pub invariant-loop-caller : goal.invariant-loop-caller
+invariant-loop-caller g l = record {
   own : table_of l.modules.lock.table.shared.table_id l.caller.pass ≡ l.modules.lock.table.shared.table_id;
   shares : (view_in l.caller.pass).shares + length l.workers.items ≡ (view_in l.initial.caller.pass).shares;
   new : IsNew l.caller.number (view_in l.caller.pass);
@@ -13,5 +13,5 @@ invariant-loop g l = record {
   many : length l.workers.items ≤ l.count;
 }
 
-abbrev pub decreases-loop : goal.decreases-loop
-decreases-loop g l = l.count - length l.workers.items
+abbrev pub decreases-loop-caller : goal.decreases-loop-caller
+decreases-loop-caller g l = l.count - length l.workers.items
