@@ -52,7 +52,7 @@ returns-in_default-advance-clause-same g c =
     ((c.advance.ensures.same.0.0 ∙ inv.same.0, c.advance.ensures.same.0.1 ∙ inv.same.1, c.advance.ensures.same.0.2 ∙ inv.same.2), c.advance.ensures.same.1 ∙ inv.number)
 
 pub returns-in_default-advance-clause-served : goal.returns-in_default-advance-clause-served
-returns-in_default-advance-clause-served g c = served_next (g.S.Source.holds c.args.source.now) (g.S.Source.holds c.loop.source) (g.S.Source.asked c.advance.new.source) c.args.caller.now.number c.loop.caller.number (view_in c.advance.new.caller.pass).seen (sym c.loop.invariant.holds) c.loop.invariant.number c.in_default-advance.ensures.served
+returns-in_default-advance-clause-served g c = served_next (g.S.Source.holds c.args.source.now) (g.S.Source.holds c.loop.source) (g.S.Source.asked c.advance.new.source) c.args.caller.now.number c.loop.caller.number (view_in c.advance.new.caller.pass).seen c.loop.invariant.holds c.loop.invariant.number c.in_default-advance.ensures.served
 
 pub returns-in_default-advance-clause-ends : goal.returns-in_default-advance-clause-ends
 returns-in_default-advance-clause-ends g c =
