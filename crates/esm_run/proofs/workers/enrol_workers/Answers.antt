@@ -1,13 +1,23 @@
-use Rattle.std.proofs.Common.{◌≡◌, ◌≤◌, ◌+◌, ◌∙◌, ap, sym, subst, arith, length, ◌∷◌, []}
-use Rattle.std.specs.Prelude.{All}
+use Rattle.std.proofs.Common.{◌∙◌, arith}
 use Rattle.std.proofs.lemmas.List.Elements.{All-push}
-use Rattle.esm_module_map.specs.Views.{view_in, table_of}
-use Rattle.esm_run.specs.Inner.Leading.{IsNew}
+use Rattle.esm_module_map.specs.Views.{view_in}
 use Rattle.esm_run.proofs.SharedLemmas.{new_kept}
 use Rattle.esm_run.proofs.workers.enrol_workers.Goals as goal
 
 pub loop-caller-preserved : goal.loop-caller-preserved
-loop-caller-preserved g c = ?
+loop-caller-preserved g c =
+    let inv = c.loop-caller.invariant in
+    let one = c.in-Ok-push.ensures.len in let new = c.push.new.self.ok.0 in let old = c.loop-caller.workers.ok.0 in
+    let less = c.split-pass.ensures.shares.0 in let all = inv.shares in let test = c.loop-caller-test.true in let len = c.len.ensures in
+    record {
+      own = c.split-pass.ensures.own.0;
+      shares = omega (arith, one, new, old, less, all);
+      new = new_kept c.loop-caller.caller.number c.split-pass.new.caller.number (view_in c.loop-caller.caller.pass) (view_in c.split-pass.new.caller.pass) c.split-pass.ensures.kept.0 c.split-pass.ensures.kept.1 c.split-pass.ensures.seen.0 inv.new;
+      workers = rw c.in-Ok-push.ensures.items (All-push _ c.loop-caller.workers.items c.in-Ok.one inv.workers (c.in-Ok.ensures.own, c.in-Ok.ensures.shares ∙ c.split-pass.ensures.shares.1, c.in-Ok.ensures.new));
+      many = omega (arith, one, new, old, test, len);
+    }
 
 pub split-pass-requires-clause-shares : goal.split-pass-requires-clause-shares
-split-pass-requires-clause-shares g c = ?
+split-pass-requires-clause-shares g c =
+    let all = c.loop-caller.invariant.shares in let test = c.loop-caller-test.true in let len = c.len.ensures in let old = c.loop-caller.workers.ok.0 in let some = c.requires.shares in
+    omega (arith, all, test, len, old, some)
