@@ -1,31 +1,18 @@
 -- What a machine may take, and how its run ends.
-use Rattle.std.proofs.Common.{◌≡◌, ◌≢◌, ◌<◌, ◌≤◌, ◌∙◌, ap, sym, subst, refl, ℕ, List, [], ◌∷◌, ◌++◌, length, get_or, arith, ◌⊎◌, inl, inr, true}
+use Rattle.std.proofs.Common.{◌≡◌, ◌≢◌, ◌∙◌, ap, sym, subst, refl, ℕ, List, [], ◌++◌, true}
 use Rattle.std.specs.Prelude.{Option, Some, None, is_some, option_map, slice_get}
-use Rattle.std.proofs.lemmas.List.Elements.{All-nil, All-cons, All-append}
-use Rattle.std.proofs.lemmas.List.{map-append, length-map}
 use Rattle.esm_base.specs.declared.status.Status.{Status}
 use Rattle.esm_base.specs.declared.status.Status.TheVariants as statuses
-use Rattle.esm_ports.specs.declared.asked.Asked.{Asked}
-use Rattle.esm_ports.specs.declared.asked.AskKind.{AskKind}
-use Rattle.esm_ports.specs.declared.asked.AskKind.TheVariants.{Body}
-use Rattle.esm_ports.specs.Asks.{asks_with}
-use Rattle.esm_ast.specs.Outcome.{OutcomeView}
-use Rattle.esm_base.specs.Urls.{Url, has, same_url}
-use Rattle.esm_realm.proofs.Urls.{or_left, own_text}
+use Rattle.esm_base.specs.Urls.{Url, has}
 use Rattle.esm_load.specs.Loading.{Loading, LoadState}
 use Rattle.esm_load.specs.Loading as loads
 use Rattle.esm_base.specs.declared.end.End.TheVariants as ends
 use Rattle.esm_turn.specs.LastLine.{Ending, ending_by, status_of, Stopped, Uncaught, Done, Pending}
-use Rattle.esm_turn.specs.Run.{Delivery, completed, Shown, shown, ending, StandardRun}
-use Rattle.esm_turn.specs.World.{World, opening}
-use Rattle.esm_turn.specs.Laws.{FewDeliveries}
+use Rattle.esm_turn.specs.Run.{Delivery, Shown, ending, StandardRun}
+use Rattle.esm_turn.specs.World.{World}
 use Rattle.esm_turn.specs.Represents.{TurnEnd, State, ShowsBy, MayTake, MayTakeBy, asks_of, asks_by_stop, ending_of, ending_by_stop, Represents}
-use Rattle.esm_run.specs.declared.report.Delivery as report
-use Rattle.esm_fetch.specs.Answered.{Contents, kind_of, IsRead}
-use Rattle.esm_run.specs.Taken.{delivery_of, deliveries_of, ask_of, IsTold}
 use Rattle.esm_import_map.specs.ImportMap.{Maps}
 use Rattle.esm_run.specs.Written.{last_text, written_text}
-use Rattle.esm_run.specs.Inner.Driving.{IsOpenAsk, IsDriven, IsCutShort}
 
 -- an open ask may be taken, and its machine hasn't stopped
 may_take_by : (stop : Option TurnEnd) (l : Loading) (u : Url) → has (asks_by_stop stop l) u ≡ true → MayTakeBy stop l u
