@@ -5,23 +5,23 @@ use Rattle.std.specs.Prelude.{codes, Option, Some, None, Bool, true, false, ◌&
 use Rattle.url.specs.Parts.{Parts, serialize}
 use Rattle.esm_base.specs.Urls.{Text, is_usable, url_of}
 use Rattle.esm_run.specs.declared.arguments.Command.{Command}
-use Rattle.esm_run.specs.Arguments.{are_map, are_run, command_by, command_of, command_on, command_with, digit_of, map_url, number_of, one_option, options_of, options_with, two_digits, two_options, usable_text, usual_workers, within, workers_by, Options}
+use Rattle.esm_run.specs.Arguments.{are_map, are_run, command_by, command_of, command_on, command_with, digit_of, map_url, number_of, options_of, options_with, two_digits, usable_text, usual_workers, within, workers_by, Options}
 
 -- another number of words than three, five or seven is no command
-if_none : (b : Bool) → None ≡ (if b then None else None)
-if_none true = refl
-if_none false = refl
+if_none : (b : Bool) (found : Option Command) → found ≡ (if b then found else found)
+if_none true found = refl
+if_none false found = refl
 
 pub other_words : {Z : Type 0} (many : ℕ) (words : List (String Z)) → length words ≢ 3 → length words ≢ 5 → length words ≢ 7 → None ≡ command_of many (map string_bytes words)
 other_words many [] three five seven = refl
 other_words many (a ∷ []) three five seven = refl
 other_words many (a ∷ b ∷ []) three five seven = refl
 other_words many (a ∷ b ∷ c ∷ []) three five seven = absurd (omega arith)
-other_words many (a ∷ b ∷ c ∷ d ∷ []) three five seven = if_none (are_run (string_bytes a) (string_bytes b) (string_bytes c))
+other_words many (a ∷ b ∷ c ∷ d ∷ []) three five seven = if_none (are_run (string_bytes a) (string_bytes b) (string_bytes c)) None
 other_words many (a ∷ b ∷ c ∷ d ∷ e ∷ []) three five seven = absurd (omega arith)
-other_words many (a ∷ b ∷ c ∷ d ∷ e ∷ f ∷ []) three five seven = if_none (are_run (string_bytes a) (string_bytes b) (string_bytes c))
+other_words many (a ∷ b ∷ c ∷ d ∷ e ∷ f ∷ []) three five seven = if_none (are_run (string_bytes a) (string_bytes b) (string_bytes c)) None
 other_words many (a ∷ b ∷ c ∷ d ∷ e ∷ f ∷ g ∷ []) three five seven = absurd (omega arith)
-other_words many (a ∷ b ∷ c ∷ d ∷ e ∷ f ∷ g ∷ h ∷ words) three five seven = if_none (are_run (string_bytes a) (string_bytes b) (string_bytes c))
+other_words many (a ∷ b ∷ c ∷ d ∷ e ∷ f ∷ g ∷ h ∷ words) three five seven = if_none (are_run (string_bytes a) (string_bytes b) (string_bytes c)) None
 
 -- ---- the entry of a command is usable
 
@@ -57,7 +57,8 @@ command_parts : (many : ℕ) (words : List Text) (c : Command) → command_of ma
 command_parts many [] c is = absurd (cc is)
 command_parts many (a ∷ []) c is = absurd (cc is)
 command_parts many (a ∷ b ∷ []) c is = absurd (cc is)
-command_parts many (a ∷ b ∷ e ∷ rest) c is = (rest, by_parts b e (options_of many rest) c (if_some (are_run a b e) _ c is))
+command_parts many (a ∷ b ∷ e ∷ rest) c is =
+    let parts = by_parts b e (options_of many rest) c (if_some (are_run a b e) _ c is) in (rest, parts.0, parts.1, parts.2, parts.3)
 
 pub usable_entry : (many : ℕ) (words : List Text) (c : Command) → command_of many words ≡ Some c → is_usable c.entry ≡ true
 usable_entry many words c is = (command_parts many words c is).3

@@ -3,15 +3,14 @@ use Rattle.std.proofs.Common.{◌≡◌, ◌≢◌, ◌∙◌, ap, sym, subst, r
 use Rattle.std.specs.Prelude.{Option, Some, None, is_some, option_map, slice_get}
 use Rattle.esm_base.specs.declared.status.Status.{Status}
 use Rattle.esm_base.specs.declared.status.Status.TheVariants as statuses
-use Rattle.esm_base.specs.declared.end.End.TheVariants as ends
 use Rattle.esm_base.specs.Urls.{Url, has}
-use Rattle.esm_import_map.specs.ImportMap.{Maps}
 use Rattle.esm_load.specs.Loading.{Loading, LoadState}
 use Rattle.esm_load.specs.Loading as loads
 use Rattle.esm_turn.specs.LastLine.{Ending, ending_by, status_of, Stopped, Uncaught, Done, Pending}
 use Rattle.esm_turn.specs.Run.{Delivery, Shown, ending, StandardRun}
 use Rattle.esm_turn.specs.World.{World}
 use Rattle.esm_turn.specs.Represents.{TurnEnd, State, ShowsBy, MayTake, MayTakeBy, asks_of, asks_by_stop, ending_of, ending_by_stop, Represents}
+use Rattle.esm_import_map.specs.ImportMap.{Maps}
 use Rattle.esm_run.specs.Written.{last_text, written_text}
 
 -- an open ask may be taken, and its machine hasn't stopped
