@@ -6,6 +6,7 @@ use Rattle.esm_base.specs.declared.status.Status.TheVariants as statuses
 use Rattle.esm_base.specs.Urls.{Url, has}
 use Rattle.esm_load.specs.Loading.{Loading, LoadState}
 use Rattle.esm_load.specs.Loading as loads
+use Rattle.esm_base.specs.declared.end.End.TheVariants as ends
 use Rattle.esm_turn.specs.LastLine.{Ending, ending_by, status_of, Stopped, Uncaught, Done, Pending}
 use Rattle.esm_turn.specs.Run.{Delivery, Shown, ending, StandardRun}
 use Rattle.esm_turn.specs.World.{World}

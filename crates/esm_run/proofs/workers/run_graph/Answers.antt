@@ -12,13 +12,13 @@ pub returns-in_default : goal.returns-in_default
 returns-in_default g c = graph_none g.S.Source.asked g.S.Source.holds _ _ _ c.unrun.result.machine _ c.args.sources.items c.unrun.result.sources.items c.requires.fresh c.unrun.ensures.machine (ap deliveries_of c.unrun.ensures.taken) (ap (λ v. v.items) c.unrun.ensures.sources)
 
 pub returns-in_default-split_off : goal.returns-in_default-split_off
-returns-in_default-split_off g c = graph_none g.S.Source.asked g.S.Source.holds _ _ _ c.unrun.result.machine _ c.args.sources.items c.unrun.result.sources.items c.requires.fresh c.unrun.ensures.machine (ap deliveries_of c.unrun.ensures.taken) (ap (λ v. v.items) (c.unrun.ensures.sources ∙ c.in_default-split_off.ensures.err))
+returns-in_default-split_off g c = graph_none g.S.Source.asked g.S.Source.holds _ _ _ c.unrun-in_default-split_off.result.machine _ c.args.sources.items c.unrun-in_default-split_off.result.sources.items c.requires.fresh c.unrun-in_default-split_off.ensures.machine (ap deliveries_of c.unrun-in_default-split_off.ensures.taken) (ap (λ v. v.items) (c.unrun-in_default-split_off.ensures.sources ∙ c.in_default-split_off.ensures.err))
 
 pub with_workers-led-requires-clause-many : goal.with_workers-led-requires-clause-many
 with_workers-led-requires-clause-many g c = let a = c.in-Ok-split_off.ensures.len in let b = c.split_off.new.self.ok.0 in let d = c.in-Ok.ensures.many in let e = c.requires.some in omega (arith, a, b, d, e)
 
 pub with_workers-led-requires-clause-fresh : goal.with_workers-led-requires-clause-fresh
-with_workers-led-requires-clause-fresh g c = subst (All (λ s. g.S.Source.asked s ≡ [])) (sym c.in-Ok-split_off.ensures.items) (All-take (λ s. g.S.Source.asked s ≡ []) c.args.workers c.args.sources.items c.requires.fresh)
+with_workers-led-requires-clause-fresh g c = ?
 
 pub returns : goal.returns
 returns g c =
@@ -35,3 +35,6 @@ returns g c =
     given (rw c.in-Ok-append.is at c.append.ensures.items) many
     (subst (All (λ s. g.S.Source.asked s ≡ [])) (sym cut.ensures.tail) (All-drop (λ s. g.S.Source.asked s ≡ []) c.args.workers c.args.sources.items c.requires.fresh))
     c.with_workers-led.ensures.kept
+
+pub unreachable-requires : goal.unreachable-requires
+unreachable-requires g c = ?
