@@ -24,4 +24,4 @@ returns-in-Some g c =
 
 pub returns-in-Err-Memory : goal.returns-in-Err-Memory
 returns-in-Err-Memory g c = MapUnread (rw c.in-Err-Memory.field-0-is at c.in-Err-Memory.ensures.comes)
-    (record { status_is = c.unasked.ensures.status; taken_none = ap deliveries_of c.unasked.ensures.taken; untouched = ap (λ v. v.items) c.unasked.ensures.sources; unwritten = (refl, refl) })
+    (record { status_is = c.unasked-in-Err-Memory.ensures.status; taken_none = ap deliveries_of c.unasked-in-Err-Memory.ensures.taken; untouched = ap (λ v. v.items) c.unasked-in-Err-Memory.ensures.sources; unwritten = (refl, refl) })
