@@ -1,6 +1,6 @@
 use Rattle.std.proofs.Common.{◌≡◌, ◌∙◌, ap, sym, subst, arith, length, drop, ◌++◌, []}
 use Rattle.std.specs.Prelude.{All}
-use Rattle.std.proofs.lemmas.List.{take-append-drop}
+use Rattle.std.proofs.lemmas.List.{length-map, take-append-drop}
 use Rattle.std.proofs.lemmas.List.Elements.{All-take, All-drop}
 use Rattle.esm_module_map.specs.Views.{view_in}
 use Rattle.esm_run.specs.Taken.{deliveries_of}
@@ -18,7 +18,7 @@ pub with_workers-led-requires-clause-many : goal.with_workers-led-requires-claus
 with_workers-led-requires-clause-many g c = let a = c.in-Ok-split_off.ensures.len in let b = c.split_off.new.self.ok.0 in let d = c.in-Ok.ensures.many in let e = c.requires.some in omega (arith, a, b, d, e)
 
 pub with_workers-led-requires-clause-fresh : goal.with_workers-led-requires-clause-fresh
-with_workers-led-requires-clause-fresh g c = ?
+with_workers-led-requires-clause-fresh g c = λ κs lives. subst (All (λ s. g.S.Source.asked s ≡ [])) (sym c.in-Ok-split_off.ensures.items) (All-take (λ s. g.S.Source.asked s ≡ []) c.args.workers c.args.sources.items c.requires.fresh)
 
 pub returns : goal.returns
 returns g c =
@@ -37,4 +37,11 @@ returns g c =
     c.with_workers-led.ensures.kept
 
 pub unreachable-requires : goal.unreachable-requires
-unreachable-requires g c = ?
+unreachable-requires g c =
+    let kept = ap length c.with_workers-led.ensures.kept in
+    let a = length-map c.with_workers-led.result.sources.items g.S.Source.holds in
+    let b = length-map c.split_off.new.self.items g.S.Source.holds in
+    let full = c.in_default-append.ensures.full in let room = c.with_workers-led.ensures.room in let cap = c.in-Ok-split_off.ensures.capacity in
+    let tail = c.in-Ok-split_off.ensures.tail_len in let len = c.in-Ok-split_off.ensures.len in
+    let led = c.with_workers-led.result.sources.ok in let cut = c.split_off.new.self.ok in let given = c.args.sources.ok in
+    omega (arith, kept, a, b, full, room, cap, tail, len, led, cut, given)
