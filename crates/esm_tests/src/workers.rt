@@ -46,7 +46,7 @@ fn run_words<R: Threads + Wait + Sync>(
 fn busy(sources: &[SureSource]) -> usize {
     let mut busy: usize = 0;
     for source in sources {
-        if !source.asked().is_empty() {
+        if source.asked.len() > 0 {
             busy = busy.saturating_add(1);
         }
     }
@@ -78,7 +78,7 @@ fn one_worker_asks_the_first_source_alone(rt: HostRuntime) -> Result<(), Memory>
         let mut out = SureSink::new(alloc);
         let report = run_words(&rt, alloc, line.as_str(), row.files, &mut out)?;
         assert_eq!(rt; busy(&report.sources), 1, "{}", row.name);
-        assert_eq!(rt; report.sources[0].asked().len(), row.files.len(), "{}", row.name);
+        assert_eq!(rt; report.sources[0].asked.len(), row.files.len(), "{}", row.name);
     }
     Ok(())
 }
