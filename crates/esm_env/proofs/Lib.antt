@@ -1,3 +1,4 @@
+pub mod FoundNames
 pub mod Places
 pub mod ScopesLemmas
 pub mod FaithfulLemmas

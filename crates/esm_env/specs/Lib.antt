@@ -4,6 +4,7 @@ pub mod Cells
 pub mod Bindings
 pub mod Reading
 pub mod Writing
+pub mod NamePlaces
 pub mod Slots
 pub mod Scopes
 pub mod Calls

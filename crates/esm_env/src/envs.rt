@@ -9,7 +9,7 @@ ghost use Rattle.esm_env.specs.Slots.{slot_in, cell_in};
 
 use crate::makes::slots_of;
 use crate::scope::{ModuleScope, Read, Target, Wrote};
-use crate::slots::{place, value_at};
+use crate::slots::value_at;
 use esm_base::{Memory, ModuleId, Text};
 use esm_tree::Tree;
 use esm_values::Value;
@@ -49,13 +49,9 @@ impl Envs {
             ≡ scope_in (scopes_of self.old) n) }
     {
         let slots = slots_of(alloc, m, &tree)?;
+        let scope = ModuleScope::new(alloc, m, tree, slots, imports)?;
         self.grow(m.0 as usize)?;
-        self.scopes[m.0 as usize] = Some(ModuleScope {
-            namespace: Value::Namespace(m),
-            tree,
-            slots,
-            imports,
-        });
+        self.scopes[m.0 as usize] = Some(scope);
         Ok(())
     }
 
@@ -158,7 +154,7 @@ impl Envs {
 fn read_slot<'a>(scope: &'a ModuleScope, name: &str) -> Read<'a>
     ensures { told_read result ≡ read_cell (cell_in (slot_in scope.now.slots.items name.now)) }
 {
-    match place(scope.slots.as_slice(), name) {
+    match scope.place(name) {
         Some(at) => match value_at(scope.slots.as_slice(), at) {
             Some(value) => Read::Value(value),
             None => Read::Unset,

@@ -2,7 +2,9 @@
 #![tactic(auto)]
 
 mod envs;
+mod index;
 pub mod laws;
+mod lookups;
 mod makes;
 mod scope;
 mod slots;

@@ -18,7 +18,6 @@ use Rattle.esm_eval.proofs.HasMarks.{first_has, others_have}
 use Rattle.esm_eval.proofs.HasReady.{ready_among}
 use Rattle.esm_eval.proofs.Puts.{put_at}
 
-
 is_over : (p : Phase) → (p ≡ Evaluated) ⊎ (p ≢ Evaluated)
 is_over NotEntered = inr (λ e. cc)
 is_over Evaluating = inr (λ e. cc)

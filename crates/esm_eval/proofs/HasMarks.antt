@@ -59,14 +59,14 @@ module _ {N V W S : Type 0} (E : Evaluation N V W) (acts : BodyCalls N V W S) (F
   close_fits x (y ∷ ys) w f m ms =
       let g = good w f y in
       close_fits x ys (E.put w y (record (E.node w y) { phase = closed_phase E (is_stamped E w y); cycle_root = Some x }))
-          (C.put w y _ f (first_has IsModule y ys ms) (record { error = g.error; root = m; waits = g.waits; waiters = g.waiters })) m (others_have IsModule y ys ms)
+      (C.put w y _ f (first_has IsModule y ys ms) (record { error = g.error; root = m; waits = g.waits; waiters = g.waiters })) m (others_have IsModule y ys ms)
 
   fail_fits : (v : V) (ys : List N) (w : W) → Fits w → IsKnown v → All IsModule ys → Fits (fail E w v ys)
   fail_fits v [] w f k ms = f
   fail_fits v (y ∷ ys) w f k ms =
       let g = good w f y in
       fail_fits v ys (E.put w y (record (E.node w y) { phase = Evaluated; error = Some v }))
-          (C.put w y _ f (first_has IsModule y ys ms) (record { error = k; root = g.root; waits = g.waits; waiters = g.waiters })) k (others_have IsModule y ys ms)
+      (C.put w y _ f (first_has IsModule y ys ms) (record { error = k; root = g.root; waits = g.waits; waiters = g.waiters })) k (others_have IsModule y ys ms)
 
   wait_fits : (w : W) (x y : N) → Fits w → IsModule x → IsModule y → Fits (put_waiter E (put_wait E w x y) x y)
   wait_fits w x y f m k =
@@ -188,4 +188,4 @@ module _ {N V W S : Type 0} (E : Evaluation N V W) (acts : BodyCalls N V W S) (F
         pass_by w x k.1.0 i opened ms f k.0 k.1.2 all k.1.1 (error_of E w k.1.0) refl (marks_have ms opened k.2 all e)
     marks_have (Leave x ∷ ms) opened k all e w f =
         leave_by w x opened ms k.0 all (leaves w x f k.0)
-            (marks_have ms (open_behind E.same (closes E.same to opened x) opened x) k.1 (behind (closes E.same to opened x) opened x all) e)
+        (marks_have ms (open_behind E.same (closes E.same to opened x) opened x) k.1 (behind (closes E.same to opened x) opened x all) e)

@@ -47,4 +47,4 @@ module _ {N : Type 0} (same : N → N → Bool) (own : (x : N) → same x x ≡ 
     passes_marked (next {x = x} {t = t} {i = i} {ts = ts} {first = first} {marks = marks} v p) m within f =
         let k = inside x t m (within t (in_first same own equal t ts)) in
         marked_on first (Pass x i ∷ marks) (visits_marked v k)
-            (m, (t, first_is x i t ts f, k), passes_marked p m (λ u h. within u (in_later same own equal t ts u h)) (later x i t ts f))
+        (m, (t, first_is x i t ts f, k), passes_marked p m (λ u h. within u (in_later same own equal t ts u h)) (later x i t ts f))

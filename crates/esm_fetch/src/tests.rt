@@ -64,7 +64,10 @@ fn source_of(alloc: Global, files: &[(&str, &str)]) -> Result<MemSource, Fail>
 {
     let mut held = Vec::new(alloc);
     for (url, body) in files {
-        held.push((Text::copy(alloc, url)?, Vec::from_slice(alloc, body.as_bytes())?))?;
+        held.push((
+            Text::copy(alloc, url)?,
+            Vec::from_slice(alloc, body.as_bytes())?,
+        ))?;
     }
     Ok(MemSource::new(alloc, held, Vec::new(alloc))?)
 }
@@ -127,7 +130,9 @@ fn an_absent_url_and_a_shut_map(rt: HostRuntime) -> Result<(), Fail> {
     assert!(rt; ask(&rt, alloc, &modules, &mut main, URL));
     let first = turn(&rt, alloc, &modules, &bell, &mut caller, &mut source)?;
     assert_eq!(rt; first, Turned::Posted(0));
-    let posted = modules.entry(&rt, &mut main, 0)?.ok_or("nothing is posted")?;
+    let posted = modules
+        .entry(&rt, &mut main, 0)?
+        .ok_or("nothing is posted")?;
     assert!(rt; matches!(&posted.outcome, Outcome::Absent));
     let second = turn(&rt, alloc, &modules, &bell, &mut caller, &mut source)?;
     assert_eq!(rt; second, Turned::NotYet);

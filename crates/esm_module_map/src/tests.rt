@@ -246,7 +246,10 @@ fn asks_make_no_more_numbers(rt: HostRuntime) -> Result<(), Fail> {
     let (map, mut caller) = opened(&rt, alloc)?;
     ask_all(&rt, alloc, &map, &mut caller, MAX_URLS)?;
     assert_eq!(rt; ask(&rt, alloc, &map, &mut caller, URL)?, ("Full", 0));
-    assert_eq!(rt; ask(&rt, alloc, &map, &mut caller, "https://a.test/0")?, ("Waiting", 0));
+    assert_eq!(rt;
+        ask(&rt, alloc, &map, &mut caller, "https://a.test/0")?,
+        ("Waiting", 0)
+    );
     Ok(())
 }
 

@@ -6,5 +6,5 @@ use Rattle.esm_fetch.proofs.tests.two_jobs.Goals as goal
 
 pub returns-clause-jobs : goal.returns-clause-jobs
 returns-clause-jobs g c = let P = IsReady c.args.modules.now.lock.table.shared.table_id g.S.Source.holds g.S.Source.asked in
-    subst (All P) (sym (c.push_reserved-2.ensures.items ∙ ap (λ l. l ++ c.args.other ∷ []) (c.push_reserved.ensures.items ∙ ap (λ l. l ++ c.args.one ∷ []) c.in_ok-with_capacity.ensures.items)))
-      (All-cons P c.args.one (c.args.other ∷ []) c.requires.one (All-cons P c.args.other [] c.requires.other (All-nil P)))
+    subst (All P) (sym (c.push_reserved-2.ensures.items ∙ ap (λ l. l ++ c.args.other ∷ []) (c.push_reserved.ensures.items ∙ ap (λ l. l ++ c.args.one ∷ []) c.in_ok-jobs.ensures.items)))
+    (All-cons P c.args.one (c.args.other ∷ []) c.requires.one (All-cons P c.args.other [] c.requires.other (All-nil P)))
