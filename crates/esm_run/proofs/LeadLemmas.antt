@@ -96,10 +96,10 @@ module _ {G : Type 0} where
         driven = record {
           represents = subst (Represents maps entry after) (sym more) (stands maps entry taken led.driven.represents);
           delivered = subst (All (WasPosted new)) (sym more) (All-append (WasPosted new) taken (d ∷ []) (all_posted urls posts old new taken b led.driven.delivered)
-          (All-cons (WasPosted new) d [] (record { number = n; payload = p; has_url = urls n u old new b has; posted = post; outcome = outcome }) (All-nil (WasPosted new))));
+              (All-cons (WasPosted new) d [] (record { number = n; payload = p; has_url = urls n u old new b has; posted = post; outcome = outcome }) (All-nil (WasPosted new))));
         };
         asks = subst (λ l. All (IsStandardAsk maps entry l) (asks_by weight c new)) (sym more) (subst (All (IsStandardAsk maps entry (taken ++ d ∷ []))) (sym same)
-        (All-weaker (IsStandardAsk maps entry taken) (IsStandardAsk maps entry (taken ++ d ∷ [])) (λ url q what longer_run. stay maps entry taken (d ∷ []) (shown led.driven.represents.0) what url run longer_run (q (shown led.driven.represents.0) run)) (asks_by weight c old) led.asks));
+            (All-weaker (IsStandardAsk maps entry taken) (IsStandardAsk maps entry (taken ++ d ∷ [])) (λ url q what longer_run. stay maps entry taken (d ∷ []) (shown led.driven.represents.0) what url run longer_run (q (shown led.driven.represents.0) run)) (asks_by weight c old) led.asks));
       }
 
   -- at the start

@@ -150,7 +150,7 @@ module _ {G S : Type 0} (holds_of : S → Option Contents) (asked_of : S → Lis
       let ends = leads_ends r leads in
       record {
         served = subst (λ ns. AreServed holds_of asked_of Q w.seen ns (s ∷ [])) (sym own)
-        ((subst (λ h. Served h (asked_of s) c w.seen) (sym same) (served_same (holds_of first) (asked_of s) c v.seen w.seen stays.1.0 stays.1.1 served), subst (All Q) (sym stays.1.2) ends.1), tt);
+            ((subst (λ h. Served h (asked_of s) c w.seen) (sym same) (served_same (holds_of first) (asked_of s) c v.seen w.seen stays.1.0 stays.1.1 served), subst (All Q) (sym stays.1.2) ends.1), tt);
         ends = subst (λ m. EndsDriven (WasPosted w.seen) maps entry m taken) (sym made) (ends_on urls posts v.seen w.seen maps entry (result_ok r) taken stays.0 ends.0);
       }
     where

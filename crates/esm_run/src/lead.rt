@@ -237,7 +237,15 @@ fn drive<R: Wait, S: Source>(
             return Ok(machine);
         }
         let Ok(()) = advance(
-            rt, alloc, modules, bell, caller, source, &mut machine, &mut queue, taken,
+            rt,
+            alloc,
+            modules,
+            bell,
+            caller,
+            source,
+            &mut machine,
+            &mut queue,
+            taken,
         ) else {
             return Err(Memory);
         };

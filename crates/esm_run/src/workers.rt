@@ -19,8 +19,8 @@ use crate::lead::{Led, lead};
 use crate::report::Delivery;
 use esm_base::{Memory, Text};
 use esm_fetch::{Bell, Posted, WorkerEnd, worker};
-use esm_import_map::ImportMap;
 use esm_hlock::Pass;
+use esm_import_map::ImportMap;
 use esm_module_map::{Caller, MapState, ModuleMap, laws as map_laws};
 use esm_ports::Source;
 use esm_turn::{Machine, laws};
@@ -169,10 +169,10 @@ fn with_workers<R: Threads + Wait + Sync, S: Source + Send>(
                 rt,
                 || -> WorkerEnd<S>
                     requires { IsSync R.row × (table_of modules.now.lock.table.shared.table_id mine.pass
-        ≡ modules.now.lock.table.shared.table_id)
+                        ≡ modules.now.lock.table.shared.table_id)
                         × IsNew mine.number (view_in mine.pass) × (S.asked source ≡ []) }
                     ensures { (table_of modules.entry.now.lock.table.shared.table_id result.caller.pass
-        ≡ modules.entry.now.lock.table.shared.table_id)
+                        ≡ modules.entry.now.lock.table.shared.table_id)
                         × ((view_in result.caller.pass).shares ≡ (view_in mine.pass).shares)
                         × ((view_in result.caller.pass).numbers ≡ result.caller.number ∷ [])
                         × ServedIf result.short (S.holds result.source) (S.asked result.source) result.caller.number (view_in result.caller.pass).seen
@@ -182,20 +182,24 @@ fn with_workers<R: Threads + Wait + Sync, S: Source + Send>(
                 || -> Led<S>
                     requires { IsSync R.row × (is_usable entry.now ≡ true)
                         × (table_of modules.now.lock.table.shared.table_id caller.pass
-        ≡ modules.now.lock.table.shared.table_id)
+                        ≡ modules.now.lock.table.shared.table_id)
                         × IsNew caller.number (view_in caller.pass)
                         × All (λ w. (table_of modules.now.lock.table.shared.table_id w.pass
-        ≡ modules.now.lock.table.shared.table_id) × ((view_in w.pass).shares ≡ 1)
+                        ≡ modules.now.lock.table.shared.table_id) × ((view_in w.pass).shares ≡ 1)
                         × IsNew w.number (view_in w.pass)) workers.items
                         × (length sources.items ≡ length workers.items + 1)
                         × All (λ s. S.asked s ≡ []) sources.items }
                     ensures { (table_of modules.entry.now.lock.table.shared.table_id result.caller.pass
-        ≡ modules.entry.now.lock.table.shared.table_id)
+                        ≡ modules.entry.now.lock.table.shared.table_id)
                         × ((view_in result.caller.pass).shares ≡ (view_in caller.pass).shares + length workers.items)
                         × (map S.holds result.sources.items ≡ map S.holds sources.items)
                         × (vec_capacity result.sources ≡ vec_capacity sources)
                         × IsShared S.holds S.asked (arc_value import_map) entry.entry.now (view_in result.caller.pass) result.machine (deliveries_of result.taken.items) result.sources.items }
-                { with_workers(rt, alloc, modules, bell, import_map, entry, caller, workers, sources) },
+                {
+                    with_workers(
+                        rt, alloc, modules, bell, import_map, entry, caller, workers, sources,
+                    )
+                },
             );
             gather(modules, led, end)
         }

@@ -62,8 +62,17 @@ fn a_site_runs_the_same_over_any_number_of_workers(rt: HostRuntime) -> Result<()
             let mut out = SureSink::new(alloc);
             let report = run_words(&rt, alloc, line.as_str(), row.files, &mut out)?;
             assert_eq!(rt; report.status, row.status, "{} over {workers}", row.name);
-            assert!(rt; out.written() == row.output.as_bytes(), "{} over {workers}", row.name);
-            assert_eq!(rt; report.taken.len(), row.files.len(), "{} over {workers}", row.name);
+            assert!(rt;
+                out.written() == row.output.as_bytes(),
+                "{} over {workers}",
+                row.name
+            );
+            assert_eq!(rt;
+                report.taken.len(),
+                row.files.len(),
+                "{} over {workers}",
+                row.name
+            );
             assert_eq!(rt; report.sources.len(), 16);
         }
     }
@@ -78,7 +87,12 @@ fn one_worker_asks_the_first_source_alone(rt: HostRuntime) -> Result<(), Memory>
         let mut out = SureSink::new(alloc);
         let report = run_words(&rt, alloc, line.as_str(), row.files, &mut out)?;
         assert_eq!(rt; busy(&report.sources), 1, "{}", row.name);
-        assert_eq!(rt; report.sources[0].asked.len(), row.files.len(), "{}", row.name);
+        assert_eq!(rt;
+            report.sources[0].asked.len(),
+            row.files.len(),
+            "{}",
+            row.name
+        );
     }
     Ok(())
 }

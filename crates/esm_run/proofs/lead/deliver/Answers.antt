@@ -31,7 +31,7 @@ pub returns-clause-led : goal.returns-clause-led
 returns-clause-led g c = λ maps entry led.
     let new = (view_in c.entry.new.caller.pass).seen in let p = arc_value c.in-Ok-Some.payload in
     led_more c.urls_stay.ensures c.posts_stay.ensures c.asks_stay.ensures maps entry c.args.caller.now.number (view_in c.args.caller.now.pass).seen new c.args.machine.now c.hand_over.new.machine (deliveries_of c.args.taken.now.items) (deliveries_of c.push.new.self.items) c.args.ticket.url c.args.ticket.number p (outcome_view c.in-Ok.outcome)
-      c.entry.ensures.says.0 c.entry.ensures.says.1.2 c.in-Ok-hand_over.ensures c.requires.ticket
-      (subst (λ o. IfSome o (λ q. IsPostIn new c.args.ticket.number (arc_value q))) c.in-Ok-Some.field-0-is c.in-Ok-Some.ensures.posted)
-      (sym (c.in-Ok.ensures ∙ ap (λ q. outcome_view q.outcome) c.deref.ensures))
-      (ap deliveries_of c.in-Ok-push.ensures.items ∙ map-append delivery_of c.args.taken.now.items _) led
+    c.entry.ensures.says.0 c.entry.ensures.says.1.2 c.in-Ok-hand_over.ensures c.requires.ticket
+    (subst (λ o. IfSome o (λ q. IsPostIn new c.args.ticket.number (arc_value q))) c.in-Ok-Some.field-0-is c.in-Ok-Some.ensures.posted)
+    (sym (c.in-Ok.ensures ∙ ap (λ q. outcome_view q.outcome) c.deref.ensures))
+    (ap deliveries_of c.in-Ok-push.ensures.items ∙ map-append delivery_of c.args.taken.now.items _) led
