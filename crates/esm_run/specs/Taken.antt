@@ -33,7 +33,8 @@ pub record IsTrueRecord {S : Type 0} (asked_of : S → List Asked) (holds_of : S
   pub once : AllPairs (λ a b. a.url ≢ b.url) taken
 
 -- no URL was asked for twice, the sources come back in order, and behind those of the workers they are as they were given
-pub record IsAskedOnce {S : Type 0} (asked_of : S → List Asked) (holds_of : S → Option Contents) (workers : ℕ) (given back : List S) : Type 0 where
+pub record IsAskedOnce {S : Type 0} (asked_of : S → List Asked) (holds_of : S → Option Contents) (workers : ℕ)
+    (given back : List S) : Type 0 where
   pub once : AllPairs (λ a b. a.url ≢ b.url) (flat_map asked_of back)
   pub idle : drop workers back ≡ drop workers given
   pub kept : map holds_of back ≡ map holds_of given

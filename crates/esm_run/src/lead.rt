@@ -286,8 +286,8 @@ pub(crate) fn lead<R: Wait, S: Source>(
     ensures makers { HasAllMakers maker_of (view_in result.caller.pass) }
     ensures kept { map S.holds result.sources.items ≡ map S.holds sources.items }
     ensures room { vec_capacity result.sources ≡ vec_capacity sources }
-    ensures led { IsShared S.holds S.asked (arc_value import_map) entry.now (view_in result.caller.pass)
-        result.machine (deliveries_of result.taken.items) result.sources.items }
+    ensures led { IsShared S.holds S.asked (arc_value import_map) entry.now
+        (view_in result.caller.pass) result.machine (deliveries_of result.taken.items) result.sources.items }
 {
     map_laws::urls_stay::<Posted>();
     map_laws::posts_stay::<Posted>();

@@ -141,7 +141,8 @@ fn ask_next<R: Wait>(
         → Represents maps entry machine.now taken
         → AsksOn maps entry taken caller.old.number (view_in caller.old.pass).seen
         (view_in caller.new.pass).seen }
-    ensures tickets { OnOk result (All (HasTicket (view_in caller.new.pass).seen) tickets.new.items) }
+    ensures tickets { OnOk result (All (HasTicket (view_in caller.new.pass).seen)
+        tickets.new.items) }
     ensures window { length tickets.old.items ≤ 32 → length tickets.new.items ≤ 32 }
 {
     laws::open_asks();
@@ -183,7 +184,8 @@ pub(crate) fn ask_open<R: Wait>(
         → Represents maps entry machine.now taken
         → AsksOn maps entry taken caller.old.number (view_in caller.old.pass).seen
         (view_in caller.new.pass).seen }
-    ensures tickets { OnOk result (All (HasTicket (view_in caller.new.pass).seen) tickets.new.items) }
+    ensures tickets { OnOk result (All (HasTicket (view_in caller.new.pass).seen)
+        tickets.new.items) }
     ensures window { length tickets.old.items ≤ 32 → length tickets.new.items ≤ 32 }
 {
     for _ in 0..WINDOW {

@@ -154,8 +154,8 @@ fn with_workers<R: Threads + Wait + Sync, S: Source + Send>(
     ensures makers { HasAllMakers maker_of (view_in result.caller.pass) }
     ensures kept { map S.holds result.sources.items ≡ map S.holds sources.items }
     ensures room { vec_capacity result.sources ≡ vec_capacity sources }
-    ensures led { IsShared S.holds S.asked (arc_value import_map) entry.now (view_in result.caller.pass)
-        result.machine (deliveries_of result.taken.items) result.sources.items }
+    ensures led { IsShared S.holds S.asked (arc_value import_map) entry.now
+        (view_in result.caller.pass) result.machine (deliveries_of result.taken.items) result.sources.items }
 {
     let mut workers = workers;
     let mut sources = sources;
@@ -168,11 +168,12 @@ fn with_workers<R: Threads + Wait + Sync, S: Source + Send>(
             let (end, led) = join(
                 rt,
                 || -> WorkerEnd<S>
-                    requires { IsSync R.row × (table_of modules.now.lock.table.shared.table_id mine.pass
+                    requires { IsSync R.row
+                        × (table_of modules.now.lock.table.shared.table_id mine.pass
                         ≡ modules.now.lock.table.shared.table_id)
                         × IsNew mine.number (view_in mine.pass) × (S.asked source ≡ []) }
-                    ensures { (table_of modules.entry.now.lock.table.shared.table_id result.caller.pass
-                        ≡ modules.entry.now.lock.table.shared.table_id)
+                    ensures { (table_of modules.entry.now.lock.table.shared.table_id
+                        result.caller.pass ≡ modules.entry.now.lock.table.shared.table_id)
                         × ((view_in result.caller.pass).shares ≡ (view_in mine.pass).shares)
                         × ((view_in result.caller.pass).numbers ≡ result.caller.number ∷ [])
                         × ServedIf result.short (S.holds result.source) (S.asked result.source) result.caller.number (view_in result.caller.pass).seen
@@ -189,8 +190,8 @@ fn with_workers<R: Threads + Wait + Sync, S: Source + Send>(
                         × IsNew w.number (view_in w.pass)) workers.items
                         × (length sources.items ≡ length workers.items + 1)
                         × All (λ s. S.asked s ≡ []) sources.items }
-                    ensures { (table_of modules.entry.now.lock.table.shared.table_id result.caller.pass
-                        ≡ modules.entry.now.lock.table.shared.table_id)
+                    ensures { (table_of modules.entry.now.lock.table.shared.table_id
+                        result.caller.pass ≡ modules.entry.now.lock.table.shared.table_id)
                         × ((view_in result.caller.pass).shares ≡ (view_in caller.pass).shares + length workers.items)
                         × (map S.holds result.sources.items ≡ map S.holds sources.items)
                         × (vec_capacity result.sources ≡ vec_capacity sources)

@@ -88,7 +88,8 @@ module _ {G : Type 0} where
   KeepsServing c old new = (takes_by weight c new ≡ takes_by weight c old) × (answers_by weight c new ≡ answers_by weight c old)
 
   -- the machine represents what was taken, all of it was posted, and the caller asks as the standard run
-  pub record IsLed (maps : Maps) (entry : Url) (c : ℕ) (h : List (MapEvent Posted G)) (machine : State) (taken : List Delivery) : Type 0 where
+  pub record IsLed (maps : Maps) (entry : Url) (c : ℕ) (h : List (MapEvent Posted G)) (machine : State)
+      (taken : List Delivery) : Type 0 where
     pub driven : IsDriven (WasPosted h) maps entry machine taken
     pub asks : AsksStandard maps entry taken c h
 
@@ -116,7 +117,8 @@ module _ {G : Type 0} where
     pub unanswered : answers_by weight c v.seen ≡ []
 
   -- each source was asked for what its caller took, by the history, and what the caller asked for has the property
-  abbrev pub AreServed : {S : Type 0} → (S → Option Contents) → (S → List Asked) → (Url → Type 0) → List (MapEvent Posted G) → List ℕ → List S → Type 0
+  abbrev pub AreServed : {S : Type 0} → (S → Option Contents) → (S → List Asked) → (Url → Type 0) → List (MapEvent Posted G) → List ℕ
+      → List S → Type 0
   AreServed holds_of asked_of Q h [] [] = Unit {0}
   AreServed holds_of asked_of Q h (c ∷ cs) (s ∷ ss) =
       (Served (holds_of s) (asked_of s) c h × All Q (asks_by weight c h)) × AreServed holds_of asked_of Q h cs ss
@@ -124,7 +126,7 @@ module _ {G : Type 0} where
   AreServed holds_of asked_of Q h (c ∷ cs) [] = ⊥
 
   -- the callers of a view, and their sources, behind a run that has ended
-  pub record IsShared {S : Type 0} (holds_of : S → Option Contents) (asked_of : S → List Asked) (maps : Maps) (entry : Url) (v : View (MapEvent Posted G))
-      (machine : Option State) (taken : List Delivery) (sources : List S) : Type 0 where
+  pub record IsShared {S : Type 0} (holds_of : S → Option Contents) (asked_of : S → List Asked) (maps : Maps) (entry : Url)
+      (v : View (MapEvent Posted G)) (machine : Option State) (taken : List Delivery) (sources : List S) : Type 0 where
     pub served : AreServed holds_of asked_of (IsStandardAsk maps entry taken) v.seen v.numbers sources
     pub ends : EndsDriven (WasPosted v.seen) maps entry machine taken
