@@ -54,12 +54,7 @@ module _ {G : Type 0} where
   pub tickets_stay : UrlsStay Posted G weight → (old new : List (MapEvent Posted G)) (ts : List Ticket) → Begins old new → All (HasTicket old) ts → All (HasTicket new) ts
   tickets_stay law old new ts b all = All-weaker (HasTicket old) (HasTicket new) (λ x h. law x.number x.url old new b h) ts all
 
-  -- what the caller asked for, with one more
-  pub asks_more : (maps : Maps) (entry : Url) (taken : List Delivery) (c : ℕ) (old new : List (MapEvent Posted G)) (url : Url) → asks_by weight c new ≡ asks_by weight c old ++ url ∷ [] → IsStandardAsk maps entry taken url → AsksOn maps entry taken c old new
-  asks_more maps entry taken c old new url more one all =
-      let Q : Url → Type 0 = IsStandardAsk maps entry taken in
-      subst (All Q) (sym more) (All-append Q (asks_by weight c old) (url ∷ []) all (All-cons Q url [] one (All-nil Q)))
-
+  -- what the caller asked for, where it has asked for nothing since
   pub asks_same : (maps : Maps) (entry : Url) (taken : List Delivery) (c : ℕ) (old new : List (MapEvent Posted G)) → asks_by weight c new ≡ asks_by weight c old → AsksOn maps entry taken c old new
   asks_same maps entry taken c old new same all = subst (All (IsStandardAsk maps entry taken)) (sym same) all
 
