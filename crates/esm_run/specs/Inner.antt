@@ -1,2 +1,3 @@
-pub mod Driving
+pub mod Endings
 pub mod MapReading
+pub mod Leading

@@ -1,5 +1,5 @@
 -- What a run took, and what the sources were asked.
-use Rattle.std.specs.Prelude.{◌≡◌, ◌≢◌, List, map, Option, IfSome, drop, Any, All, AllPairs, Contains, flat_map, true}
+use Rattle.std.specs.Prelude.{◌≡◌, ◌≢◌, ℕ, List, map, Option, IfSome, drop, Any, All, AllPairs, Contains, flat_map, true}
 use Rattle.esm_ports.specs.declared.asked.Asked.{Asked}
 use Rattle.esm_ast.specs.Outcome.{outcome_view}
 use Rattle.esm_base.specs.Urls.{has}
@@ -32,10 +32,11 @@ pub record IsTrueRecord {S : Type 0} (asked_of : S → List Asked) (holds_of : S
   pub delivered : All (WasDelivered asked_of holds_of sources) taken
   pub once : AllPairs (λ a b. a.url ≢ b.url) taken
 
--- no URL was asked for twice, the sources come back in order, and from the second on they are as they were given
-pub record IsAskedOnce {S : Type 0} (asked_of : S → List Asked) (holds_of : S → Option Contents) (given back : List S) : Type 0 where
+-- no URL was asked for twice, the sources come back in order, and behind those of the workers they are as they were given
+pub record IsAskedOnce {S : Type 0} (asked_of : S → List Asked) (holds_of : S → Option Contents) (workers : ℕ)
+    (given back : List S) : Type 0 where
   pub once : AllPairs (λ a b. a.url ≢ b.url) (flat_map asked_of back)
-  pub idle : drop 1 back ≡ drop 1 given
+  pub idle : drop workers back ≡ drop workers given
   pub kept : map holds_of back ≡ map holds_of given
 
 -- each URL that was asked for is one that the standard run of what was taken asks for

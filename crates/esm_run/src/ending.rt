@@ -1,9 +1,9 @@
 // How a run ends: its status, its text, and writing it.
-ghost use Rattle.std.specs.Prelude.{◌≡◌, ◌≢◌, ◌<◌, ◌-◌, ◌^◌, ◌++◌, IfOk, Some, is_some, true};
+ghost use Rattle.std.specs.Prelude.{◌≡◌, ◌≢◌, ◌<◌, ◌-◌, ◌^◌, ◌++◌, IfOk, IfSome, Some, is_some, true};
 ghost use Rattle.esm_turn.specs.Represents.{ShownBy, ending_of};
 ghost use Rattle.esm_base.specs.declared.status.Status.TheVariants as statuses;
-ghost use Rattle.esm_run.specs.Written.{EndsWith, change_of, last_text};
-ghost use Rattle.esm_run.specs.Inner.Driving.{IsEndingOf};
+ghost use Rattle.esm_run.specs.Written.{EndsAs, EndsWith, change_of, last_text};
+ghost use Rattle.esm_run.specs.Inner.Endings.{EndsRun, IsEndingOf};
 
 use esm_base::{Memory, Status, Text};
 use esm_ports::{Sink, SinkEnd, put_all};
@@ -33,9 +33,11 @@ fn with_last_line(text: Vec<u8>, line: &Text) -> Result<Vec<u8>, Memory>
 
 // The status and the text of a machine's run that has ended. The text is the machine's own log, with the last line
 // behind it.
-pub(crate) fn ending_of_run(machine: Machine) -> Result<Ending, Memory>
+fn ending_of_run(machine: Machine) -> Result<Ending, Memory>
     requires { is_some (ending_of machine) ≡ true }
-    ensures { ShownBy machine (λ what. IfOk result (IsEndingOf what)) }
+    ensures what { ShownBy machine (λ what. IfOk result (IsEndingOf what)) }
+    ensures not_write_fault { IfOk result (λ e. e.status ≢ statuses.WriteFault) }
+    ensures not_memory { IfOk result (λ e. e.status ≢ statuses.Memory) }
 {
     let Some(status) = machine.end() else {
         unreachable!();
@@ -45,7 +47,7 @@ pub(crate) fn ending_of_run(machine: Machine) -> Result<Ending, Memory>
     Ok(Ending { status, text })
 }
 
-// Writes the text, and gives the status that this comes to.
+/// Writes the text, and gives the status that this comes to.
 pub(crate) fn finish<K: Sink>(out: &mut K, wanted: Status, text: &[u8]) -> Status
     requires room { K.faults out.old < 2 ^ 64 - 1 }
     requires not_write_fault { wanted ≢ statuses.WriteFault }
@@ -57,5 +59,29 @@ pub(crate) fn finish<K: Sink>(out: &mut K, wanted: Status, text: &[u8]) -> Statu
         Ok(()) => wanted,
         Err(SinkEnd::Failed) => Status::WriteFault,
         Err(SinkEnd::Memory) => Status::Memory,
+    }
+}
+
+// Writes the text of a machine's run that has ended, and gives the status that this comes to.
+fn write_ending<K: Sink>(machine: Machine, out: &mut K) -> Status
+    requires ended { is_some (ending_of machine) ≡ true }
+    requires room { K.faults out.old < 2 ^ 64 - 1 }
+    ensures { ShownBy machine (EndsAs result (change_of K.written K.faults out.old out.new)) }
+{
+    let Ok(ending) = ending_of_run(machine) else {
+        return Status::Memory;
+    };
+    finish(out, ending.status, &ending.text)
+}
+
+/// Ends a run: the text of the machine's run is written; nothing is where memory ran out and there is none.
+pub(crate) fn end_run<K: Sink>(machine: Option<Machine>, out: &mut K) -> Status
+    requires ended { IfSome machine (λ m. is_some (ending_of m) ≡ true) }
+    requires room { K.faults out.old < 2 ^ 64 - 1 }
+    ensures { EndsRun machine result (change_of K.written K.faults out.old out.new) }
+{
+    match machine {
+        Some(machine) => write_ending(machine, out),
+        None => Status::Memory,
     }
 }

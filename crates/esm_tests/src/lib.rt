@@ -5,6 +5,8 @@ ghost use Rattle.std.specs.Prelude.{◌≡◌, ◌≢◌, ◌<◌, [], All, vec_
 ghost use Rattle.esm_base.specs.declared.status.Status.TheVariants.{WriteFault};
 
 #[cfg(test)]
+mod gates;
+#[cfg(test)]
 mod graphs;
 #[cfg(test)]
 mod helpers;
@@ -16,6 +18,8 @@ mod orders;
 mod runs;
 #[cfg(test)]
 mod sites;
+#[cfg(test)]
+mod workers;
 
 use esm_ports::{SureSink, SureSource};
 use esm_run::{RunReport, run};

@@ -1,5 +1,5 @@
 use Rattle.esm_run.proofs.ArgumentLemmas.{other_words}
 use Rattle.esm_run.proofs.arguments.read_words.Goals as goal
 
-pub returns-then-many-ne5 : goal.returns-then-many-ne5
-returns-then-many-ne5 c = other_words c.args.words.now c.if-many-ne3.true c.if-many-ne5.true
+pub returns-then-count-ne7 : goal.returns-then-count-ne7
+returns-then-count-ne7 c = other_words c.args.many c.args.words.now c.if-count-ne3.true c.if-count-ne5.true c.if-count-ne7.true

@@ -1,0 +1,20 @@
+use Rattle.std.proofs.Common.{◌≡◌, ◌≤◌, length}
+use Rattle.std.specs.Prelude.{All}
+use Rattle.std.specs.Arc.{arc_value}
+use Rattle.esm_module_map.specs.Views.{view_in, table_of, Same}
+use Rattle.esm_fetch.specs.Serving.{Serves}
+use Rattle.esm_run.specs.Taken.{deliveries_of}
+use Rattle.esm_run.specs.Inner.Leading.{HasTicket, IsLed}
+use Rattle.esm_run.proofs.lead.drive.Given as goal
+
+abbrev pub invariant-loop : goal.invariant-loop
+invariant-loop g l = record {
+  own : table_of l.modules.lock.table.shared.table_id l.caller.pass ≡ l.modules.lock.table.shared.table_id;
+  same : Same (view_in l.initial.caller.pass) (view_in l.caller.pass);
+  number : l.caller.number ≡ l.initial.caller.number;
+  holds : g.S.Source.holds l.source ≡ g.S.Source.holds l.initial.source;
+  served : Serves (g.S.Source.holds l.source) (g.S.Source.asked l.source) l.caller.number (view_in l.caller.pass).seen;
+  tickets : All (HasTicket (view_in l.caller.pass).seen) l.queue.tickets.items;
+  window : length l.queue.tickets.items ≤ 32;
+  led : IsLed (arc_value l.fn.map) l.entry l.initial.caller.number (view_in l.caller.pass).seen l.machine (deliveries_of l.taken.items);
+}

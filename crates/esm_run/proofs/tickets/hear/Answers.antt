@@ -1,0 +1,29 @@
+use Rattle.std.proofs.Common.{◌∙◌, refl, sym, [], append-nil}
+use Rattle.esm_module_map.specs.Views.{view_in}
+use Rattle.esm_run.proofs.LeadLemmas.{begins_same, one_more, stays_on}
+use Rattle.esm_run.proofs.tickets.hear.Goals as goal
+
+pub loop-init : goal.loop-init
+loop-init g c = record { own = c.requires.own; same = (refl, refl, refl); number = refl; says = (begins_same _, (refl, refl, refl, refl)); order = ([], sym (append-nil _)); tickets = refl }
+
+pub loop-preserved : goal.loop-preserved
+loop-preserved g c = record {
+  own = c.post_at.ensures.own;
+  same = (c.post_at.ensures.same.0.0 ∙ c.loop.invariant.same.0, c.post_at.ensures.same.0.1 ∙ c.loop.invariant.same.1, c.post_at.ensures.same.0.2 ∙ c.loop.invariant.same.2);
+  number = c.post_at.ensures.same.1 ∙ c.loop.invariant.number;
+  says = stays_on c.args.caller.now.number c.loop.caller.number (view_in c.args.caller.now.pass).seen (view_in c.loop.caller.pass).seen (view_in c.post_at.new.caller.pass).seen c.loop.invariant.number c.loop.invariant.says c.post_at.ensures.says;
+  order = one_more _ _ _ _ _ c.in-Ok.ensures.items c.loop.invariant.order.1;
+  tickets = c.loop.invariant.tickets;
+}
+
+pub returns-in_default-clause-same : goal.returns-in_default-clause-same
+returns-in_default-clause-same g c = ((c.post_at.ensures.same.0.0 ∙ c.loop.invariant.same.0, c.post_at.ensures.same.0.1 ∙ c.loop.invariant.same.1, c.post_at.ensures.same.0.2 ∙ c.loop.invariant.same.2), c.post_at.ensures.same.1 ∙ c.loop.invariant.number)
+
+pub returns-in_default-clause-says : goal.returns-in_default-clause-says
+returns-in_default-clause-says g c = stays_on c.args.caller.now.number c.loop.caller.number (view_in c.args.caller.now.pass).seen (view_in c.loop.caller.pass).seen (view_in c.post_at.new.caller.pass).seen c.loop.invariant.number c.loop.invariant.says c.post_at.ensures.says
+
+pub returns-in_default-push-clause-same : goal.returns-in_default-push-clause-same
+returns-in_default-push-clause-same g c = ((c.post_at.ensures.same.0.0 ∙ c.loop.invariant.same.0, c.post_at.ensures.same.0.1 ∙ c.loop.invariant.same.1, c.post_at.ensures.same.0.2 ∙ c.loop.invariant.same.2), c.post_at.ensures.same.1 ∙ c.loop.invariant.number)
+
+pub returns-in_default-push-clause-says : goal.returns-in_default-push-clause-says
+returns-in_default-push-clause-says g c = stays_on c.args.caller.now.number c.loop.caller.number (view_in c.args.caller.now.pass).seen (view_in c.loop.caller.pass).seen (view_in c.post_at.new.caller.pass).seen c.loop.invariant.number c.loop.invariant.says c.post_at.ensures.says

@@ -1,0 +1,15 @@
+use Rattle.std.proofs.Common.{◌≡◌, ◌++◌, ℕ, List}
+use Rattle.esm_module_map.specs.Views.{view_in, table_of, Same}
+use Rattle.esm_module_map.specs.Saying.{Stays}
+use Rattle.esm_fetch.specs.Serving.{weight}
+use Rattle.esm_run.proofs.tickets.hear.Given as goal
+
+abbrev pub invariant-loop : goal.invariant-loop
+invariant-loop g l = record {
+  own : table_of l.modules.lock.table.shared.table_id l.caller.pass ≡ l.modules.lock.table.shared.table_id;
+  same : Same (view_in l.initial.caller.pass) (view_in l.caller.pass);
+  number : l.caller.number ≡ l.initial.caller.number;
+  says : Stays weight l.initial.caller.number (view_in l.initial.caller.pass).seen (view_in l.caller.pass).seen;
+  order : (more : List ℕ) × (l.queue.posted.items ≡ l.initial.queue.posted.items ++ more);
+  tickets : l.queue.tickets ≡ l.initial.queue.tickets;
+}

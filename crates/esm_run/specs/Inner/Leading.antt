@@ -1,0 +1,132 @@
+-- How far the calling thread has come: what it has asked of the module map, and what it has taken.
+use Rattle.std.specs.Prelude.{◌≡◌, ℕ, ◌==◌, Bool, true, List, [], ◌∷◌, map, Option, Some, None, All, Result, Ok, Err, slice_get, position, remove}
+use Rattle.std.specs.List.{list_any}
+use Rattle.atomic_table.specs.Seated.{TableId}
+use Rattle.esm_hlock.specs.declared.view.View.{View}
+use Rattle.esm_base.specs.declared.memory.Memory.{Memory}
+use Rattle.esm_base.specs.Urls.{Url, has}
+use Rattle.esm_ports.specs.declared.asked.Asked.{Asked}
+use Rattle.esm_ast.specs.Outcome.{outcome_view}
+use Rattle.esm_import_map.specs.ImportMap.{Maps}
+use Rattle.esm_module_map.specs.declared.event.MapEvent.{MapEvent}
+use Rattle.esm_module_map.specs.Replay.{replay}
+use Rattle.esm_module_map.specs.Histories.{IsPostIn, asks_by, takes_by, answers_by}
+use Rattle.esm_module_map.specs.Views.{view_in, table_of}
+use Rattle.esm_fetch.specs.declared.posted.Posted.{Posted}
+use Rattle.esm_fetch.specs.Answered.{Contents}
+use Rattle.esm_fetch.specs.Serving.{weight, Served}
+use Rattle.esm_turn.specs.Run.{Delivery, Shown, StandardRun}
+use Rattle.esm_turn.specs.Represents.{Represents, ShownBy, State, asks_of}
+use Rattle.esm_run.specs.declared.tickets.Ticket.{Ticket}
+
+-- ---- tickets
+
+-- the ticket has this number
+abbrev pub is_for : ℕ → Ticket → Bool
+is_for n ticket = ticket.number == n
+
+-- some ticket has it
+abbrev pub has_ticket : List Ticket → ℕ → Bool
+has_ticket tickets n = list_any (is_for n) tickets
+
+-- own: the ticket is for the number that was posted first of those that have one, and that number leaves the posted ones
+abbrev pub IsFirstPosted : List Ticket → List ℕ → Option Ticket → List ℕ → Type 0
+IsFirstPosted tickets posted None left = (position (has_ticket tickets) posted ≡ None) × (left ≡ posted)
+IsFirstPosted tickets posted (Some ticket) left =
+    (place : ℕ) × (position (has_ticket tickets) posted ≡ Some place) × (slice_get posted place ≡ Some ticket.number)
+    × (left ≡ remove posted place)
+
+-- ---- what is taken
+
+-- own: the machine represents what was taken, and each delivery came about so
+pub record IsDriven (Delivered : Delivery → Type 0) (maps : Maps) (entry : Url) (machine : State) (taken : List Delivery) : Type 0 where
+  pub represents : Represents maps entry machine taken
+  pub delivered : All Delivered taken
+
+-- own: what was taken has a standard run, and each delivery came about so
+pub record IsCutShort (Delivered : Delivery → Type 0) (maps : Maps) (entry : Url) (taken : List Delivery) : Type 0 where
+  pub what : Shown
+  pub run : StandardRun maps entry taken what
+  pub delivered : All Delivered taken
+
+-- own: a machine that has no open ask, or none, since memory ran out
+abbrev pub EndsDriven : (Delivery → Type 0) → Maps → Url → Option State → List Delivery → Type 0
+EndsDriven Delivered maps entry (Some machine) taken = IsDriven Delivered maps entry machine taken × (asks_of machine ≡ [])
+EndsDriven Delivered maps entry None taken = IsCutShort Delivered maps entry taken
+
+-- the URL is an open ask of whatever standard run the machine represents
+abbrev pub IsOpenAsk : State → Url → Type 0
+IsOpenAsk m url = ShownBy m (λ what. has what.asks url ≡ true)
+
+-- the standard run of what was taken has asked for the URL
+abbrev pub IsStandardAsk : Maps → Url → List Delivery → Url → Type 0
+IsStandardAsk maps entry taken url = (what : Shown) → StandardRun maps entry taken what → has what.asked url ≡ true
+
+module _ {G : Type 0} where
+  -- the ticket's number has its URL
+  abbrev pub HasTicket : List (MapEvent Posted G) → Ticket → Type 0
+  HasTicket h ticket = slice_get (replay weight h).urls ticket.number ≡ Some ticket.url
+
+  -- the delivery is what was posted under a number that has its URL
+  pub record WasPosted (h : List (MapEvent Posted G)) (delivery : Delivery) : Type 0 where
+    pub number : ℕ
+    pub payload : Posted
+    pub has_url : slice_get (replay weight h).urls number ≡ Some delivery.url
+    pub posted : IsPostIn h number payload
+    pub outcome : outcome_view payload.outcome ≡ delivery.outcome
+
+  -- each URL that the caller has asked for is one that the standard run asks for
+  abbrev pub AsksStandard : Maps → Url → List Delivery → ℕ → List (MapEvent Posted G) → Type 0
+  AsksStandard maps entry taken c h = All (IsStandardAsk maps entry taken) (asks_by weight c h)
+
+  -- so it stays as the history grows
+  abbrev pub AsksOn : Maps → Url → List Delivery → ℕ → List (MapEvent Posted G) → List (MapEvent Posted G) → Type 0
+  AsksOn maps entry taken c old new = AsksStandard maps entry taken c old → AsksStandard maps entry taken c new
+
+  -- the caller has taken and posted what it had
+  abbrev pub KeepsServing : ℕ → List (MapEvent Posted G) → List (MapEvent Posted G) → Type 0
+  KeepsServing c old new = (takes_by weight c new ≡ takes_by weight c old) × (answers_by weight c new ≡ answers_by weight c old)
+
+  -- the machine represents what was taken, all of it was posted, and the caller asks as the standard run
+  pub record IsLed (maps : Maps) (entry : Url) (c : ℕ) (h : List (MapEvent Posted G)) (machine : State)
+      (taken : List Delivery) : Type 0 where
+    pub driven : IsDriven (WasPosted h) maps entry machine taken
+    pub asks : AsksStandard maps entry taken c h
+
+  -- the same where memory ran out: what was taken has a standard run
+  pub record IsLedShort (maps : Maps) (entry : Url) (c : ℕ) (h : List (MapEvent Posted G)) (taken : List Delivery) : Type 0 where
+    pub cut : IsCutShort (WasPosted h) maps entry taken
+    pub asks : AsksStandard maps entry taken c h
+
+  abbrev pub LeadsOn : {T : Type 0} → Maps → Url → Result T Memory → ℕ → List (MapEvent Posted G) → State → List Delivery → Type 0
+  LeadsOn maps entry (Ok done) c h machine taken = IsLed maps entry c h machine taken
+  LeadsOn maps entry (Err want) c h machine taken = IsLedShort maps entry c h taken
+
+  -- the run went to its end, or memory ran out
+  abbrev pub Leads : Maps → Url → Result State Memory → ℕ → List (MapEvent Posted G) → List Delivery → Type 0
+  Leads maps entry (Ok machine) c h taken = IsLed maps entry c h machine taken × (asks_of machine ≡ [])
+  Leads maps entry (Err want) c h taken = IsLedShort maps entry c h taken
+
+  -- ---- the sources and their callers
+
+  -- a caller that has enrolled and done nothing else
+  pub record IsNew (c : ℕ) (v : View (MapEvent Posted G)) : Type 0 where
+    pub own : v.numbers ≡ c ∷ []
+    pub unasked : asks_by weight c v.seen ≡ []
+    pub untaken : takes_by weight c v.seen ≡ []
+    pub unanswered : answers_by weight c v.seen ≡ []
+
+  -- each source was asked for what its caller took, by the history, and what the caller asked for has the property
+  abbrev pub AreServed : {S : Type 0} → (S → Option Contents) → (S → List Asked) → (Url → Type 0) → List (MapEvent Posted G) → List ℕ
+      → List S → Type 0
+  AreServed holds_of asked_of Q h [] [] = Unit {0}
+  AreServed holds_of asked_of Q h (c ∷ cs) (s ∷ ss) =
+      (Served (holds_of s) (asked_of s) c h × All Q (asks_by weight c h)) × AreServed holds_of asked_of Q h cs ss
+  AreServed holds_of asked_of Q h [] (s ∷ ss) = ⊥
+  AreServed holds_of asked_of Q h (c ∷ cs) [] = ⊥
+
+  -- the callers of a view, and their sources, behind a run that has ended
+  pub record IsShared {S : Type 0} (holds_of : S → Option Contents) (asked_of : S → List Asked) (maps : Maps) (entry : Url)
+      (v : View (MapEvent Posted G)) (machine : Option State) (taken : List Delivery) (sources : List S) : Type 0 where
+    pub served : AreServed holds_of asked_of (IsStandardAsk maps entry taken) v.seen v.numbers sources
+    pub ends : EndsDriven (WasPosted v.seen) maps entry machine taken

@@ -1,0 +1,316 @@
+// The calling thread's part of a run: it asks the module map for what the machine asks for, and delivers what is posted.
+ghost use Rattle.std.specs.Prelude.{◌≡◌, ◌≤◌, ℕ, [], List, length, map, All, IfOk, OnOk, true};
+ghost use Rattle.std.specs.Vec.{vec_capacity};
+ghost use Rattle.std.specs.Arc.{arc_value};
+ghost use Rattle.esm_hlock.specs.Views.{HasAllMakers};
+ghost use Rattle.esm_base.specs.Urls.{has, is_usable};
+ghost use Rattle.esm_import_map.specs.ImportMap.{Maps};
+ghost use Rattle.esm_module_map.specs.Replay.{maker_of};
+ghost use Rattle.esm_module_map.specs.Views.{view_in, table_of, Same};
+ghost use Rattle.esm_module_map.specs.Saying.{Begins, Stays, IsShut};
+ghost use Rattle.esm_module_map.specs.Histories.{asks_by};
+ghost use Rattle.esm_fetch.specs.Serving.{weight, Serves, Served, ServedBy};
+ghost use Rattle.esm_ast.specs.Outcome.{outcome_view};
+ghost use Rattle.esm_turn.specs.Represents.{Represents, RepresentsOn, asks_of};
+ghost use Rattle.esm_run.specs.Taken.{deliveries_of};
+ghost use Rattle.esm_run.specs.Inner.Leading.{HasTicket, IsLed, IsNew, IsShared, Leads, LeadsOn};
+
+use crate::report::Delivery;
+use crate::tickets::{Queue, Ticket, ask_open, choose, hear};
+use esm_ast::Outcome;
+use esm_base::{Memory, Text};
+use esm_fetch::{Bell, Posted, Turned, fetch_one};
+use esm_import_map::ImportMap;
+use esm_module_map::{Caller, ModuleMap, laws as map_laws};
+use esm_ports::Source;
+use esm_turn::{Machine, TurnEnd, laws};
+use std::alloc::Global;
+use std::sync::{Arc, Wait};
+
+// A machine under this import map that has asked for the entry.
+fn start(alloc: Global, map: Arc<ImportMap, Global>, entry: &Text) -> Result<Machine, Memory>
+    requires { is_usable entry.now ≡ true }
+    ensures { IfOk result (λ m. Represents (arc_value map) entry.now m []) }
+{
+    Machine::new(alloc, map, entry.clone()?)
+}
+
+// Delivers one completed fetch to the machine. A limit that is reached stops the machine and is no error here.
+fn hand_over(machine: &mut Machine, url: &Text, outcome: &Outcome) -> Result<(), Memory>
+    requires { has (asks_of machine.old) url.now ≡ true }
+    ensures { OnOk result
+        (RepresentsOn machine.old url.now (outcome_view outcome.now) machine.new) }
+{
+    match machine.deliver(url, outcome) {
+        Ok(()) => Ok(()),
+        Err(TurnEnd::Fault(_limit)) => Ok(()),
+        Err(TurnEnd::Memory) => Err(Memory),
+    }
+}
+
+// Whether the machine has no open ask.
+fn has_no_ask(machine: &Machine) -> bool
+    ensures { result ≡ true → asks_of machine.now ≡ [] }
+{
+    match machine.asks() {
+        [] => true,
+        _ => false,
+    }
+}
+
+// Whether the machine has this open ask.
+fn is_open(machine: &Machine, url: &Text) -> bool
+    ensures { result ≡ has (asks_of machine.now) url.now }
+{
+    machine.asks().iter().any(|ask| ask == url)
+}
+
+// Delivers what is posted for a ticket. One whose URL isn't an open ask is passed over.
+fn deliver<R: Wait>(
+    rt: &R,
+    modules: &ModuleMap<Posted>,
+    caller: &mut Caller<Posted>,
+    machine: &mut Machine,
+    ticket: Ticket,
+    taken: &mut Vec<Delivery>,
+) -> Result<(), Memory>
+    requires own { table_of modules.now.lock.table.shared.table_id caller.old.pass
+        ≡ modules.now.lock.table.shared.table_id }
+    requires ticket { HasTicket (view_in caller.old.pass).seen ticket }
+    ensures own { table_of modules.now.lock.table.shared.table_id caller.new.pass
+        ≡ modules.now.lock.table.shared.table_id }
+    ensures same { Same (view_in caller.old.pass) (view_in caller.new.pass)
+        × (caller.new.number ≡ caller.old.number) }
+    ensures says { Stays weight caller.old.number (view_in caller.old.pass).seen
+        (view_in caller.new.pass).seen }
+    ensures led { (maps : Maps) (entry : List ℕ)
+        → IsLed maps entry caller.old.number (view_in caller.old.pass).seen machine.old
+        (deliveries_of taken.old.items)
+        → LeadsOn maps entry result caller.old.number (view_in caller.new.pass).seen machine.new
+        (deliveries_of taken.new.items) }
+{
+    map_laws::urls_stay::<Posted>();
+    map_laws::posts_stay::<Posted>();
+    laws::asks_stay();
+    let Ticket { url, number } = ticket;
+    if !is_open(machine, &url) {
+        return Ok(());
+    }
+    let Ok(Some(payload)) = modules.entry(rt, caller, number) else {
+        return Err(Memory);
+    };
+    let Ok(outcome) = payload.outcome.share() else {
+        return Err(Memory);
+    };
+    let Ok(()) = hand_over(machine, &url, &outcome) else {
+        return Err(Memory);
+    };
+    let Ok(()) = taken.push(Delivery { url, outcome }) else {
+        return Err(Memory);
+    };
+    Ok(())
+}
+
+// Fetches what there is to take, or waits for the bell. The map is shut here only where memory ran out.
+fn fetch_or_wait<R: Wait, S: Source>(
+    rt: &R,
+    alloc: Global,
+    modules: &ModuleMap<Posted>,
+    bell: &Bell,
+    caller: &mut Caller<Posted>,
+    source: &mut S,
+    queue: &mut Queue,
+) -> Result<(), Memory>
+    requires own { table_of modules.now.lock.table.shared.table_id caller.old.pass
+        ≡ modules.now.lock.table.shared.table_id }
+    requires served { Serves (S.holds source.old) (S.asked source.old) caller.old.number
+        (view_in caller.old.pass).seen }
+    ensures own { table_of modules.now.lock.table.shared.table_id caller.new.pass
+        ≡ modules.now.lock.table.shared.table_id }
+    ensures same { Same (view_in caller.old.pass) (view_in caller.new.pass)
+        × (caller.new.number ≡ caller.old.number) }
+    ensures begins { Begins (view_in caller.old.pass).seen (view_in caller.new.pass).seen }
+    ensures asks { asks_by weight caller.old.number (view_in caller.new.pass).seen
+        ≡ asks_by weight caller.old.number (view_in caller.old.pass).seen }
+    ensures holds { S.holds source.new ≡ S.holds source.old }
+    ensures served { ServedBy result (S.holds source.old) (S.asked source.new) caller.old.number
+        (view_in caller.new.pass).seen }
+    ensures tickets { queue.new.tickets ≡ queue.old.tickets }
+{
+    let Ok(turned) = fetch_one(rt, alloc, modules, bell, caller, source) else {
+        return Err(Memory);
+    };
+    match turned {
+        Turned::Posted(_) => Ok(()),
+        Turned::NotYet => {
+            queue.heard = bell.wait(rt, queue.heard);
+            Ok(())
+        }
+        Turned::Closed => Err(Memory),
+    }
+}
+
+// Asks for what is open, and delivers what was posted first; where nothing is, it fetches or waits.
+fn advance<R: Wait, S: Source>(
+    rt: &R,
+    alloc: Global,
+    modules: &ModuleMap<Posted>,
+    bell: &Bell,
+    caller: &mut Caller<Posted>,
+    source: &mut S,
+    machine: &mut Machine,
+    queue: &mut Queue,
+    taken: &mut Vec<Delivery>,
+) -> Result<(), Memory>
+    requires own { table_of modules.now.lock.table.shared.table_id caller.old.pass
+        ≡ modules.now.lock.table.shared.table_id }
+    requires served { Serves (S.holds source.old) (S.asked source.old) caller.old.number
+        (view_in caller.old.pass).seen }
+    requires tickets { All (HasTicket (view_in caller.old.pass).seen) queue.old.tickets.items }
+    ensures own { table_of modules.now.lock.table.shared.table_id caller.new.pass
+        ≡ modules.now.lock.table.shared.table_id }
+    ensures same { Same (view_in caller.old.pass) (view_in caller.new.pass)
+        × (caller.new.number ≡ caller.old.number) }
+    ensures begins { Begins (view_in caller.old.pass).seen (view_in caller.new.pass).seen }
+    ensures holds { S.holds source.new ≡ S.holds source.old }
+    ensures served { ServedBy result (S.holds source.old) (S.asked source.new) caller.old.number
+        (view_in caller.new.pass).seen }
+    ensures tickets { OnOk result (All (HasTicket (view_in caller.new.pass).seen)
+        queue.new.tickets.items) }
+    ensures window { length queue.old.tickets.items ≤ 32 → length queue.new.tickets.items ≤ 32 }
+    ensures led { (maps : Maps) (entry : List ℕ)
+        → IsLed maps entry caller.old.number (view_in caller.old.pass).seen machine.old
+        (deliveries_of taken.old.items)
+        → LeadsOn maps entry result caller.old.number (view_in caller.new.pass).seen machine.new
+        (deliveries_of taken.new.items) }
+{
+    map_laws::urls_stay::<Posted>();
+    map_laws::posts_stay::<Posted>();
+    let Ok(()) = ask_open(rt, modules, bell, caller, machine, &mut queue.tickets) else {
+        return Err(Memory);
+    };
+    let Ok(()) = hear(rt, modules, caller, queue) else {
+        return Err(Memory);
+    };
+    match choose(queue) {
+        Some(ticket) => deliver(rt, modules, caller, machine, ticket, taken),
+        None => fetch_or_wait(rt, alloc, modules, bell, caller, source, queue),
+    }
+}
+
+// Drives the machine of an entry under an import map until no ask is open or a limit has stopped it. At most `WINDOW` URLs
+// are asked of the map and not delivered.
+fn drive<R: Wait, S: Source>(
+    rt: &R,
+    alloc: Global,
+    modules: &ModuleMap<Posted>,
+    bell: &Bell,
+    map: Arc<ImportMap, Global>,
+    entry: &Text,
+    caller: &mut Caller<Posted>,
+    source: &mut S,
+    taken: &mut Vec<Delivery>,
+) -> Result<Machine, Memory>
+    requires usable { is_usable entry.now ≡ true }
+    requires own { table_of modules.now.lock.table.shared.table_id caller.old.pass
+        ≡ modules.now.lock.table.shared.table_id }
+    requires served { Serves (S.holds source.old) (S.asked source.old) caller.old.number
+        (view_in caller.old.pass).seen }
+    requires unasked { asks_by weight caller.old.number (view_in caller.old.pass).seen ≡ [] }
+    requires nothing { taken.old.items ≡ [] }
+    ensures own { table_of modules.now.lock.table.shared.table_id caller.new.pass
+        ≡ modules.now.lock.table.shared.table_id }
+    ensures same { Same (view_in caller.old.pass) (view_in caller.new.pass)
+        × (caller.new.number ≡ caller.old.number) }
+    ensures holds { S.holds source.new ≡ S.holds source.old }
+    ensures served { Served (S.holds source.old) (S.asked source.new) caller.old.number
+        (view_in caller.new.pass).seen }
+    ensures ends { Leads (arc_value map) entry.now result caller.old.number
+        (view_in caller.new.pass).seen (deliveries_of taken.new.items) }
+{
+    let Ok(mut machine) = start(alloc, map, entry) else {
+        return Err(Memory);
+    };
+    let mut queue = Queue::new(alloc);
+    for _ in rt.forever() {
+        if has_no_ask(&machine) {
+            return Ok(machine);
+        }
+        let Ok(()) = advance(
+            rt,
+            alloc,
+            modules,
+            bell,
+            caller,
+            source,
+            &mut machine,
+            &mut queue,
+            taken,
+        ) else {
+            return Err(Memory);
+        };
+    }
+    unreachable!()
+}
+
+/// The calling thread's part of a run that has ended, and the sources of the threads that have met it.
+#[derive(Drop)]
+pub(crate) struct Led<S> {
+    pub machine: Option<Machine>,
+    pub taken: Vec<Delivery>,
+    pub caller: Caller<Posted>,
+    pub sources: Vec<S>,
+}
+
+/// The calling thread's part, with its source alone. The map is shut when it comes back.
+pub(crate) fn lead<R: Wait, S: Source>(
+    rt: &R,
+    alloc: Global,
+    modules: &ModuleMap<Posted>,
+    bell: &Bell,
+    import_map: Arc<ImportMap, Global>,
+    entry: &Text,
+    caller: Caller<Posted>,
+    sources: Vec<S>,
+) -> Led<S>
+    requires usable { is_usable entry.now ≡ true }
+    requires own { table_of modules.now.lock.table.shared.table_id caller.pass
+        ≡ modules.now.lock.table.shared.table_id }
+    requires new { IsNew caller.number (view_in caller.pass) }
+    requires one { length sources.items ≡ 1 }
+    requires fresh { All (λ s. S.asked s ≡ []) sources.items }
+    ensures own { table_of modules.now.lock.table.shared.table_id result.caller.pass
+        ≡ modules.now.lock.table.shared.table_id }
+    ensures shares { (view_in result.caller.pass).shares ≡ (view_in caller.pass).shares }
+    ensures shut { IsShut weight (view_in result.caller.pass).seen }
+    ensures makers { HasAllMakers maker_of (view_in result.caller.pass) }
+    ensures kept { map S.holds result.sources.items ≡ map S.holds sources.items }
+    ensures room { vec_capacity result.sources ≡ vec_capacity sources }
+    ensures led { IsShared S.holds S.asked (arc_value import_map) entry.now
+        (view_in result.caller.pass) result.machine (deliveries_of result.taken.items) result.sources.items }
+{
+    map_laws::urls_stay::<Posted>();
+    map_laws::posts_stay::<Posted>();
+    let mut caller = caller;
+    let mut sources = sources;
+    let mut taken = Vec::new(alloc);
+    let driven = drive(
+        rt,
+        alloc,
+        modules,
+        bell,
+        import_map,
+        entry,
+        &mut caller,
+        &mut sources[0],
+        &mut taken,
+    );
+    modules.shut(rt, &mut caller);
+    bell.ring(rt);
+    Led {
+        machine: driven.ok(),
+        taken,
+        caller,
+        sources,
+    }
+}
