@@ -5,3 +5,4 @@ pub mod CaughtImport
 pub mod AwaitedImport
 pub mod MissingExport
 pub mod Live
+pub mod AbsentEntry

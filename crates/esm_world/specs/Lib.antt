@@ -10,3 +10,4 @@ pub mod ImportCalls
 pub mod Direct
 pub mod Unproved
 pub mod Examples
+pub mod FailingRuns
