@@ -11,3 +11,4 @@ pub mod Direct
 pub mod Unproved
 pub mod Examples
 pub mod FailingRuns
+pub mod TracedRun

@@ -4,3 +4,4 @@
 pub mod examples;
 pub mod failing_runs;
 pub mod laws;
+pub mod traced_run;
