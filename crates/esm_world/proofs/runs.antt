@@ -12,3 +12,4 @@ pub mod Traced
 pub mod CaughtThrow
 pub mod CaughtFault
 pub mod CaughtRefusal
+pub mod TwoTasks

@@ -12,3 +12,4 @@ pub mod Unproved
 pub mod Examples
 pub mod FailingRuns
 pub mod TracedRun
+pub mod TwoTasks

@@ -5,3 +5,4 @@ pub mod examples;
 pub mod failing_runs;
 pub mod laws;
 pub mod traced_run;
+pub mod two_tasks;
