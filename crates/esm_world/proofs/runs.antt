@@ -5,3 +5,11 @@ pub mod CaughtImport
 pub mod AwaitedImport
 pub mod MissingExport
 pub mod Live
+pub mod AbsentEntry
+pub mod LimitFirst
+pub mod ThrownBehindAwait
+pub mod Traced
+pub mod CaughtThrow
+pub mod CaughtFault
+pub mod CaughtRefusal
+pub mod TwoTasks

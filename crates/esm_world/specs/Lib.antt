@@ -14,3 +14,6 @@ pub mod Direct
 pub mod Unproved
 pub mod Outcomes
 pub mod Examples
+pub mod FailingRuns
+pub mod TracedRun
+pub mod TwoTasks

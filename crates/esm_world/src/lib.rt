@@ -2,6 +2,9 @@
 #![tactic(auto)]
 
 pub mod examples;
+pub mod failing_runs;
 pub mod fits;
 pub mod laws;
 pub mod loaded;
+pub mod traced_run;
+pub mod two_tasks;
