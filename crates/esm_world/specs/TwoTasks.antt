@@ -7,7 +7,8 @@ use Rattle.esm_world.specs.Run.{Delivery}
 use Rattle.esm_world.specs.Examples.{Run, ended, file, line, main_url, b_url, printing_b}
 
 abbrev pub asking_twice : Delivery
-asking_twice = file main_url (codes "import \"./b\"; import \"././b\";") (x.ImportEffect (codes "./b") ∷ x.ImportEffect (codes "././b") ∷ [])
+asking_twice = file main_url (codes "import \"./b\"; import \"././b\";")
+    (x.ImportEffect (codes "./b") ∷ x.ImportEffect (codes "././b") ∷ [])
 
 -- the URL is asked once, each request is answered in a task of its own, and the load ends in the second: the body runs once
 abbrev pub TwoTasks : Type 0
