@@ -87,12 +87,11 @@ fn one_worker_asks_the_first_source_alone(rt: HostRuntime) -> Result<(), Memory>
         let mut out = SureSink::new(alloc);
         let report = run_words(&rt, alloc, line.as_str(), row.files, &mut out)?;
         assert_eq!(rt; busy(&report.sources), 1, "{}", row.name);
-        assert_eq!(rt;
-            report.sources[0].asked.len(),
-            row.files.len(),
-            "{}",
-            row.name
-        );
+        let asked = match report.sources.first() {
+            Some(source) => source.asked.len(),
+            None => 0,
+        };
+        assert_eq!(rt; asked, row.files.len(), "{}", row.name);
     }
     Ok(())
 }
