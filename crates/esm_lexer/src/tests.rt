@@ -41,20 +41,20 @@ fn fault(end: ReadEnd) -> &'static str {
 
 fn kind(kind: TokenKind) -> &'static str {
     match kind {
-        TokenKind::Word => "W",
-        TokenKind::Literal => "L",
-        TokenKind::Sign => "S",
+        TokenKind::Word => "word@",
+        TokenKind::Literal => "literal@",
+        TokenKind::Sign => "sign@",
     }
 }
 
-// The tokens of a text with their places, `n` before those that a line terminator stands before, or its fault.
+// The tokens of a text with their places, `newline+` before those that a line terminator stands before, or its fault.
 fn places(alloc: Global, text: &[u8]) -> Result<String, AllocError> {
     let mut shown = String::new(alloc);
     match tokens(alloc, text) {
         Ok(found) => {
             for token in &found {
                 let gap = if shown.is_empty() { "" } else { " " };
-                let line = if token.newline_before { "n" } else { "" };
+                let line = if token.newline_before { "newline+" } else { "" };
                 let letter = kind(token.kind);
                 let (from, to) = (token.from, token.to);
                 let one = format!(in alloc; "{gap}{line}{letter}{from}-{to}")?;
@@ -93,55 +93,55 @@ fn spelled(alloc: Global, text: &[u8]) -> Result<String, AllocError> {
 
 // What is expected, and behind ` | ` the text.
 const PLACES: &str = r#" | 
-W0-1 S1-2 W2-3 | a.b
-W2-3 |   a
-W0-1 W2-3 | a b
+word@0-1 sign@1-2 word@2-3 | a.b
+word@2-3 |   a
+word@0-1 word@2-3 | a b
 P2 | 1
 P2 | 1a
-W0-3 | $_1
-W0-2 | é
+word@0-3 | $_1
+word@0-2 | é
 P2 | a-b
 P2 | a/b
 P2 | a:b
 P2 | `a`
 P2 | a\u0062
-S0-3 S3-4 | !===
-S0-3 S3-4 | ====
-W0-1 S1-2 S2-3 W3-4 | a==b
-W0-1 S1-4 W4-5 | a!==b
-S0-2 S2-4 | &&||
+sign@0-3 sign@3-4 | !===
+sign@0-3 sign@3-4 | ====
+word@0-1 sign@1-2 sign@2-3 word@3-4 | a==b
+word@0-1 sign@1-4 word@4-5 | a!==b
+sign@0-2 sign@2-4 | &&||
 P2 | &&&
 P2 | a|b
-L0-4 | "ab"
-L0-5 | 'a"b'
-L0-2 L2-4 | ""''
+literal@0-4 | "ab"
+literal@0-5 | 'a"b'
+literal@0-2 literal@2-4 | ""''
 P2 | "a
 P2 | "a'
 P2 | "a↵"
 P2 | "a␍"
-L0-6 | "a¶"
-W0-1 nW2-3 | a↵b
-nW1-2 | ↵a
-W0-1 nW2-3 | a␍b
-W0-1 nW4-5 | a¶b
+literal@0-6 | "a¶"
+word@0-1 newline+word@2-3 | a↵b
+newline+word@1-2 | ↵a
+word@0-1 newline+word@2-3 | a␍b
+word@0-1 newline+word@4-5 | a¶b
 P2 | a␤b
-W0-1 nW5-6 | a//x↵b
-W0-1 | a//x
-W0-1 W6-7 | a/*x*/b
-W0-1 nW6-7 | a/*↵*/b
-W0-1 nW10-11 | a/*↵*//**/b
-W4-5 | /**/a
+word@0-1 newline+word@5-6 | a//x↵b
+word@0-1 | a//x
+word@0-1 word@6-7 | a/*x*/b
+word@0-1 newline+word@6-7 | a/*↵*/b
+word@0-1 newline+word@10-11 | a/*↵*//**/b
+word@4-5 | /**/a
 P2 | /*/
 P2 | /*
 P2 | <!-- a
-nW4-5 | #!x↵a
+newline+word@4-5 | #!x↵a
  | #!x
 P2 |  #!x
 P2 | a#!x
-W3-4 | ␣a
-W6-7 | ␣␣a
-nW7-8 | ␣#!x↵a
-W0-1 W4-5 | a␣b
+word@3-4 | ␣a
+word@6-7 | ␣␣a
+newline+word@7-8 | ␣#!x↵a
+word@0-1 word@4-5 | a␣b
 "#;
 
 const SPELLED: &str = r#"Name:a Dot: Import:import | a.import
