@@ -23,7 +23,8 @@ use Rattle.esm_world.specs.World.{World, stopped, modules_in, state_of, with_sta
 use Rattle.esm_world.specs.Layers.{Executes, evaluation}
 use Rattle.esm_world.specs.Jobs.{Jobs}
 use Rattle.esm_world.specs.Turn.{Tasks, Turn}
-use Rattle.esm_world.specs.Run.{Delivery, asks, Shown, StandardRun}
+use Rattle.esm_world.specs.Run.{asks, Shown, StandardRun}
+use Rattle.esm_ast.specs.Deliveries.{Delivery}
 
 -- a turn has one outcome
 abbrev pub OneTurn : Type 0

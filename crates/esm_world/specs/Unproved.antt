@@ -9,8 +9,9 @@ use Rattle.esm_loads.specs.Loading.{targets}
 use Rattle.esm_body.specs.State.{Event, Begins, Ends}
 use Rattle.esm_world.specs.World.{World, opening, stopped}
 use Rattle.esm_world.specs.Turn.{Turn}
-use Rattle.esm_world.specs.Run.{Delivery, Runs, IsAllowed, Shown, StandardRun}
-use Rattle.esm_world.specs.Direct.{Files, IsClean, AreClosure, DirectRun, MeetsNoLimit, AreOfFiles, ShowsDirect}
+use Rattle.esm_world.specs.Run.{Runs, IsAllowed, Shown, StandardRun}
+use Rattle.esm_ast.specs.Deliveries.{Delivery, Files, AreOfFiles}
+use Rattle.esm_world.specs.Direct.{IsClean, AreClosure, DirectRun, MeetsNoLimit, ShowsDirect}
 
 -- an allowed delivery has a turn, after any deliveries that are allowed
 abbrev pub HasTurn : Type 0
