@@ -27,3 +27,8 @@ pub mod StartsRise
 pub mod ReactsLower
 pub mod HasTurns
 pub mod LoadedFits
+pub mod ToldPromises
+pub mod ToldLoading
+pub mod OuterKeeps
+pub mod EvalHolds
+pub mod ToldHost

@@ -6,5 +6,6 @@ pub mod failing_runs;
 pub mod fits;
 pub mod laws;
 pub mod loaded;
+pub mod told;
 pub mod traced_run;
 pub mod two_tasks;
