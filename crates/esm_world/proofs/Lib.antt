@@ -32,3 +32,4 @@ pub mod ToldLoading
 pub mod OuterKeeps
 pub mod EvalHolds
 pub mod ToldHost
+pub mod ToldWorld

@@ -110,7 +110,7 @@ fetch_trees false h u c t k = store_trees h.imports.stopped (with_loading h (cou
 
 -- ---- an open ask
 
-in_filter : (test : Url → Bool) (us : List Url) (x : Url) → has (filter test us) x ≡ true → (has us x ≡ true) × (test x ≡ true)
+pub in_filter : (test : Url → Bool) (us : List Url) (x : Url) → has (filter test us) x ≡ true → (has us x ≡ true) × (test x ≡ true)
 in_filter test [] x h = cc
 in_filter test (u ∷ us) x h = by (test u) refl h (in_filter test us x)
   where

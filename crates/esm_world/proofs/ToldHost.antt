@@ -2,10 +2,12 @@
 use Rattle.std.proofs.Common.{◌≡◌, ◌⊎◌, inl, inr, ℕ, zero, suc, ◌+◌, ◌<◌, Bool, true, false, List, [], ◌∷◌, ◌++◌, length, Option, Some, None, refl, ap, subst, sym, ◌∙◌, arith}
 use Rattle.std.specs.Prelude.{slice_get, slice_set, Result, ⊤}
 use Rattle.esm_base.specs.declared.limits.Limit.{Limit}
-use Rattle.esm_base.specs.Urls.{Text, Url}
-use Rattle.esm_values.specs.Value.{Value}
+use Rattle.esm_base.specs.Urls as urls
+use Rattle.esm_base.specs.Urls.{Url}
+use Rattle.esm_values.specs.Value.{Value, Undefined, Truth, Text, Func, Error, Namespace}
+use Rattle.esm_values.specs.Value as value
 use Rattle.esm_values.specs.Errors.{Errors}
-use Rattle.esm_promise.specs.Promises.{Promise, Settled, Rejected, Pending, Done, Promises, make, settle, register, register_by, next_promise, is_pending, is_pending_by}
+use Rattle.esm_promise.specs.Promises.{Promise, Settled, Fulfilled, Rejected, Pending, Done, Promises, Job, first_job, next_job, make, make_fulfilled, settle, register, register_by, next_promise, is_pending, is_pending_by}
 use Rattle.esm_promise.specs.Reactions.{Reaction, Await}
 use Rattle.esm_loads.specs.Loading.{Loading, Purpose, ForEntry, ForImport, import_promise_in}
 use Rattle.esm_loads.specs.Host.{Host}
@@ -21,7 +23,7 @@ use Rattle.esm_world.proofs.OuterKeeps.{LastsOuter, with_errors, makes, settles}
 use Rattle.esm_world.proofs.ToldPromises.{Ps, Continues, continues_same, continues_on, below_not, length_push, register_told, await_told, get_below}
 use Rattle.esm_world.proofs.ToldLoading.{KeptOf, KeptBut, KeptIn, made_free, next_free, make_kept, settle_kept, next_kept, imports_kept}
 
-abbrev Row : Type 0
+abbrev pub Row : Type 0
 Row = Promise (Reaction Url) (Value Url)
 
 pub record KeptHost (h k : Host) : Type 0 where
@@ -134,6 +136,58 @@ host_register h q r t m = changed h h.errors (register h.promises q r) t (λ p s
   continues = continues_same h.imports;
 })
 
+await_length : (ps : Ps) (v : Value Url) (m : Url) (p : ℕ) → p < length ps.all → p < length (await_on ps v m).all
+await_length ps v m p h = by v
+  where
+    new : (v : Value Url) → p < length (register (make_fulfilled ps v) (next_promise ps) (Await m)).all
+    new v =
+        let more : length (ps.all ++ Done (Fulfilled v) ∷ []) ≡ suc (length ps.all) = length_push ps.all (Done (Fulfilled v)) in
+        let same = register_length (slice_get (make_fulfilled ps v).all (next_promise ps)) (make_fulfilled ps v) (next_promise ps) (Await m) in
+        subst (λ n. p < n) (sym (same ∙ more)) (omega (arith, h))
+
+    by : (v : Value Url) → p < length (await_on ps v m).all
+    by Undefined = new Undefined
+    by (Truth b) = new (Truth b)
+    by (Text text) = new (Text text)
+    by (Func g i) = new (Func g i)
+    by (Error id) = new (Error id)
+    by (Namespace g) = new (Namespace g)
+    by (value.Promise id) = subst (λ n. p < n) (sym (register_length (slice_get ps.all id) ps id (Await m))) h
+
+await_pending : (ps : Ps) (v : Value Url) (m : Url) (p : ℕ) → is_pending ps p ≡ true → is_pending (await_on ps v m) p ≡ true
+await_pending ps v m p h = by v
+  where
+    new : (v : Value Url) → is_pending (register (make_fulfilled ps v) (next_promise ps) (Await m)) p ≡ true
+    new v = pending_registered (slice_get (make_fulfilled ps v).all (next_promise ps)) (make_fulfilled ps v) (next_promise ps) p (Await m) (pending_push ps.all (Done (Fulfilled v) ∷ []) p h)
+
+    by : (v : Value Url) → is_pending (await_on ps v m) p ≡ true
+    by Undefined = new Undefined
+    by (Truth b) = new (Truth b)
+    by (Text text) = new (Text text)
+    by (Func g i) = new (Func g i)
+    by (Error id) = new (Error id)
+    by (Namespace g) = new (Namespace g)
+    by (value.Promise id) = pending_registered (slice_get ps.all id) ps id p (Await m) h
+
+-- a body stands at an await
+pub host_await : (h : Host) (v : Value Url) (m : Url) → IsHostTold h → KeptHost h (record h { promises = await_on h.promises v m })
+host_await h v m t = changed h h.errors (await_on h.promises v m) t (λ p s o e. await_pending h.promises v m p e) (record {
+  told = await_told h.imports h.promises v m t.told;
+  free = λ p f. record { made = await_length h.promises v m p f.made; apart = f.apart };
+  continues = continues_same h.imports;
+})
+
+-- a job is taken
+rows_by : (ps left : Ps) (j : Job (Reaction Url)) (js : List (Job (Reaction Url))) → first_job js ps ≡ Some (j, left) → left.all ≡ ps.all
+rows_by ps left j [] e = cc
+rows_by ps left j (next ∷ js) e =
+    let now : Ps = record ps { jobs = js } in
+    let one : (next, now) ≡ (j, left) = cc in
+    subst (λ (x : Job (Reaction Url) × Ps). x.1.all ≡ ps.all) one refl
+
+pub same_rows : (ps left : Ps) (j : Job (Reaction Url)) → next_job ps ≡ Some (j, left) → left.all ≡ ps.all
+same_rows ps left j e = rows_by ps left j ps.jobs e
+
 -- ---- what bodies do
 
 refuses : (h : Host) (es : Errors) (v : Value Url) → IsHostTold h → KeptHost h (settles (with_errors (makes h) es) (next_promise h.promises) (Rejected v))
@@ -142,7 +196,7 @@ refuses h es v t =
     let b = host_on a (host_errors (makes h) es a.told) in
     host_on b (host_settle_free (with_errors (makes h) es) (next_promise h.promises) (Rejected v) b.told (next_free h.imports h.promises [] t.told))
 
-begins : (h k : Host) (m : Url) (text : Text) (r : Result (Unit {0}) Limit) → BeginsImport (makes h) m text (next_promise h.promises) r k → IsHostTold h → KeptHost h k
+begins : (h k : Host) (m : Url) (text : urls.Text) (r : Result (Unit {0}) Limit) → BeginsImport (makes h) m text (next_promise h.promises) r k → IsHostTold h → KeptHost h k
 begins h k m text r q t = record {
   told = record {
     orderly = stays_orderly.imports (makes h) k m text (next_promise h.promises) a.told.orderly q.imports;
