@@ -87,13 +87,17 @@ has_root (Some (Open r visited)) v h = absurd h
 has_root (Some (LoadComplete r)) v h = (r, refl)
 has_root (Some (Thrown thrown)) v h = absurd h
 
+-- a load that is complete stays complete
+pub root_on : {l m : Loading} → Continues l m → (s : ℕ) (root : Url) → root_in (slice_get l.loads s) ≡ Some root → root_in (slice_get m.loads s) ≡ Some root
+root_on {l} c s root e = ap root_in (c.loads s (Fulfilled Undefined) (complete (slice_get l.loads s) root Undefined e)) ∙ e
+
 pub loaded_on : {l m : Loading} {s : ℕ} → Continues l m → HasLoaded l s → HasLoaded m s
 loaded_on {l} {m} {s} c h = record {
   promise = h.promise;
   load = h.load;
   root = h.root;
   purpose = c.purposes s h.load (ForImport h.promise (Some h.load)) h.purpose refl;
-  is_root = ap root_in (c.loads s (Fulfilled Undefined) (complete (slice_get l.loads s) h.root Undefined h.is_root)) ∙ h.is_root;
+  is_root = root_on c s h.root h.is_root;
 }
 
 pub stands_on : {l m : Loading} → Continues l m → (p : ℕ) (r : Reaction Url) → MayStandOn l p r → MayStandOn m p r

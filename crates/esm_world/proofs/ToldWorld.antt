@@ -5,6 +5,7 @@ use Rattle.std.specs.List.{AllByRecursion}
 use Rattle.std.specs.Option.{option_or}
 use Rattle.esm_tree.specs.Syntax.{Item}
 use Rattle.esm_base.specs.declared.limits.Limit.{Limit}
+use Rattle.esm_base.specs.declared.limits.TheConstants.{MAX_DELIVERED_BYTES}
 use Rattle.esm_base.specs.Urls.{Url, has, same_url}
 use Rattle.esm_ast.specs.Outcome.{OutcomeView}
 use Rattle.esm_import_map.specs.ImportMap.{Maps}
@@ -13,7 +14,7 @@ use Rattle.esm_values.specs.Errors.{Errors, make_error}
 use Rattle.esm_promise.specs.Promises.{Settled, Fulfilled, Rejected, Pending, Promises, Job, is_pending_by, make, settle, settled, register, next_promise, next_job}
 use Rattle.esm_promise.specs.Reactions.{Reaction, Await, BodyEnd, Loaded, Evaluated, EntryLoaded, EntryDone}
 use Rattle.esm_loads.specs.UrlTable.{put_at, Found, Nothing, Faulty, Script, found}
-use Rattle.esm_loads.specs.Loading.{Loading, ForImport, import_promise, import_promise_in, is_fetching}
+use Rattle.esm_loads.specs.Loading.{Loading, LoadState, ForImport, root_in, import_promise, import_promise_in, is_fetching}
 use Rattle.esm_loads.specs.Host.{Host, opening_host, with_loading}
 use Rattle.esm_loads.specs.Arrival.{after_fetch, AnswersNext, bytes_of, count_by, store_by, put_found, open_asks}
 use Rattle.esm_loads.specs.ImportCall.{BeginsImport}
@@ -29,11 +30,11 @@ use Rattle.esm_world.specs.Jobs.{EvaluatesLoad, Reacts, Jobs, when_evaluated, wi
 use Rattle.esm_world.specs.Jobs.Reacts.{entry_linked, entry_fault, entry_refused, entry_ended, entry_threw, linked, fault, refused, evaluated, threw, body_ended, body_threw, resumes}
 use Rattle.esm_world.specs.Turn.{Tasks, Turn, fetched}
 use Rattle.esm_world.specs.Run.{Delivery, IsAllowed, Runs, asks_by}
-use Rattle.esm_world.specs.Told.{Whose, OfImport, Own, load_promise, IsFree, HasSettled, HasLoaded, MayStandOn, AreToldOf, IsHostTold, AreTold, IsTold, StaysTold}
+use Rattle.esm_world.specs.Told.{Whose, OfImport, Own, load_promise, IsFree, HasSettled, HasLoaded, MayStandOn, AreToldOf, IsHostTold, AreTold, IsTold, StaysTold, StaysComplete}
 use Rattle.esm_world.proofs.OuterKeeps.{Around, around, EndsSo, KeepsAround, CallEnds, settles, with_errors, starts_around, runs_around, resumes_around}
 use Rattle.esm_world.proofs.LoadedFits.{in_filter}
 use Rattle.esm_world.proofs.EvalHolds.{FreeCall, Holding, evaluates_holds, fulfills_holds, rejects_holds}
-use Rattle.esm_world.proofs.ToldPromises.{Ps, Continues, continues_same, continues_on, pushed, all_on, loaded_on, stands_on, make_told, await_told, take_told, is_told}
+use Rattle.esm_world.proofs.ToldPromises.{Ps, Continues, continues_same, continues_on, pushed, all_on, loaded_on, root_on, stands_on, make_told, await_told, take_told, is_told}
 use Rattle.esm_world.proofs.ToldLoading.{KeptOf, made_free, next_free, make_kept, unchanged}
 use Rattle.esm_world.proofs.ToldHost.{Row, KeptHost, host_on, host_await, same_rows, host_errors, host_make, host_settle, host_settle_free, host_register, import_not_owed, host_next, KeepsTold, lasts_told}
 
@@ -231,34 +232,53 @@ taken_free (s ∷ ss) m h t e a = by (same_url s.at m) (take_standing same_url s
         let r = f u refl in
         subst (λ (u : Taken Url). IsFree h.imports h.promises u.standing.done × AreFree h u.others) is (r.0, (a.0, r.1))
 
-reacts_told : {v w : World} {r : Reaction Url} {how : Settled (Value Url)} (p : ℕ) → AreTold v → MayStandOn v.loading p r → IsTold v.loading r how → Reacts v r how w → AreTold w
-reacts_told {v} p t m i (entry_linked {after = after} {answer = a} e) = registered after EntryDone a (λ q. tt) (evaluates_told v 0 a after t e).told
-reacts_told {v} p t m i (entry_fault root f ls l) = entry_told _ _ (errors_told (with_linked v ls) _ (linked_told v ls t))
-reacts_told {v} p t m i (entry_refused {v = u}) = entry_told v _ t
-reacts_told {v} p t m i entry_ended = entry_told v _ t
-reacts_told {v} p t m i entry_threw = entry_told v _ t
+-- what a job keeps: what is told, and what has ended
+record KeptJob (v w : World) : Type 0 where
+  told : AreTold w
+  continues : Continues v.loading w.loading
+
+-- no load changes
+job_of : {v w : World} → w.loading ≡ v.loading → AreTold w → KeptJob v w
+job_of {v} e t = record { told = t; continues = subst (λ l. Continues v.loading l) (sym e) (continues_same v.loading) }
+
+of_world : {v w : World} → KeptWorld v w → KeptJob v w
+of_world k = record { told = k.told; continues = k.continues }
+
+evaluated_job : (v after : World) (s : ℕ) (r : Reaction Url) (a : Result ℕ Limit) → AreTold v → EvaluatesLoad v s a after → ((p : ℕ) → Continues v.loading after.loading → MayStandOn after.loading p r) → KeptJob v (when_evaluated after r a)
+evaluated_job v after s r a t e f = let k = evaluates_told v s a after t e in record { told = registered after r a (λ q. f q k.continues) k.told; continues = by a k.continues }
+  where
+    by : (a : Result ℕ Limit) → Continues v.loading after.loading → Continues v.loading (when_evaluated after r a).loading
+    by (Ok p) c = c
+    by (Err limit) c = c
+
+reacts_told : {v w : World} {r : Reaction Url} {how : Settled (Value Url)} (p : ℕ) → AreTold v → MayStandOn v.loading p r → IsTold v.loading r how → Reacts v r how w → KeptJob v w
+reacts_told {v} p t m i (entry_linked {after = after} {answer = a} e) = evaluated_job v after 0 EntryDone a t e (λ q c. tt)
+reacts_told {v} p t m i (entry_fault root f ls l) = job_of refl (entry_told _ _ (errors_told (with_linked v ls) _ (linked_told v ls t)))
+reacts_told {v} p t m i (entry_refused {v = u}) = job_of refl (entry_told v _ t)
+reacts_told {v} p t m i entry_ended = job_of refl (entry_told v _ t)
+reacts_told {v} p t m i entry_threw = job_of refl (entry_told v _ t)
 reacts_told {v} p t m i (linked {after = after} {s = s} {answer = a} e) =
-    let k = evaluates_told v s a after t e in
     let loaded : HasLoaded v.loading s = record { promise = m.0; load = p; root = i.1; purpose = m.1; is_root = i.3 } in
-    registered after (Evaluated s) a (λ q. loaded_on k.continues loaded) k.told
-reacts_told {v} p t m i (fault {s = s} q root f ls n l) = import_settled _ q s p _ (errors_told (with_linked v ls) _ (linked_told v ls t)) (purpose_of v.loading s q p n m)
-reacts_told {v} p t m i (refused {s = s} {v = u} q n) = import_settled v q s p (Rejected u) t (purpose_of v.loading s q p n m)
-reacts_told {v} p t m i (evaluated {s = s} q root n o) = import_settled v q s m.load (Fulfilled (Namespace root)) t (loaded_of v.loading s q n m)
-reacts_told {v} p t m i (threw {s = s} {v = u} q n) = import_settled v q s m.load (Rejected u) t (loaded_of v.loading s q n m)
-reacts_told p t m i (body_ended e) = (fulfills_holds evaluation Executes AreTold FreeIn KeptWorld holding t e).told
-reacts_told p t m i (body_threw e) = (rejects_holds evaluation Executes AreTold FreeIn KeptWorld holding t e).told
+    evaluated_job v after s (Evaluated s) a t e (λ q c. loaded_on c loaded)
+reacts_told {v} p t m i (fault {s = s} q root f ls n l) = job_of refl (import_settled _ q s p _ (errors_told (with_linked v ls) _ (linked_told v ls t)) (purpose_of v.loading s q p n m))
+reacts_told {v} p t m i (refused {s = s} {v = u} q n) = job_of refl (import_settled v q s p (Rejected u) t (purpose_of v.loading s q p n m))
+reacts_told {v} p t m i (evaluated {s = s} q root n o) = job_of refl (import_settled v q s m.load (Fulfilled (Namespace root)) t (loaded_of v.loading s q n m))
+reacts_told {v} p t m i (threw {s = s} {v = u} q n) = job_of refl (import_settled v q s m.load (Rejected u) t (loaded_of v.loading s q n m))
+reacts_told p t m i (body_ended e) = of_world (fulfills_holds evaluation Executes AreTold FreeIn KeptWorld holding t e)
+reacts_told p t m i (body_threw e) = of_world (rejects_holds evaluation Executes AreTold FreeIn KeptWorld holding t e)
 reacts_told {v} p t m i (resumes {m = x} {s = s} e) =
     let a = taken_free v.engine.standing x (host_of v) e.taken e.stands t.standing in
     let k = call_told (host_of v) e.taken.others x e.taken.standing.done (around s) t.host a.1 a.0 (resumes_around same_url modules_in BeginsImport KeepsTold lasts_told e) in
-    (state_world v s t k.kept k.standing).told
+    of_world (state_world v s t k.kept k.standing)
 
-pub tells : (w : World) (j : Job (Reaction Url)) (left : Ps) (how : Settled (Value Url)) → AreTold w → next_job w.promises ≡ Some (j, left) → settled left j.promise ≡ Some how → IsTold w.loading j.reaction how
+tells : (w : World) (j : Job (Reaction Url)) (left : Ps) (how : Settled (Value Url)) → AreTold w → next_job w.promises ≡ Some (j, left) → settled left j.promise ≡ Some how → IsTold w.loading j.reaction how
 tells w j left how t e s = let k = taken_told w j left t e in is_told w.loading left j.promise j.reaction how k.0.host.told k.1 s
 
-pub job_told : (w after : World) (j : Job (Reaction Url)) (left : Ps) (how : Settled (Value Url)) → AreTold w → next_job w.promises ≡ Some (j, left) → settled left j.promise ≡ Some how → Reacts (with_promises w left) j.reaction how after → AreTold after
-job_told w after j left how t e s p =
+job_kept : (w after : World) (j : Job (Reaction Url)) (left : Ps) (how : Settled (Value Url)) → AreTold w → next_job w.promises ≡ Some (j, left) → settled left j.promise ≡ Some how → Reacts (with_promises w left) j.reaction how after → KeptJob w after
+job_kept w after j left how t e s p =
     let k = taken_told w j left t e in
-    reacts_told j.promise k.0 k.1 (tells w j left how t e s) p
+    let r = reacts_told j.promise k.0 k.1 (tells w j left how t e s) p in
+    record { told = r.told; continues = r.continues }
 
 -- ---- answers and the end of a fetch
 
@@ -267,8 +287,11 @@ loading_live : (o e : Option Limit) → option_or o e ≡ None → o ≡ None
 loading_live None e h = refl
 loading_live (Some limit) e h = cc
 
-pub answers : (w : World) (h : Host) → AreTold w → stopped w ≡ None → AnswersNext (host_of w) h → AreTold (with_host w h)
-answers w h t live q = (host_world w h t (host_next (host_of w) h t.host (loading_live w.loading.stopped w.engine.stopped live) q)).told
+answer_kept : (w : World) (h : Host) → AreTold w → stopped w ≡ None → AnswersNext (host_of w) h → KeptHost (host_of w) h
+answer_kept w h t live q = host_next (host_of w) h t.host (loading_live w.loading.stopped w.engine.stopped live) q
+
+answers : (w : World) (h : Host) → AreTold w → stopped w ≡ None → AnswersNext (host_of w) h → AreTold (with_host w h)
+answers w h t live q = (host_world w h t (answer_kept w h t live q)).told
 
 -- the end of a fetch changes no load and no promise
 record IsSameLoads (h k : Host) : Type 0 where
@@ -313,7 +336,7 @@ open_asked : (o : Option Limit) (l : Loading) (u : Url) → has (asks_by o (open
 open_asked None l u h = (in_filter (λ x. is_fetching (l.entries x)) l.asked u h).0
 open_asked (Some limit) l u h = cc
 
-pub fetches : (w : World) (d : Delivery) → AreTold w → IsAllowed w d → AreTold (fetched w d.url d.outcome)
+fetches : (w : World) (d : Delivery) → AreTold w → IsAllowed w d → AreTold (fetched w d.url d.outcome)
 fetches w d t a = (host_world w (after_fetch (host_of w) d.url d.outcome) t (fetch_told (host_of w) d.url d.outcome t.host (open_asked (stopped w) w.loading d.url a.asked))).told
 
 -- ---- the opening
@@ -349,14 +372,27 @@ opens maps built entry trace = record {
 }
 
 pub stays_told : StaysTold
-stays_told = record { opens = opens; fetches = fetches; answers = answers; told = tells; reacts = job_told }
+stays_told = record {
+  opens = opens;
+  fetches = fetches;
+  answers = answers;
+  told = tells;
+  reacts = λ w after j left how t e s p. (job_kept w after j left how t e s p).told;
+}
+
+pub stays_complete : StaysComplete
+stays_complete = record {
+  fetches = λ w u c s root e. ap (λ (ls : List LoadState). root_in (slice_get ls s)) (fetched_same (nat_lt MAX_DELIVERED_BYTES (w.loading.bytes + bytes_of c)) (host_of w) u c).loads ∙ e;
+  answers = λ w h s root t live q e. root_on (answer_kept w h t live q).continues s root e;
+  reacts = λ w after j left how s root t e d p o. root_on (job_kept w after j left how t e d p).continues s root o;
+}
 
 -- ---- runs
 
 jobs_told : {v w : World} → AreTold v → Jobs v w → AreTold w
 jobs_told t (Jobs.none n) = t
 jobs_told t (Jobs.stops l s) = t
-jobs_told {v} t (Jobs.job {mid = mid} j left how live e s r p) = jobs_told (job_told v mid j left how t e s r) p
+jobs_told {v} t (Jobs.job {mid = mid} j left how live e s r p) = jobs_told (job_kept v mid j left how t e s r).told p
 
 tasks_told : {v w : World} → AreTold v → Tasks v w → AreTold w
 tasks_told t (Tasks.none n) = t

@@ -4,6 +4,7 @@ use Rattle.std.specs.Prelude.{◌≡◌, ◌<◌, ℕ, Bool, List, slice_get, Op
 use Rattle.std.specs.List.{AllByRecursion}
 use Rattle.esm_tree.specs.Syntax.{Item}
 use Rattle.esm_base.specs.Urls.{Url}
+use Rattle.esm_ast.specs.Outcome.{OutcomeView}
 use Rattle.esm_import_map.specs.ImportMap.{Maps}
 use Rattle.esm_values.specs.Value.{Value}
 use Rattle.esm_promise.specs.Promises.{Promises, Settled, Fulfilled, Rejected, Pending, Job, next_promise, next_job, settled}
@@ -111,6 +112,17 @@ pub record StaysTold : Type 0 where
   pub reacts : (w after : World) (j : Job (Reaction Url)) (left : Promises (Reaction Url) (Value Url)) (how : Settled (Value Url))
       → AreTold w → next_job w.promises ≡ Some (j, left) → settled left j.promise ≡ Some how
       → Reacts (with_promises w left) j.reaction how after → AreTold after
+
+-- and a load that is complete stays complete, with its root
+pub record StaysComplete : Type 0 where
+  pub fetches : (w : World) (u : Url) (c : OutcomeView) (s : ℕ) (root : Url) → root_of_load w.loading s ≡ Some root
+      → root_of_load (fetched w u c).loading s ≡ Some root
+  pub answers : (w : World) (h : Host) (s : ℕ) (root : Url) → AreTold w → stopped w ≡ None → AnswersNext (host_of w) h
+      → root_of_load w.loading s ≡ Some root → root_of_load h.imports s ≡ Some root
+  pub reacts : (w after : World) (j : Job (Reaction Url)) (left : Promises (Reaction Url) (Value Url)) (how : Settled (Value Url))
+      (s : ℕ) (root : Url) → AreTold w → next_job w.promises ≡ Some (j, left) → settled left j.promise ≡ Some how
+      → Reacts (with_promises w left) j.reaction how after → root_of_load w.loading s ≡ Some root
+      → root_of_load after.loading s ≡ Some root
 
 -- so each world of a run is so
 abbrev pub RunsAreTold : Type 0
