@@ -31,7 +31,7 @@ use Rattle.esm_world.proofs.Members.{has_filter, filter_in, within}
 abbrev IsFetched : World → Url → Type 0
 IsFetched w u = is_fetching (w.loading.entries u) ≡ false
 
-asks_live : (stop : Option Limit) (us : List Url) (u : Url) → has (asks_by stop us) u ≡ true → (stop ≡ None) × (has us u ≡ true)
+pub asks_live : (stop : Option Limit) (us : List Url) (u : Url) → has (asks_by stop us) u ≡ true → (stop ≡ None) × (has us u ≡ true)
 asks_live None us u h = (refl, h)
 asks_live (Some limit) us u h = absurd (true≢false (sym h))
 

@@ -195,7 +195,7 @@ put_promises o u Nothing = refl
 put_promises o u (Script r) = refl
 put_promises o u (Faulty f) = refl
 
-stored_promises : (l : Option Limit) (o : Host) (u : Url) (c : OutcomeView) → (store_by l o u c).promises ≡ o.promises
+pub stored_promises : (l : Option Limit) (o : Host) (u : Url) (c : OutcomeView) → (store_by l o u c).promises ≡ o.promises
 stored_promises None o u c = put_promises o u (found o.imports.maps o.imports.built u c)
 stored_promises (Some limit) o u c = refl
 

@@ -33,3 +33,10 @@ pub mod OuterKeeps
 pub mod EvalHolds
 pub mod ToldHost
 pub mod ToldWorld
+pub mod UnlinkedGrows
+pub mod AwaitCounts
+pub mod AwaitsKept
+pub mod LoadingKept
+pub mod EvaluatedLinked
+pub mod SomeReaction
+pub mod HasTurnSteps

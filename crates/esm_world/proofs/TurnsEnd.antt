@@ -19,7 +19,7 @@ use Rattle.esm_world.specs.Layers.{with_promises}
 use Rattle.esm_world.specs.Jobs.{Reacts, Jobs}
 use Rattle.esm_world.specs.Turn.{Tasks, Turn, fetched}
 use Rattle.esm_world.specs.Run.{Delivery, IsAllowed, Runs, asks}
-use Rattle.esm_world.specs.Unproved.{HasTurn}
+use Rattle.esm_world.specs.Laws.{HasTurn}
 use Rattle.esm_world.proofs.OneRun.{turn_one}
 use Rattle.esm_world.proofs.WorldGrows.{jobs_progress}
 use Rattle.esm_world.proofs.Deliveries.{open_ask}

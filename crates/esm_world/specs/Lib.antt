@@ -8,6 +8,7 @@ pub mod Fits
 pub mod FitLaws
 pub mod Plain
 pub mod Loaded
+pub mod Awaits
 pub mod Told
 pub mod Laws
 pub mod ImportCalls

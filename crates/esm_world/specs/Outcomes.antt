@@ -13,7 +13,7 @@ use Rattle.esm_world.specs.Layers.{with_promises}
 use Rattle.esm_world.specs.Jobs.{Reacts}
 use Rattle.esm_world.specs.Turn.{fetched}
 use Rattle.esm_world.specs.Run.{Delivery, IsAllowed}
-use Rattle.esm_world.specs.Unproved.{HasTurn}
+use Rattle.esm_world.specs.Laws.{HasTurn}
 
 -- these worlds fit
 module _ (Fits : World → Type 0) where

@@ -1,7 +1,9 @@
 //! Laws of the definitions, each the contract of a function without effect.
-ghost use Rattle.esm_world.specs.Laws.{AsksOnce, BytesStopFirst, DeliversAll, DeliversOnce, DeliversOnlyAsked, FewDeliveries, KeepsMaps, OneStandardRun, OneTurn, OpenAsks, StartsOnce, StoppedAsksNothing, StopsAreTold, StopsAtOnce};
+ghost use Rattle.esm_world.specs.Laws.{AsksOnce, BytesStopFirst, DeliversAll, DeliversOnce, DeliversOnlyAsked, FewDeliveries, HasTurn, KeepsMaps, OneStandardRun, OneTurn, OpenAsks, StartsOnce, StoppedAsksNothing, StopsAreTold, StopsAtOnce};
 ghost use Rattle.esm_world.specs.Outcomes.{TurnsEnd};
 ghost use Rattle.esm_world.specs.Plain.{PlainEvaluation};
+
+use esm_resolve::laws::shared_set;
 
 /// A turn has one outcome.
 pub fn one_turn()
@@ -71,3 +73,10 @@ pub trait FitWorlds {
 pub fn turns_end<F: FitWorlds>()
     ensures { TurnsEnd F.fits }
 {}
+
+/// Each allowed delivery has a turn.
+pub fn has_turn()
+    ensures { HasTurn }
+{
+    shared_set()
+}

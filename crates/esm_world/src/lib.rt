@@ -1,6 +1,7 @@
 //! The world of a run, whole: definitions with their laws.
 #![tactic(auto)]
 
+pub mod awaits;
 pub mod examples;
 pub mod failing_runs;
 pub mod fits;
