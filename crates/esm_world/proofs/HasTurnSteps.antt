@@ -26,7 +26,7 @@ use Rattle.esm_world.specs.Run.{Delivery, IsAllowed}
 use Rattle.esm_world.specs.Fits.{FitReaction, FitSettled, FitPromise, FitPromises, IsFit}
 use Rattle.esm_world.specs.Loaded.{FitsLoading}
 use Rattle.esm_world.specs.Awaits.{AwaitsHaveBodies}
-use Rattle.esm_world.specs.Told.{IsTold, AreTold, StaysTold}
+use Rattle.esm_world.specs.Told.{AreTold, StaysTold, StaysComplete}
 use Rattle.esm_world.specs.Outcomes.{StepsHaveOutcomes}
 use Rattle.esm_world.proofs.FitLoading.{opening_fits, fetch_fits, answers_fit}
 use Rattle.esm_world.proofs.LoadedFits.{loading_stays_fit}
@@ -48,14 +48,6 @@ pub record IsSound (w : World) : Type 0 where
   pub awaits : AwaitsHaveBodies w
   pub evaluated : EvaluatedAreLinked w
   pub told : AreTold w
-
--- the root of a load that is complete stays
-pub record RootsAreKept : Type 0 where
-  pub answer : (w : World) (h : Host) (s : ℕ) (root : Url) → AreTold w → stopped w ≡ None → AnswersNext (host_of w) h
-      → root_of_load w.loading s ≡ Some root → root_of_load h.imports s ≡ Some root
-  pub react : (w after : World) (j : Job (Reaction Url)) (left : Queue) (how : Settled (Value Url)) (s : ℕ) (root : Url)
-      → AreTold w → next_job w.promises ≡ Some (j, left) → settled left j.promise ≡ Some how
-      → Reacts (with_promises w left) j.reaction how after → root_of_load w.loading s ≡ Some root → root_of_load after.loading s ≡ Some root
 
 -- ---- what is taken of promises
 
@@ -80,30 +72,11 @@ module _ (linked : List Url) (entries : Entries) where
   settled_fit (Done by ∷ xs) zero how e h = let same : by ≡ how = cc in subst (FitSettled linked entries) same h.0
   settled_fit (x ∷ xs) (suc q) how e h = settled_fit xs q how e h.1
 
--- ---- the end of a fetch
-
-put_loads : (h : Host) (u : Url) (f : Found) → (put_found h u f).imports.loads ≡ h.imports.loads
-put_loads h u Nothing = refl
-put_loads h u (Script m) = refl
-put_loads h u (Faulty f) = refl
-
-stored_loads : (s : Option Limit) (h : Host) (u : Url) (c : OutcomeView) → (store_by s h u c).imports.loads ≡ h.imports.loads
-stored_loads None h u c = put_loads h u (found h.imports.maps h.imports.built u c)
-stored_loads (Some why) h u c = refl
-
-counted_loads : (b : Bool) (l : Loading) (n : ℕ) → (count_by b l n).loads ≡ l.loads
-counted_loads true l n = refl
-counted_loads false l n = refl
-
-fetched_loads : (h : Host) (u : Url) (c : OutcomeView) → (after_fetch h u c).imports.loads ≡ h.imports.loads
-fetched_loads h u c =
-    stored_loads _ (with_loading h (count h.imports (bytes_of c))) u c ∙ counted_loads (nat_lt MAX_DELIVERED_BYTES (h.imports.bytes + bytes_of c)) h.imports (bytes_of c)
-
 none_by : (o : Option TableEntry) → is_fetching o ≡ true → o ≡ None
 none_by None h = refl
 none_by (Some e) h = cc
 
-module _ (agrees : SharedSetAgrees) (ends : SharedSetEnds) (told : StaysTold) (kept : RootsAreKept) where
+module _ (agrees : SharedSetAgrees) (ends : SharedSetEnds) (told : StaysTold) (complete : StaysComplete) where
   opens : (maps : Maps) (built : List Item → Bool) (entry : Url) (trace : Bool) → IsSound (opening maps built entry trace)
   opens maps built entry trace = record {
     fit = opening_fits maps built entry trace;
@@ -123,7 +96,7 @@ module _ (agrees : SharedSetAgrees) (ends : SharedSetEnds) (told : StaysTold) (k
         unlinked = λ u h. fetched_stays (host_of w) d.url d.outcome u (f.unlinked u h);
         awaits = awaits_keep_bodies.fetches w d.url d.outcome f.awaits;
         evaluated = fetch_linked w d.url d.outcome (record {
-          roots = λ s root h. ap (λ ls. root_in (slice_get ls s)) (fetched_loads (host_of w) d.url d.outcome) ∙ h;
+          roots = complete.fetches w d.url d.outcome;
           linked = λ u h. h;
         }) f.evaluated;
         told = told.fetches w d f.told a;
@@ -135,7 +108,7 @@ module _ (agrees : SharedSetAgrees) (ends : SharedSetEnds) (told : StaysTold) (k
     loading = loading_stays_fit.next (host_of w) h f.loading a;
     unlinked = λ u k. next_stays a u (f.unlinked u k);
     awaits = awaits_keep_bodies.answers w h f.awaits a;
-    evaluated = answer_linked w h a (record { roots = λ s root k. kept.answer w h s root f.told live a k; linked = λ u k. k }) f.evaluated;
+    evaluated = answer_linked w h a (record { roots = λ s root k. complete.answers w h s root f.told live a k; linked = λ u k. k }) f.evaluated;
     told = told.answers w h f.told live a;
   }
 
@@ -169,7 +142,7 @@ module _ (agrees : SharedSetAgrees) (ends : SharedSetEnds) (told : StaysTold) (k
           loading = (reacts_keep_loading some.reacts).fits f.loading;
           unlinked = some.unlinked;
           awaits = awaits_keep_bodies.reacts w some.after j left how f.awaits e some.reacts;
-          evaluated = reacts_linked (with_promises w left) some.after j.reaction how some.reacts (record { roots = λ s root h. kept.react w some.after j left how s root f.told e q some.reacts h; linked = some.stays }) o.1;
+          evaluated = reacts_linked (with_promises w left) some.after j.reaction how some.reacts (record { roots = λ s root h. complete.reacts w some.after j left how s root f.told e q some.reacts h; linked = some.stays }) o.1;
           told = told.reacts w some.after j left how f.told e q some.reacts;
         };
       }
