@@ -40,3 +40,4 @@ pub mod LoadingKept
 pub mod EvaluatedLinked
 pub mod SomeReaction
 pub mod HasTurnSteps
+pub mod LastLines

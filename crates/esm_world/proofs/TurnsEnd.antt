@@ -148,7 +148,7 @@ module _ (Fits : World → Type 0) (one two : World → ℕ) where
             let rest = tasks_by (suc (pending_left (fetched w d.url d.outcome).loading)) (fetched w d.url d.outcome) (k.fetches w d f a e) (omega arith) in
             record { after = rest.after; turn = Turn.turn e rest.tasks; fits = rest.fits }
 
-    runs_fit : (ds : List Delivery) (w after : World) → (stopped w ≡ None → Fits w) → Runs w ds after → stopped after ≡ None → Fits after
+    pub runs_fit : (ds : List Delivery) (w after : World) → (stopped w ≡ None → Fits w) → Runs w ds after → stopped after ≡ None → Fits after
     runs_fit [] w after f r live = subst (λ w. Fits w) (sym r) (f (ap stopped (sym r) ∙ live))
     runs_fit (d ∷ ds) w after f r live =
         let ends = turn_ends w d (f (open_ask w d.url r.0.asked).live) r.0 in
