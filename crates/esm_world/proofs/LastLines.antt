@@ -34,7 +34,7 @@ use Rattle.esm_world.specs.LastLine as line
 use Rattle.esm_world.specs.Run.{Delivery, Runs, Shown, StandardRun, asks, ending, shown}
 use Rattle.esm_world.specs.Fits.{IsKnownValue, FitSettled, FitPromise, IsFit}
 use Rattle.esm_world.specs.Outcomes.{StepsHaveOutcomes}
-use Rattle.esm_world.specs.Unproved.{HasStandardRun}
+use Rattle.esm_world.specs.Laws.{HasStandardRun}
 use Rattle.esm_world.proofs.EvalKeeps.{Lasts, evaluates_keeps, fulfills_keeps, rejects_keeps}
 use Rattle.esm_world.proofs.FitBodies.{are_linked}
 use Rattle.esm_world.proofs.ToldHost.{same_rows}

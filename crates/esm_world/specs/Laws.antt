@@ -34,6 +34,11 @@ abbrev pub HasTurn : Type 0
 HasTurn = (maps : Maps) (built : List Item → Bool) (entry : Url) (trace : Bool) (deliveries : List Delivery) (w : World) (d : Delivery)
     → Runs (opening maps built entry trace) deliveries w → IsAllowed w d → (after : World) × Turn w d.url d.outcome after
 
+-- so an allowed list of deliveries has a standard run
+abbrev pub HasStandardRun : Type 0
+HasStandardRun = (maps : Maps) (built : List Item → Bool) (entry : Url) (trace : Bool) (deliveries : List Delivery) (w : World)
+    → Runs (opening maps built entry trace) deliveries w → (what : Shown) × StandardRun maps built entry trace deliveries what
+
 -- a turn keeps the import map, and which module texts can be run
 abbrev pub KeepsMaps : Type 0
 KeepsMaps = (w after : World) (u : Url) (c : OutcomeView) → Turn w u c after

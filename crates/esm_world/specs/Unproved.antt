@@ -11,11 +11,6 @@ use Rattle.esm_world.specs.World.{World, opening, stopped}
 use Rattle.esm_world.specs.Run.{Delivery, Runs, Shown, StandardRun}
 use Rattle.esm_world.specs.Direct.{Files, IsClean, AreClosure, DirectRun, MeetsNoLimit, AreOfFiles, ShowsDirect}
 
--- an allowed list of deliveries has a standard run
-abbrev pub HasStandardRun : Type 0
-HasStandardRun = (maps : Maps) (built : List Item → Bool) (entry : Url) (trace : Bool) (deliveries : List Delivery) (w : World)
-    → Runs (opening maps built entry trace) deliveries w → (what : Shown) × StandardRun maps built entry trace deliveries what
-
 -- clean files have a direct run, which shows something
 abbrev pub HasDirectRun : Type 0
 HasDirectRun = (maps : Maps) (built : List Item → Bool) (files : Files) (entry : Url) (trace : Bool) (modules : List Url)

@@ -1,5 +1,5 @@
 //! Laws of the definitions, each the contract of a function without effect.
-ghost use Rattle.esm_world.specs.Laws.{AsksOnce, BytesStopFirst, DeliversAll, DeliversOnce, DeliversOnlyAsked, FewDeliveries, HasTurn, KeepsMaps, OneStandardRun, OneTurn, OpenAsks, StartsOnce, StoppedAsksNothing, StopsAreTold, StopsAtOnce};
+ghost use Rattle.esm_world.specs.Laws.{AsksOnce, BytesStopFirst, DeliversAll, DeliversOnce, DeliversOnlyAsked, FewDeliveries, HasStandardRun, HasTurn, KeepsMaps, OneStandardRun, OneTurn, OpenAsks, StartsOnce, StoppedAsksNothing, StopsAreTold, StopsAtOnce};
 ghost use Rattle.esm_world.specs.Outcomes.{TurnsEnd};
 ghost use Rattle.esm_world.specs.Plain.{PlainEvaluation};
 
@@ -77,6 +77,13 @@ pub fn turns_end<F: FitWorlds>()
 /// Each allowed delivery has a turn.
 pub fn has_turn()
     ensures { HasTurn }
+{
+    shared_set()
+}
+
+/// Each allowed list of deliveries has a standard run.
+pub fn has_standard_run()
+    ensures { HasStandardRun }
 {
     shared_set()
 }
