@@ -1,14 +1,13 @@
 -- How many reactions to an await there are, as promises are made, settled and reacted to, and how many bodies stand at one.
-use Rattle.std.proofs.Common.{◌≡◌, ◌⊎◌, inl, inr, ℕ, zero, suc, ◌+◌, ◌≤◌, Bool, true, false, cond, List, [], ◌∷◌, ◌++◌, Option, Some, None, refl, ap, subst, sym, ◌∙◌, arith}
+use Rattle.std.proofs.Common.{◌≡◌, ℕ, zero, suc, ◌+◌, ◌≤◌, Bool, true, false, cond, List, [], ◌∷◌, ◌++◌, Option, Some, None, refl, ap, subst, sym, ◌∙◌, arith}
 use Rattle.std.specs.Prelude.{map, slice_get, slice_set, is_some}
-use Rattle.std.specs.List.{AllByRecursion}
 use Rattle.esm_base.specs.Urls.{Url, same_url}
 use Rattle.esm_realm.proofs.Urls.{same_text}
 use Rattle.esm_values.specs.Value.{Value}
 use Rattle.esm_promise.specs.Promises.{Promise, Pending, Done, Promises, Settled, Fulfilled, Job, job, settle, settled, settled_by, triggered, register, register_by, make, make_fulfilled, next_job, first_job}
-use Rattle.esm_promise.specs.Reactions.{Reaction, Await}
+use Rattle.esm_promise.specs.Reactions.{Reaction}
 use Rattle.esm_body.specs.State.{Standing}
-use Rattle.esm_body.specs.Bodies.{Taken, behind, take_by, take_standing}
+use Rattle.esm_body.specs.Bodies.{Taken, take_by, take_standing}
 use Rattle.esm_world.specs.Awaits.{is_await, awaits_among, awaits_on, awaits_pending, awaits_in_jobs, awaits_of, standing_of, AreSettled}
 
 abbrev pub Queue : Type 0

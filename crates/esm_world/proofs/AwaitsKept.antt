@@ -1,29 +1,28 @@
 -- Each reaction to an await has its body, and each job a result: loading, bodies, evaluation and jobs keep it.
-use Rattle.std.proofs.Common.{◌≡◌, ℕ, zero, suc, ◌+◌, ◌≤◌, Bool, true, false, cond, List, [], ◌∷◌, ◌++◌, Option, Some, None, refl, ap, subst, sym, ◌∙◌, arith}
+use Rattle.std.proofs.Common.{◌≡◌, ℕ, ◌+◌, ◌≤◌, Bool, true, false, cond, List, [], ◌∷◌, Option, Some, None, refl, ap, subst, sym, ◌∙◌, arith}
 use Rattle.std.specs.Prelude.{Result, Ok, Err, slice_get, is_some}
 use Rattle.esm_base.specs.declared.limits.Limit.{Limit}
 use Rattle.esm_base.specs.Urls.{Url, same_url}
 use Rattle.esm_values.specs.Value.{Value, Undefined, Truth, Text, Func, Error, Namespace, Promise}
-use Rattle.esm_values.specs.Errors.{Errors}
-use Rattle.esm_promise.specs.Promises.{Settled, Fulfilled, Rejected, Job, settle, settled, register, make, make_fulfilled, next_promise, next_job}
-use Rattle.esm_promise.specs.Reactions.{Reaction, Await, BodyEnd, Loaded, Evaluated, EntryLoaded, EntryDone}
+use Rattle.esm_promise.specs.Promises.{Settled, Job, settle, settled, register, make, make_fulfilled, next_promise, next_job}
+use Rattle.esm_promise.specs.Reactions.{Reaction, Await, BodyEnd, Loaded, Evaluated, EntryDone}
 use Rattle.esm_ast.specs.Outcome.{OutcomeView}
 use Rattle.esm_loads.specs.UrlTable.{TableEntry, Throw, New, Kept, thrown_by}
 use Rattle.esm_loads.specs.Loading.{Loading, LoadState, Asked, Open, LoadComplete, Thrown, PendingRequest, Root, Request, Purpose, ForEntry, ForImport}
-use Rattle.esm_loads.specs.Host.{Host, settle_by, settle_load, begin_by, begin_load, with_loading, reject, Answered}
+use Rattle.esm_loads.specs.Host.{Host, settle_by, begin_by, begin_load, with_loading, reject, Answered}
 use Rattle.esm_loads.specs.Host.Answered.{late, answered}
-use Rattle.esm_loads.specs.Arrival.{AnswersNext, after_fetch, count, bytes_of}
+use Rattle.esm_loads.specs.Arrival.{AnswersNext, count, bytes_of}
 use Rattle.esm_loads.specs.ImportCall.{Imports, BeginsImport}
 use Rattle.esm_loads.specs.ImportCall.Imports.{limit, unresolved, asks, answers}
 use Rattle.esm_eval.specs.Nodes.{Call, CallAnswer}
 use Rattle.esm_body.specs.State.{Standing}
 use Rattle.esm_body.specs.Bodies.{Taken, await_on, take_standing}
-use Rattle.esm_world.specs.World.{World, modules_in, state_of, host_of, with_host}
-use Rattle.esm_world.specs.Layers.{Executes, evaluation, with_linked, with_promises}
+use Rattle.esm_world.specs.World.{World, modules_in, host_of, with_host}
+use Rattle.esm_world.specs.Layers.{Executes, evaluation, with_linked}
 use Rattle.esm_world.specs.Jobs.{EvaluatesLoad, Reacts, when_evaluated}
 use Rattle.esm_world.specs.Jobs.Reacts.{entry_linked, entry_fault, entry_refused, entry_ended, entry_threw, linked, fault, refused, evaluated, threw, body_ended, body_threw, resumes}
 use Rattle.esm_world.specs.Turn.{fetched}
-use Rattle.esm_world.specs.Awaits.{is_await, awaits_among, awaits_of, standing_of, AreSettled, HaveStanding, AwaitsHaveBodies, AwaitsKeepBodies}
+use Rattle.esm_world.specs.Awaits.{awaits_among, awaits_of, standing_of, AreSettled, HaveStanding, AwaitsHaveBodies, AwaitsKeepBodies}
 use Rattle.esm_world.proofs.AwaitCounts.{Queue, one, settle_count, register_count, make_count, fulfilled_count, next_count, standing_more, take_count, taken_is, takes_one, settle_jobs, register_jobs, make_jobs, fulfilled_jobs, next_jobs}
 use Rattle.esm_world.proofs.OuterKeeps.{Around, LastsOuter, KeepsAround, CallEnds, EndsSo, starts_around, runs_around, resumes_around}
 use Rattle.esm_world.proofs.FitLoading.{stored_promises}

@@ -6,7 +6,7 @@ use Rattle.esm_realm.specs.Walk.{Mark}
 use Rattle.esm_realm.specs.Components.{opened_from}
 use Rattle.esm_eval.specs.Nodes.{Phase, NotEntered, Evaluating, EvaluatingAsync, Evaluated, Node, Call, CallAnswer, Start, Run, BodyCalls}
 use Rattle.esm_eval.specs.Evaluation.{Evaluation, fulfill_kept, reject_kept, add_wait, put_wait, is_stamped}
-use Rattle.esm_eval.specs.Evaluate.{WalkEnd, ExecutesAsync, Executes, Leaves, Marks, EvaluatesRoot, Evaluates, close, fail, keep, enter, fulfill_by, closed_phase}
+use Rattle.esm_eval.specs.Evaluate.{WalkEnd, ExecutesAsync, Executes, Leaves, Marks, EvaluatesRoot, Evaluates, close, fail, keep, fulfill_by, closed_phase}
 use Rattle.esm_eval.specs.Evaluate.Marks.{done, enters, passes, pass_throws, stays, component, leave_throws, leave_stops}
 use Rattle.esm_eval.specs.BodyEnd.{Rejects, RejectsAll, GoOn, Fulfills, finish, refuse}
 

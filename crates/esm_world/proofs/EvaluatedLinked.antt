@@ -1,5 +1,5 @@
 -- The root of a load is linked where a reaction to its evaluation stands: loading, bodies, evaluation and jobs keep it.
-use Rattle.std.proofs.Common.{◌≡◌, ℕ, zero, suc, Bool, true, List, [], ◌∷◌, ◌++◌, map, Option, Some, None, refl, ap, subst, sym, ◌∙◌}
+use Rattle.std.proofs.Common.{◌≡◌, ℕ, zero, suc, true, List, [], ◌∷◌, ◌++◌, map, Option, Some, None, refl, ap, subst, sym, ◌∙◌}
 use Rattle.std.specs.Prelude.{Result, Ok, Err, slice_get, slice_set, ⊤}
 use Rattle.std.specs.List.{AllByRecursion}
 use Rattle.esm_base.specs.declared.limits.Limit.{Limit}
@@ -17,10 +17,9 @@ use Rattle.esm_loads.specs.Arrival.{AnswersNext, count, bytes_of}
 use Rattle.esm_loads.specs.ImportCall.{Imports, BeginsImport}
 use Rattle.esm_loads.specs.ImportCall.Imports.{limit, unresolved, asks, answers}
 use Rattle.esm_eval.specs.Nodes.{Call, CallAnswer}
-use Rattle.esm_body.specs.State.{Standing}
 use Rattle.esm_body.specs.Bodies.{await_on}
 use Rattle.esm_world.specs.World.{World, modules_in, host_of, with_host}
-use Rattle.esm_world.specs.Layers.{Executes, evaluation, with_linked, with_promises}
+use Rattle.esm_world.specs.Layers.{Executes, evaluation, with_linked}
 use Rattle.esm_world.specs.Jobs.{EvaluatesLoad, Reacts, when_evaluated}
 use Rattle.esm_world.specs.Jobs.Reacts.{entry_linked, entry_fault, entry_refused, entry_ended, entry_threw, linked, fault, refused, evaluated, threw, body_ended, body_threw, resumes}
 use Rattle.esm_world.specs.Turn.{fetched}

@@ -1,22 +1,19 @@
 -- Worlds of a run: in each of them each step has an outcome, which is such a world again.
-use Rattle.std.proofs.Common.{◌≡◌, ℕ, zero, suc, ◌+◌, Bool, true, false, List, [], ◌∷◌, Option, Some, None, refl, ap, subst, sym, ◌∙◌}
-use Rattle.std.specs.Prelude.{nat_lt, slice_get, ⊤}
+use Rattle.std.proofs.Common.{◌≡◌, ℕ, zero, suc, Bool, true, List, [], ◌∷◌, Option, Some, None, refl, subst}
+use Rattle.std.specs.Prelude.{slice_get}
 use Rattle.std.specs.List.{AllByRecursion}
-use Rattle.esm_base.specs.declared.limits.Limit.{Limit}
-use Rattle.esm_base.specs.declared.limits.TheConstants.{MAX_DELIVERED_BYTES}
-use Rattle.esm_base.specs.Urls.{Url, has, same_url}
+use Rattle.esm_base.specs.Urls.{Url}
 use Rattle.esm_tree.specs.Syntax.{Item}
-use Rattle.esm_ast.specs.Outcome.{OutcomeView}
 use Rattle.esm_import_map.specs.ImportMap.{Maps}
 use Rattle.esm_values.specs.Value.{Value}
 use Rattle.esm_promise.specs.Promises as p
 use Rattle.esm_promise.specs.Promises.{Promises, Pending, Done, Settled, Job, next_job, first_job, settled, settled_by}
 use Rattle.esm_promise.specs.Reactions.{Reaction, Await, BodyEnd, Loaded, Evaluated, EntryLoaded, EntryDone}
 use Rattle.esm_resolve.specs.SharedSet.{SharedSetAgrees, SharedSetEnds}
-use Rattle.esm_loads.specs.UrlTable.{Entries, TableEntry, Found, Nothing, Faulty, Script, found}
-use Rattle.esm_loads.specs.Loading.{Loading, is_fetching, root_of_load, root_in}
-use Rattle.esm_loads.specs.Host.{Host, with_loading}
-use Rattle.esm_loads.specs.Arrival.{Next, next, AnswersNext, after_fetch, store_by, put_found, count, count_by, bytes_of, open_asks}
+use Rattle.esm_loads.specs.UrlTable.{Entries, TableEntry}
+use Rattle.esm_loads.specs.Loading.{is_fetching}
+use Rattle.esm_loads.specs.Host.{Host}
+use Rattle.esm_loads.specs.Arrival.{AnswersNext, open_asks}
 use Rattle.esm_loads.proofs.HasLoad.{has_load}
 use Rattle.esm_world.specs.World.{World, host_of, with_host, opening, stopped}
 use Rattle.esm_world.specs.Layers.{with_promises}
@@ -33,8 +30,8 @@ use Rattle.esm_world.proofs.LoadedFits.{loading_stays_fit}
 use Rattle.esm_world.proofs.LoadingKept.{reacts_keep_loading}
 use Rattle.esm_world.proofs.UnlinkedGrows.{next_stays, fetched_stays}
 use Rattle.esm_world.proofs.AwaitsKept.{awaits_keep_bodies}
-use Rattle.esm_world.proofs.EvaluatedLinked.{OfLoad, EvaluatedAreLinked, RootsStay, Own, job_taken, reacts_linked, answer_linked, fetch_linked}
-use Rattle.esm_world.proofs.SomeReaction.{LinkedAreUnlinked, Finds, SomeReaction, fit_own, fit_with, some_reaction}
+use Rattle.esm_world.proofs.EvaluatedLinked.{OfLoad, EvaluatedAreLinked, Own, job_taken, reacts_linked, answer_linked, fetch_linked}
+use Rattle.esm_world.proofs.SomeReaction.{LinkedAreUnlinked, Finds, fit_own, fit_with, some_reaction}
 use Rattle.esm_world.proofs.Deliveries.{open_ask, asks_live}
 
 abbrev Queue : Type 0
@@ -133,7 +130,7 @@ module _ (agrees : SharedSetAgrees) (ends : SharedSetEnds) (told : StaysTold) (c
       let o = job_taken (Own w) w.promises left j e f.evaluated in
       let fit : IsFit (with_promises w left) = fit_with w.linked w.loading.entries w w.errors left w.entry f.fit k.1 in
       let some = some_reaction agrees ends (with_promises w left) fit f.loading f.unlinked j.reaction how k.0 (settled_fit w.linked w.loading.entries left.all j.promise how q k.1.all)
-          (told.told w j left how f.told e q) (finds w j left f e j.reaction refl o.0) in
+      (told.told w j left how f.told e q) (finds w j left f e j.reaction refl o.0) in
       record {
         after = some.after;
         reacts = some.reacts;

@@ -1,13 +1,11 @@
 -- The last line of a run: an uncaught value has a display text, since its module, if it is a namespace, is linked.
-use Rattle.std.proofs.Common.{◌≡◌, ℕ, zero, suc, Bool, true, false, ◌||◌, List, [], ◌∷◌, ◌++◌, Option, Some, None, refl, ap, subst, sym, ◌∙◌}
+use Rattle.std.proofs.Common.{◌≡◌, ℕ, zero, suc, true, List, [], ◌∷◌, ◌++◌, Option, Some, None, refl, ap, subst, sym, ◌∙◌}
 use Rattle.std.specs.Prelude.{Result, Ok, Err, ⊤, slice_get, codes}
 use Rattle.std.specs.List.{AllByRecursion}
 use Rattle.esm_base.specs.declared.limits.Limit.{Limit}
 use Rattle.esm_base.specs.Limits.{limit_name}
 use Rattle.esm_base.specs.Urls as urls
 use Rattle.esm_base.specs.Urls.{Url, has, same_url}
-use Rattle.esm_tree.specs.Syntax.{Item}
-use Rattle.esm_import_map.specs.ImportMap.{Maps}
 use Rattle.esm_realm.specs.Walk.{Mark}
 use Rattle.esm_realm.specs.Components.{opened_from}
 use Rattle.esm_realm.proofs.Urls.{has_append, or_left}
@@ -20,18 +18,17 @@ use Rattle.esm_resolve.specs.SharedSet.{SharedSetAgrees, SharedSetEnds}
 use Rattle.esm_env.specs.Modules.{Modules}
 use Rattle.esm_loads.specs.UrlTable.{Entries}
 use Rattle.esm_link.specs.Faults.{FaultAt}
-use Rattle.esm_link.specs.Link.{LinksMarks, IsLinking}
+use Rattle.esm_link.specs.Link.{LinksMarks}
 use Rattle.esm_link.specs.Link.LinksMarks.{done, enters, passes, fails, stays, component}
 use Rattle.esm_eval.specs.Nodes.{Call, CallAnswer}
 use Rattle.esm_body.specs.Acts.{Displays}
 use Rattle.esm_body.proofs.LinkedRead.{linked_read}
-use Rattle.esm_world.specs.World.{World, EntryState, Underway, Ended, Failed, opening, stopped, modules_in, state_of}
-use Rattle.esm_world.specs.Layers.{Executes, evaluation, with_promises}
-use Rattle.esm_world.specs.Jobs.{EvaluatesLoad, LinksLoad, Reacts, when_evaluated}
+use Rattle.esm_world.specs.World.{World, EntryState, Underway, Ended, Failed, stopped, modules_in, state_of}
+use Rattle.esm_world.specs.Layers.{Executes, evaluation}
+use Rattle.esm_world.specs.Jobs.{EvaluatesLoad, Reacts, when_evaluated}
 use Rattle.esm_world.specs.Jobs.Reacts.{entry_linked, entry_fault, entry_refused, entry_ended, entry_threw, linked, fault, refused, evaluated, threw, body_ended, body_threw, resumes}
-use Rattle.esm_world.specs.LastLine.{Ending, Stopped, Uncaught, ending_by, IsLastLine}
-use Rattle.esm_world.specs.LastLine as line
-use Rattle.esm_world.specs.Run.{Delivery, Runs, Shown, StandardRun, asks, ending, shown}
+use Rattle.esm_world.specs.LastLine.{Uncaught, ending_by, IsLastLine}
+use Rattle.esm_world.specs.Run.{asks, ending, shown}
 use Rattle.esm_world.specs.Fits.{IsKnownValue, FitSettled, FitPromise, IsFit}
 use Rattle.esm_world.specs.Outcomes.{StepsHaveOutcomes}
 use Rattle.esm_world.specs.Laws.{HasStandardRun}

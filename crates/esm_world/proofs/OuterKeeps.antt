@@ -1,7 +1,7 @@
 -- What bodies do to promises, errors and imports, and to the bodies that stand at an await: a segment keeps what each error, each
 -- refused import() and each import() with a new promise keeps, and only its end settles a promise, or stands.
 use Rattle.std.proofs.Common.{◌≡◌, ℕ, ◌+◌, Bool, true, false, List, [], ◌∷◌, Option, Some, None, refl, ap, subst, sym, ◌∙◌}
-use Rattle.std.specs.Prelude.{Result, Ok, Err, nat_lt, length, ◌++◌, codes}
+use Rattle.std.specs.Prelude.{Result, Ok, Err, nat_lt, length, ◌++◌}
 use Rattle.esm_base.specs.declared.limits.Limit.{Limit}
 use Rattle.esm_base.specs.declared.limits.TheConstants.{MAX_STEPS, MAX_LOG_BYTES, MAX_CALL_DEPTH}
 use Rattle.esm_values.specs.Value.{Value, Undefined, Truth, Text, Func, Error, Namespace, Promise}
@@ -13,7 +13,7 @@ use Rattle.esm_values.specs.Acts.{Act, AnswerTo}
 use Rattle.esm_values.specs.Acts.{Act as act}
 use Rattle.esm_values.specs.Plans.{Rewritten as comes}
 use Rattle.esm_values.specs.Operators.{values, text_of}
-use Rattle.esm_promise.specs.Promises.{Settled, Fulfilled, Rejected, make, settle, next_promise}
+use Rattle.esm_promise.specs.Promises.{Settled, Rejected, make, settle, next_promise}
 use Rattle.esm_promise.specs.Outer.{Outer}
 use Rattle.esm_env.specs.Modules.{Modules}
 use Rattle.esm_env.specs.Cells.{Cell, Reading}
@@ -22,13 +22,13 @@ use Rattle.esm_env.specs.Writing.{Writing, writing_of}
 use Rattle.esm_env.specs.Writing.{Writing as writing}
 use Rattle.esm_body.specs.Scopes.{Scope, in_scopes}
 use Rattle.esm_body.specs.Rest.{Rest}
-use Rattle.esm_body.specs.State.{Event, Begins, Ends, Throws, Standing, State, Importing, Answered, take_steps, steps_by, add_line, line_by, note, note_by, event_behind, event_line}
+use Rattle.esm_body.specs.State.{Event, Begins, Ends, Throws, Standing, State, Importing, Answered, steps_by, add_line, line_by, note, note_by, event_behind, event_line}
 use Rattle.esm_body.specs.Acts.{Inner, Performs, AnswersAct, ReadsMemberOf, BeginsBy, read_answer, set_at, write_in, scope_write, module_write, modules_of}
 use Rattle.esm_body.specs.BodyRewriting.{RewrittenBody, On, Gives, Waits, RewritesBody, own_url}
 use Rattle.esm_body.specs.BodyRewriting.RewritesBody.{begins_at, does, drops, sets, writes, throws, returns, prints, chooses, awaits, inner, inner_end, tries, tries_end}
 use Rattle.esm_body.specs.Segment.{Active, Ended, Normal, Thrown, Awaiting, Stopped, Next, Goes, Over, Segment, next_by, call_by, called}
 use Rattle.esm_body.specs.Segment.{Segment as segment}
-use Rattle.esm_body.specs.Bodies.{StartsBody, RunsBody, ResumesBody, Taken, take_standing, await_on, segment_end, settle_done, body_end, ran_by, url_in}
+use Rattle.esm_body.specs.Bodies.{StartsBody, RunsBody, ResumesBody, await_on, segment_end, settle_done, body_end, ran_by, url_in}
 use Rattle.esm_world.proofs.ExprKeeps.{Stays, follows_keeps, step_keeps}
 
 -- what is looked at: promises, errors and imports, and the bodies that stand at an await

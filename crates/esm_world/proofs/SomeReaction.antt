@@ -1,28 +1,26 @@
 -- In a world that fits each job has an outcome: linking and evaluating a load that is complete, what follows the end of a body, and a
 -- body that goes on.
-use Rattle.std.proofs.Common.{◌≡◌, ℕ, ◌+◌, ◌<◌, Bool, true, false, List, [], ◌∷◌, ◌++◌, Option, Some, None, refl, ap, subst, sym, ◌∙◌, length}
+use Rattle.std.proofs.Common.{◌≡◌, ℕ, ◌<◌, true, List, Option, Some, None, refl, ap, subst, sym, ◌∙◌, length}
 use Rattle.std.specs.Prelude.{Result, Ok, Err, ⊤}
 use Rattle.esm_base.specs.declared.limits.Limit.{Limit}
 use Rattle.esm_base.specs.Urls.{Url, has, same_url}
 use Rattle.esm_ast.specs.Entries.{requests_of, entries_of, entries_with}
 use Rattle.esm_values.specs.Value.{Value, Namespace}
 use Rattle.esm_values.specs.Errors.{Errors}
-use Rattle.esm_promise.specs.Promises.{Promises, Settled, Fulfilled, Rejected, Job, settle, register}
+use Rattle.esm_promise.specs.Promises.{Promises, Settled, Fulfilled, Rejected, settle, register}
 use Rattle.esm_promise.specs.Reactions.{Reaction, Await, BodyEnd, Loaded, Evaluated, EntryLoaded, EntryDone}
 use Rattle.esm_resolve.specs.SharedSet.{SharedSetAgrees, SharedSetEnds}
 use Rattle.esm_env.specs.Modules as mods
 use Rattle.esm_link.specs.Faults.{FaultAt}
 use Rattle.esm_loads.specs.UrlTable.{Entries, body_in}
 use Rattle.esm_loads.specs.Loading.{Loading, root_of_load, import_promise}
-use Rattle.esm_loads.specs.ImportCall.{BeginsImport}
-use Rattle.esm_body.specs.State.{State}
-use Rattle.esm_body.specs.Bodies.{Taken, take_standing, ResumesBody}
+use Rattle.esm_body.specs.Bodies.{Taken, take_standing}
 use Rattle.esm_body.specs.Fits.{AreLinked}
-use Rattle.esm_world.specs.World.{World, EntryState, modules_in, state_of, with_state}
-use Rattle.esm_world.specs.Layers.{Executes, evaluation, LinksTo, with_linked}
-use Rattle.esm_world.specs.Jobs.{LinksLoad, EvaluatesLoad, Reacts, when_evaluated}
+use Rattle.esm_world.specs.World.{World, EntryState, modules_in, with_state}
+use Rattle.esm_world.specs.Layers.{LinksTo, with_linked}
+use Rattle.esm_world.specs.Jobs.{Reacts, when_evaluated}
 use Rattle.esm_world.specs.Fits.{IsLinkedModule, AreModules, IsKnownValue, FitReaction, FitSettled, FitPromises, FitsWorld, IsFit}
-use Rattle.esm_world.specs.Loaded.{FitsLoading, IsStillLinked}
+use Rattle.esm_world.specs.Loaded.{FitsLoading}
 use Rattle.esm_world.specs.Told.{IsTold}
 use Rattle.esm_world.proofs.FitLists.{settled, registered}
 use Rattle.esm_world.proofs.FitBodies.{are_linked}

@@ -1,13 +1,13 @@
 -- What is told of loads stays so in all that bodies do to promises, errors and imports.
-use Rattle.std.proofs.Common.{◌≡◌, ◌⊎◌, inl, inr, ℕ, zero, suc, ◌+◌, ◌<◌, Bool, true, false, List, [], ◌∷◌, ◌++◌, length, Option, Some, None, refl, ap, subst, sym, ◌∙◌, arith}
-use Rattle.std.specs.Prelude.{slice_get, slice_set, Result, ⊤}
+use Rattle.std.proofs.Common.{◌≡◌, ◌⊎◌, inl, inr, ℕ, zero, suc, ◌<◌, Bool, true, false, List, [], ◌∷◌, ◌++◌, length, Option, Some, None, refl, ap, subst, sym, ◌∙◌, arith}
+use Rattle.std.specs.Prelude.{slice_get, slice_set, Result}
 use Rattle.esm_base.specs.declared.limits.Limit.{Limit}
 use Rattle.esm_base.specs.Urls as urls
 use Rattle.esm_base.specs.Urls.{Url}
 use Rattle.esm_values.specs.Value.{Value, Undefined, Truth, Text, Func, Error, Namespace}
 use Rattle.esm_values.specs.Value as value
 use Rattle.esm_values.specs.Errors.{Errors}
-use Rattle.esm_promise.specs.Promises.{Promise, Settled, Fulfilled, Rejected, Pending, Done, Promises, Job, first_job, next_job, make, make_fulfilled, settle, register, register_by, next_promise, is_pending, is_pending_by}
+use Rattle.esm_promise.specs.Promises.{Promise, Settled, Fulfilled, Rejected, Pending, Done, Job, first_job, next_job, make, make_fulfilled, settle, register, register_by, next_promise, is_pending, is_pending_by}
 use Rattle.esm_promise.specs.Reactions.{Reaction, Await}
 use Rattle.esm_loads.specs.Loading.{Loading, Purpose, ForEntry, ForImport, import_promise_in}
 use Rattle.esm_loads.specs.Host.{Host}
@@ -20,8 +20,8 @@ use Rattle.esm_loads.proofs.Requests.{set_other, equal_cases, length_set}
 use Rattle.esm_body.specs.Bodies.{await_on}
 use Rattle.esm_world.specs.Told.{Whose, OfImport, Own, own_promise_in, load_promise, IsFree, HasSettled, MayStandOn, AreToldOf, IsHostTold}
 use Rattle.esm_world.proofs.OuterKeeps.{LastsOuter, with_errors, makes, settles}
-use Rattle.esm_world.proofs.ToldPromises.{Ps, Continues, continues_same, continues_on, below_not, length_push, register_told, await_told, get_below}
-use Rattle.esm_world.proofs.ToldLoading.{KeptOf, KeptBut, KeptIn, made_free, next_free, make_kept, settle_kept, next_kept, imports_kept}
+use Rattle.esm_world.proofs.ToldPromises.{Ps, Continues, continues_same, continues_on, below_not, length_push, register_told, await_told}
+use Rattle.esm_world.proofs.ToldLoading.{KeptOf, KeptBut, next_free, make_kept, settle_kept, next_kept, imports_kept}
 
 abbrev pub Row : Type 0
 Row = Promise (Reaction Url) (Value Url)

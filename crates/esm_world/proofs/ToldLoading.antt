@@ -1,18 +1,18 @@
 -- What is told of loads stays so where loading goes on.
-use Rattle.std.proofs.Common.{◌≡◌, ◌⊎◌, inl, inr, ℕ, zero, suc, ◌+◌, ◌<◌, Bool, true, false, List, [], ◌∷◌, ◌++◌, length, Option, Some, None, refl, ap, subst, sym, ◌∙◌, arith}
-use Rattle.std.specs.Prelude.{slice_get, slice_set, ⊤}
+use Rattle.std.proofs.Common.{◌≡◌, ◌⊎◌, inl, inr, ℕ, ◌<◌, Bool, true, false, List, [], ◌∷◌, ◌++◌, length, Option, Some, None, refl, ap, subst, sym, ◌∙◌, arith}
+use Rattle.std.specs.Prelude.{slice_get, slice_set}
 use Rattle.esm_base.specs.Urls.{Text, Url, has}
 use Rattle.esm_values.specs.Value.{Value, Undefined, Error}
 use Rattle.esm_values.specs.Errors.{next_error}
-use Rattle.esm_promise.specs.Promises.{Settled, Fulfilled, Rejected, Pending, Promises, Job, make, settle, settled, settled_by, next_promise}
+use Rattle.esm_promise.specs.Promises.{Settled, Fulfilled, Rejected, Pending, Job, make, settle, settled, settled_by, next_promise}
 use Rattle.esm_promise.specs.Reactions.{Reaction, Loaded}
 use Rattle.esm_loads.specs.UrlTable.{TableEntry, Throw, New, Kept, thrown_by}
-use Rattle.esm_loads.specs.Loading.{Loading, LoadState, Asked, Open, LoadComplete, Thrown, PendingRequest, Root, Request, Purpose, ForEntry, ForImport, OpenLoad, open_load, load_of, import_promise_in, ask, ask_by}
+use Rattle.esm_loads.specs.Loading.{Loading, LoadState, Asked, Open, LoadComplete, Thrown, PendingRequest, Root, Request, Purpose, ForEntry, ForImport, OpenLoad, open_load, import_promise_in, ask_by}
 use Rattle.esm_loads.specs.Load.{Answers}
-use Rattle.esm_loads.specs.Load.Answers.{no_root, no_module, root, request}
+use Rattle.esm_loads.specs.Load.Answers.{no_module, request}
 use Rattle.esm_loads.specs.Host.{Host, Answered, begin_load, begin_by, own_load, settle_load, settle_by, with_loading, promise_of}
 use Rattle.esm_loads.specs.Host.Answered.{answered, late}
-use Rattle.esm_loads.specs.Arrival.{Next, next, AnswersNext, without_next}
+use Rattle.esm_loads.specs.Arrival.{AnswersNext, without_next}
 use Rattle.esm_loads.specs.ImportCall.{Imports, add_load, counted, next_load}
 use Rattle.esm_loads.specs.Owed.{owes, OwesPromises}
 use Rattle.esm_loads.specs.Laws.{IsOrderly}

@@ -1,6 +1,6 @@
 -- What is told of loads stays so where promises are made, settled, or get reactions, and where loading goes on.
-use Rattle.std.proofs.Common.{◌≡◌, ◌⊎◌, inl, inr, ℕ, zero, suc, ◌+◌, ◌<◌, List, [], ◌∷◌, ◌++◌, map, length, Option, Some, None, refl, ap, subst, sym, ◌∙◌, arith}
-use Rattle.std.specs.Prelude.{slice_get, slice_set, ⊤}
+use Rattle.std.proofs.Common.{◌≡◌, ◌⊎◌, inl, inr, ℕ, zero, suc, ◌<◌, List, [], ◌∷◌, ◌++◌, map, length, Option, Some, None, refl, ap, subst, sym, ◌∙◌, arith}
+use Rattle.std.specs.Prelude.{slice_get, slice_set}
 use Rattle.std.specs.List.{AllByRecursion}
 use Rattle.esm_base.specs.Urls.{Url}
 use Rattle.esm_values.specs.Value.{Value, Undefined, Truth, Text, Func, Error, Namespace}
@@ -10,7 +10,7 @@ use Rattle.esm_promise.specs.Reactions.{Reaction, Await, BodyEnd, Loaded, Evalua
 use Rattle.esm_loads.specs.Loading.{Loading, LoadState, Asked, Open, LoadComplete, Thrown, Purpose, ForEntry, ForImport, root_in, import_promise_in}
 use Rattle.esm_loads.proofs.Requests.{set_own, set_other, length_set, equal_cases, push_cases}
 use Rattle.esm_body.specs.Bodies.{await_on}
-use Rattle.esm_world.specs.Told.{Whose, OfImport, Own, own_promise_in, load_promise, IsFree, HasSettled, HasLoaded, MayStandOn, AreToldOf, IsTold}
+use Rattle.esm_world.specs.Told.{Own, own_promise_in, load_promise, HasSettled, HasLoaded, MayStandOn, AreToldOf, IsTold}
 
 abbrev pub Ps : Type 0
 Ps = Promises (Reaction Url) (Value Url)

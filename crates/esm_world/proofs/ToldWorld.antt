@@ -1,6 +1,6 @@
 -- What is told of loads stays so in each step of a world.
-use Rattle.std.proofs.Common.{◌≡◌, ◌⊎◌, inl, inr, ℕ, zero, suc, ◌+◌, ◌<◌, Bool, true, false, cond, List, [], ◌∷◌, ◌++◌, length, Option, Some, None, refl, ap, subst, sym, ◌∙◌, arith}
-use Rattle.std.specs.Prelude.{slice_get, Result, Ok, Err, ⊤, nat_lt}
+use Rattle.std.proofs.Common.{◌≡◌, ℕ, zero, suc, ◌+◌, ◌<◌, Bool, true, false, cond, List, [], ◌∷◌, ◌++◌, length, Option, Some, None, refl, ap, subst, sym, ◌∙◌, arith}
+use Rattle.std.specs.Prelude.{slice_get, Result, Ok, Err, nat_lt}
 use Rattle.std.specs.List.{AllByRecursion}
 use Rattle.std.specs.Option.{option_or}
 use Rattle.esm_tree.specs.Syntax.{Item}
@@ -10,31 +10,30 @@ use Rattle.esm_base.specs.Urls.{Url, has, same_url}
 use Rattle.esm_ast.specs.Outcome.{OutcomeView}
 use Rattle.esm_import_map.specs.ImportMap.{Maps}
 use Rattle.esm_values.specs.Value.{Value, Undefined, Namespace}
-use Rattle.esm_values.specs.Errors.{Errors, make_error}
-use Rattle.esm_promise.specs.Promises.{Settled, Fulfilled, Rejected, Pending, Promises, Job, is_pending_by, make, settle, settled, register, next_promise, next_job}
-use Rattle.esm_promise.specs.Reactions.{Reaction, Await, BodyEnd, Loaded, Evaluated, EntryLoaded, EntryDone}
-use Rattle.esm_loads.specs.UrlTable.{put_at, Found, Nothing, Faulty, Script, found}
+use Rattle.esm_values.specs.Errors.{Errors}
+use Rattle.esm_promise.specs.Promises.{Settled, Fulfilled, Rejected, Pending, Job, is_pending_by, make, settle, settled, register, next_promise, next_job}
+use Rattle.esm_promise.specs.Reactions.{Reaction, BodyEnd, Loaded, Evaluated, EntryLoaded, EntryDone}
+use Rattle.esm_loads.specs.UrlTable.{Found, Nothing, Faulty, Script, found}
 use Rattle.esm_loads.specs.Loading.{Loading, LoadState, ForImport, root_in, import_promise, import_promise_in, is_fetching}
 use Rattle.esm_loads.specs.Host.{Host, opening_host, with_loading}
 use Rattle.esm_loads.specs.Arrival.{after_fetch, AnswersNext, bytes_of, count_by, store_by, put_found, open_asks}
 use Rattle.esm_loads.specs.ImportCall.{BeginsImport}
 use Rattle.esm_loads.proofs.Orderly.{stays_orderly}
 use Rattle.esm_loads.proofs.Owed.{keeps_promises}
-use Rattle.esm_eval.specs.Nodes.{Node, Call, CallAnswer, Start, Run}
-use Rattle.esm_eval.specs.Evaluation.{Evaluation}
+use Rattle.esm_eval.specs.Nodes.{Node, Call, CallAnswer}
 use Rattle.esm_body.specs.State.{State, Standing}
 use Rattle.esm_body.specs.Bodies.{Taken, take_standing, take_by, await_on}
-use Rattle.esm_world.specs.World.{World, EntryState, opening, stopped, host_of, with_host, state_of, with_state, modules_in}
+use Rattle.esm_world.specs.World.{World, EntryState, opening, stopped, host_of, with_host, with_state, modules_in}
 use Rattle.esm_world.specs.Layers.{Executes, evaluation, with_linked, with_promises}
 use Rattle.esm_world.specs.Jobs.{EvaluatesLoad, Reacts, Jobs, when_evaluated, with_entry}
 use Rattle.esm_world.specs.Jobs.Reacts.{entry_linked, entry_fault, entry_refused, entry_ended, entry_threw, linked, fault, refused, evaluated, threw, body_ended, body_threw, resumes}
 use Rattle.esm_world.specs.Turn.{Tasks, Turn, fetched}
 use Rattle.esm_world.specs.Run.{Delivery, IsAllowed, Runs, asks_by}
 use Rattle.esm_world.specs.Told.{Whose, OfImport, Own, load_promise, IsFree, HasSettled, HasLoaded, MayStandOn, AreToldOf, IsHostTold, AreTold, IsTold, StaysTold, StaysComplete}
-use Rattle.esm_world.proofs.OuterKeeps.{Around, around, EndsSo, KeepsAround, CallEnds, settles, with_errors, starts_around, runs_around, resumes_around}
+use Rattle.esm_world.proofs.OuterKeeps.{Around, around, EndsSo, KeepsAround, CallEnds, settles, starts_around, runs_around, resumes_around}
 use Rattle.esm_world.proofs.LoadedFits.{in_filter}
 use Rattle.esm_world.proofs.EvalHolds.{FreeCall, Holding, evaluates_holds, fulfills_holds, rejects_holds}
-use Rattle.esm_world.proofs.ToldPromises.{Ps, Continues, continues_same, continues_on, pushed, all_on, loaded_on, root_on, stands_on, make_told, await_told, take_told, is_told}
+use Rattle.esm_world.proofs.ToldPromises.{Ps, Continues, continues_same, continues_on, pushed, all_on, loaded_on, root_on, make_told, take_told, is_told}
 use Rattle.esm_world.proofs.ToldLoading.{KeptOf, made_free, next_free, make_kept, unchanged}
 use Rattle.esm_world.proofs.ToldHost.{Row, KeptHost, host_on, host_await, same_rows, host_errors, host_make, host_settle, host_settle_free, host_register, import_not_owed, host_next, KeepsTold, lasts_told}
 
@@ -169,16 +168,18 @@ holding = record {
 taken_told : (w : World) (j : Job (Reaction Url)) (left : Ps) → AreTold w → next_job w.promises ≡ Some (j, left) → AreTold (with_promises w left) × MayStandOn w.loading j.promise j.reaction
 taken_told w j left t e =
     let k = take_told w.loading w.promises left j e t.host.told in
-    let same = same_rows w.promises left j e in
-    (record {
-      host = record {
-        orderly = t.host.orderly;
-        owes = record { sizes = t.host.owes.sizes; roots = t.host.owes.roots; pending = λ s p o. subst (λ xs. is_pending_by (slice_get xs p) ≡ true) (sym same) (t.host.owes.pending s p o); once = t.host.owes.once };
-        told = k.0;
-      };
-      nodes = λ u p f. free (t.nodes u p f);
-      standing = all_on (λ (s : Standing Url). FreeIn w s.done) (λ (s : Standing Url). IsFree w.loading left s.done) w.engine.standing (λ s f. free f) t.standing;
-    }, k.1)
+    let same = same_rows w.promises left j e in (
+      record {
+        host = record {
+          orderly = t.host.orderly;
+          owes = record { sizes = t.host.owes.sizes; roots = t.host.owes.roots; pending = λ s p o. subst (λ xs. is_pending_by (slice_get xs p) ≡ true) (sym same) (t.host.owes.pending s p o); once = t.host.owes.once };
+          told = k.0;
+        };
+        nodes = λ u p f. free (t.nodes u p f);
+        standing = all_on (λ (s : Standing Url). FreeIn w s.done) (λ (s : Standing Url). IsFree w.loading left s.done) w.engine.standing (λ s f. free f) t.standing;
+      },
+      k.1,
+    )
   where
     free : {p : ℕ} → FreeIn w p → IsFree w.loading left p
     free {p} f = record { made = subst (λ (xs : List Row). p < length xs) (sym (same_rows w.promises left j e)) f.made; apart = f.apart }

@@ -1,5 +1,5 @@
 -- What is Unlinked stays so.
-use Rattle.std.proofs.Common.{◌≡◌, ℕ, ◌+◌, Bool, true, false, ◌||◌, Option, Some, None, refl, ap, subst, sym, ◌∙◌}
+use Rattle.std.proofs.Common.{◌≡◌, ℕ, ◌+◌, Bool, true, false, Option, Some, None, refl, ap, ◌∙◌}
 use Rattle.std.specs.Prelude.{nat_lt, List, slice_get}
 use Rattle.esm_base.specs.declared.limits.Limit.{Limit}
 use Rattle.esm_base.specs.declared.limits.TheConstants.{MAX_DELIVERED_BYTES}
@@ -10,7 +10,7 @@ use Rattle.esm_loads.specs.UrlTable.{TableEntry, Throw, thrown_by, Found, Nothin
 use Rattle.esm_loads.specs.Loading.{Loading, PendingRequest, Root, Request, Purpose, ForEntry, ForImport, OpenLoad, open_load, has_pending, begin, finish_by, load_of}
 use Rattle.esm_loads.specs.Load.{Answers}
 use Rattle.esm_loads.specs.Load.Answers.{no_root, no_module, root, request}
-use Rattle.esm_loads.specs.Host.{Host, with_loading, begin_by, begin_load, settle_load, Answered}
+use Rattle.esm_loads.specs.Host.{Host, with_loading, begin_by, begin_load, Answered}
 use Rattle.esm_loads.specs.Host.Answered.{late, answered}
 use Rattle.esm_loads.specs.Arrival.{after_fetch, store_by, put_found, count, count_by, bytes_of, AnswersNext}
 use Rattle.esm_loads.specs.ImportCall.{Imports}

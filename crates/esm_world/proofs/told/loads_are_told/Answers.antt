@@ -1,5 +1,4 @@
 use Rattle.esm_world.proofs.ToldWorld.{stays_told, stays_complete}
-use Rattle.esm_world.proofs.LastLines.{has_standard_run}
 use Rattle.esm_world.proofs.told.loads_are_told.Goals as goal
 
 pub returns-clause-told : goal.returns-clause-told
