@@ -21,7 +21,8 @@ use Rattle.esm_loads.proofs.Orderly.{put_own, put_other, stays_orderly}
 use Rattle.esm_world.specs.World.{World, host_of, opening, stopped}
 use Rattle.esm_world.specs.Turn.{Turn, fetched}
 use Rattle.esm_world.specs.LastLine.{ending_by, status_of}
-use Rattle.esm_world.specs.Run.{Delivery, Runs, asks, asks_by, ending, Shown, StandardRun}
+use Rattle.esm_world.specs.Run.{Runs, asks, ending, Shown, StandardRun}
+use Rattle.esm_ast.specs.Deliveries.{Delivery, asks_by}
 use Rattle.esm_world.specs.Laws.{urls_of}
 use Rattle.esm_world.proofs.Grows.{fetch_stays}
 use Rattle.esm_world.proofs.WorldGrows.{tasks_progress}

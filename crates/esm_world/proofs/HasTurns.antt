@@ -5,7 +5,8 @@ use Rattle.esm_import_map.specs.ImportMap.{Maps}
 use Rattle.esm_base.specs.declared.limits.TheConstants.{MAX_STEPS}
 use Rattle.esm_base.specs.Urls.{Url}
 use Rattle.esm_world.specs.World.{World, opening, stopped}
-use Rattle.esm_world.specs.Run.{Delivery, Runs}
+use Rattle.esm_world.specs.Run.{Runs}
+use Rattle.esm_ast.specs.Deliveries.{Delivery}
 use Rattle.esm_world.specs.Outcomes.{StepsHaveOutcomes, TurnsEnd}
 use Rattle.esm_world.proofs.TurnsEnd.{CanTurn, has_turn, runs_fit}
 use Rattle.esm_world.proofs.ReactsLower.{steps_left, left, job_lowers, job_within}

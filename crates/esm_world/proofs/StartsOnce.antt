@@ -33,7 +33,8 @@ use Rattle.esm_world.specs.Layers.{Executes, evaluation, with_linked, with_promi
 use Rattle.esm_world.specs.Jobs.{EvaluatesLoad, Reacts, Jobs, when_evaluated}
 use Rattle.esm_world.specs.Jobs.Reacts.{entry_linked, entry_fault, entry_refused, entry_ended, entry_threw, linked, fault, refused, evaluated, threw, body_ended, body_threw, resumes}
 use Rattle.esm_world.specs.Turn.{Tasks, Turn, fetched}
-use Rattle.esm_world.specs.Run.{Runs, Delivery, asks_by, Shown, StandardRun}
+use Rattle.esm_world.specs.Run.{Runs, Shown, StandardRun}
+use Rattle.esm_ast.specs.Deliveries.{Delivery, asks_by}
 use Rattle.esm_world.specs.Laws.{started, StopsAreTold}
 use Rattle.esm_world.proofs.Distinct.{Adds, same, add, adds_on, adds_same, adds_distinct}
 use Rattle.esm_world.proofs.Grows.{Progress}

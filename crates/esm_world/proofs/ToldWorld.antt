@@ -28,7 +28,8 @@ use Rattle.esm_world.specs.Layers.{Executes, evaluation, with_linked, with_promi
 use Rattle.esm_world.specs.Jobs.{EvaluatesLoad, Reacts, Jobs, when_evaluated, with_entry}
 use Rattle.esm_world.specs.Jobs.Reacts.{entry_linked, entry_fault, entry_refused, entry_ended, entry_threw, linked, fault, refused, evaluated, threw, body_ended, body_threw, resumes}
 use Rattle.esm_world.specs.Turn.{Tasks, Turn, fetched}
-use Rattle.esm_world.specs.Run.{Delivery, IsAllowed, Runs, asks_by}
+use Rattle.esm_world.specs.Run.{IsAllowed, Runs}
+use Rattle.esm_ast.specs.Deliveries.{Delivery, asks_by}
 use Rattle.esm_world.specs.Told.{Whose, OfImport, Own, load_promise, IsFree, HasSettled, HasLoaded, MayStandOn, AreToldOf, IsHostTold, AreTold, IsTold, StaysTold, StaysComplete}
 use Rattle.esm_world.proofs.OuterKeeps.{Around, around, EndsSo, KeepsAround, CallEnds, settles, starts_around, runs_around, resumes_around}
 use Rattle.esm_world.proofs.LoadedFits.{in_filter}

@@ -16,7 +16,8 @@ use Rattle.esm_world.specs.World.{World, host_of, with_host, opening, stopped}
 use Rattle.esm_world.specs.Layers.{with_promises}
 use Rattle.esm_world.specs.Jobs.{Reacts, Jobs}
 use Rattle.esm_world.specs.Turn.{Tasks, Turn, fetched}
-use Rattle.esm_world.specs.Run.{Delivery, IsAllowed, Runs}
+use Rattle.esm_world.specs.Run.{IsAllowed, Runs}
+use Rattle.esm_ast.specs.Deliveries.{Delivery}
 use Rattle.esm_world.specs.Laws.{HasTurn}
 use Rattle.esm_world.proofs.OneRun.{turn_one}
 use Rattle.esm_world.proofs.WorldGrows.{jobs_progress}

@@ -23,7 +23,8 @@ use Rattle.esm_world.specs.World.{World, opening, stopped, modules_in, state_of,
 use Rattle.esm_world.specs.Layers.{Executes, evaluation}
 use Rattle.esm_world.specs.Jobs.{Jobs}
 use Rattle.esm_world.specs.Turn.{Tasks, Turn}
-use Rattle.esm_world.specs.Run.{Delivery, asks, Runs, IsAllowed, Shown, StandardRun}
+use Rattle.esm_world.specs.Run.{asks, Runs, IsAllowed, Shown, StandardRun}
+use Rattle.esm_ast.specs.Deliveries.{Delivery}
 
 -- a turn has one outcome
 abbrev pub OneTurn : Type 0

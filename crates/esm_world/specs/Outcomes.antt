@@ -12,7 +12,8 @@ use Rattle.esm_world.specs.World.{World, host_of, with_host, opening, stopped}
 use Rattle.esm_world.specs.Layers.{with_promises}
 use Rattle.esm_world.specs.Jobs.{Reacts}
 use Rattle.esm_world.specs.Turn.{fetched}
-use Rattle.esm_world.specs.Run.{Delivery, IsAllowed}
+use Rattle.esm_world.specs.Run.{IsAllowed}
+use Rattle.esm_ast.specs.Deliveries.{Delivery}
 use Rattle.esm_world.specs.Laws.{HasTurn}
 
 -- these worlds fit

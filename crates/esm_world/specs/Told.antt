@@ -19,7 +19,8 @@ use Rattle.esm_world.specs.World.{World, opening, stopped, host_of, with_host}
 use Rattle.esm_world.specs.Layers.{with_promises}
 use Rattle.esm_world.specs.Jobs.{Reacts}
 use Rattle.esm_world.specs.Turn.{fetched}
-use Rattle.esm_world.specs.Run.{Delivery, IsAllowed, Runs}
+use Rattle.esm_world.specs.Run.{IsAllowed, Runs}
+use Rattle.esm_ast.specs.Deliveries.{Delivery}
 
 -- ---- the promises of loads
 

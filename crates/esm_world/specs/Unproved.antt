@@ -8,8 +8,9 @@ use Rattle.esm_realm.specs.Reach.{Reaches}
 use Rattle.esm_loads.specs.Loading.{targets}
 use Rattle.esm_body.specs.State.{Event, Begins, Ends}
 use Rattle.esm_world.specs.World.{World, opening, stopped}
-use Rattle.esm_world.specs.Run.{Delivery, Runs, Shown, StandardRun}
-use Rattle.esm_world.specs.Direct.{Files, IsClean, AreClosure, DirectRun, MeetsNoLimit, AreOfFiles, ShowsDirect}
+use Rattle.esm_world.specs.Run.{Runs, Shown, StandardRun}
+use Rattle.esm_ast.specs.Deliveries.{Delivery, Files, AreOfFiles}
+use Rattle.esm_world.specs.Direct.{IsClean, AreClosure, DirectRun, MeetsNoLimit, ShowsDirect}
 
 -- clean files have a direct run, which shows something
 abbrev pub HasDirectRun : Type 0
