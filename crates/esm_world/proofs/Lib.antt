@@ -41,3 +41,4 @@ pub mod EvaluatedLinked
 pub mod SomeReaction
 pub mod HasTurnSteps
 pub mod LastLines
+pub mod StandsOnce

@@ -39,7 +39,7 @@ module _ {N I : Type 0} where
   abbrev pub around : State N I → Around N I
   around w = (w.outer, w.engine.standing)
 
-  abbrev told_around : {A : Type 0} → Answered A (State N I) → Around N I
+  abbrev pub told_around : {A : Type 0} → Answered A (State N I) → Around N I
   told_around t = around t.1
 
   abbrev pub with_errors : Outer N I → Errors → Outer N I
@@ -77,7 +77,7 @@ module _ {N I : Type 0} where
   note_around : (url : N → List ℕ) (w : State N I) (event : Event N) → told_around (note url w event) ≡ around w
   note_around url w event = by_note url w event w.engine.trace
 
-  noted : (url : N → List ℕ) (w : State N I) (event : Event N) (t : Answered (Unit {0}) (State N I)) → note url w event ≡ t → told_around t ≡ around w
+  pub noted : (url : N → List ℕ) (w : State N I) (event : Event N) (t : Answered (Unit {0}) (State N I)) → note url w event ≡ t → told_around t ≡ around w
   noted url w event t e = subst (λ t. told_around t ≡ around w) e (note_around url w event)
 
   -- ---- how a call for a body ends

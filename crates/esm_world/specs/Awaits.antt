@@ -16,6 +16,8 @@ use Rattle.esm_world.specs.World.{World, opening, host_of, with_host}
 use Rattle.esm_world.specs.Layers.{with_promises}
 use Rattle.esm_world.specs.Jobs.{Reacts}
 use Rattle.esm_world.specs.Turn.{fetched}
+use Rattle.esm_ast.specs.Deliveries.{Delivery}
+use Rattle.esm_world.specs.Run.{Runs}
 
 -- of this module
 module _ (m : Url) where
@@ -75,3 +77,12 @@ pub record AwaitsKeepBodies : Type 0 where
   pub reacts : (w after : World) (j : Job (Reaction Url)) (left : Promises (Reaction Url) (Value Url)) (how : Settled (Value Url))
       → AwaitsHaveBodies w → next_job w.promises ≡ Some (j, left) → Reacts (with_promises w left) j.reaction how after
       → AwaitsHaveBodies after
+
+-- so it is in each world of a run, and no body stands at two awaits
+pub record RunHasBodies (w : World) : Type 0 where
+  pub bodies : AwaitsHaveBodies w
+  pub once : (m : Url) → standing_of m w.engine.standing ≤ 1
+
+abbrev pub RunsHaveBodies : Type 0
+RunsHaveBodies = (maps : Maps) (built : List Item → Bool) (entry : Url) (trace : Bool) (deliveries : List Delivery) (w : World)
+    → Runs (opening maps built entry trace) deliveries w → RunHasBodies w
