@@ -42,3 +42,5 @@ pub mod SomeReaction
 pub mod HasTurnSteps
 pub mod LastLines
 pub mod StandsOnce
+pub mod RunsIdle
+pub mod RunsSound

@@ -296,10 +296,10 @@ answers : (w : World) (h : Host) → AreTold w → stopped w ≡ None → Answer
 answers w h t live q = (host_world w h t (answer_kept w h t live q)).told
 
 -- the end of a fetch changes no load and no promise
-record IsSameLoads (h k : Host) : Type 0 where
-  purposes : k.imports.purposes ≡ h.imports.purposes
-  loads : k.imports.loads ≡ h.imports.loads
-  promises : k.promises ≡ h.promises
+pub record IsSameLoads (h k : Host) : Type 0 where
+  pub purposes : k.imports.purposes ≡ h.imports.purposes
+  pub loads : k.imports.loads ≡ h.imports.loads
+  pub promises : k.promises ≡ h.promises
 
 found_same : (h : Host) (u : Url) (f : Found) → IsSameLoads h (put_found h u f)
 found_same h u Nothing = record { purposes = refl; loads = refl; promises = refl }
@@ -310,7 +310,7 @@ store_same : (s : Option Limit) (h : Host) (u : Url) (c : OutcomeView) → IsSam
 store_same None h u c = found_same h u (found h.imports.maps h.imports.built u c)
 store_same (Some limit) h u c = record { purposes = refl; loads = refl; promises = refl }
 
-fetched_same : (b : Bool) (h : Host) (u : Url) (c : OutcomeView) → IsSameLoads h (store_by (count_by b h.imports (bytes_of c)).stopped (with_loading h (count_by b h.imports (bytes_of c))) u c)
+pub fetched_same : (b : Bool) (h : Host) (u : Url) (c : OutcomeView) → IsSameLoads h (store_by (count_by b h.imports (bytes_of c)).stopped (with_loading h (count_by b h.imports (bytes_of c))) u c)
 fetched_same true h u c = record { purposes = refl; loads = refl; promises = refl }
 fetched_same false h u c = let k = store_same h.imports.stopped (with_loading h (count_by false h.imports (bytes_of c))) u c in record { purposes = k.purposes; loads = k.loads; promises = k.promises }
 

@@ -11,6 +11,7 @@ pub mod Loaded
 pub mod Awaits
 pub mod Told
 pub mod Laws
+pub mod RunLaws
 pub mod ImportCalls
 pub mod Direct
 pub mod Unproved
