@@ -1,6 +1,6 @@
 -- Between two turns of a run nothing is left to do.
-use Rattle.std.proofs.Common.{◌≡◌, ℕ, ◌+◌, Bool, true, false, List, [], ◌∷◌, Option, Some, None, refl, ap, subst, sym, ◌∙◌}
-use Rattle.std.specs.Prelude.{slice_get, nat_lt}
+use Rattle.std.proofs.Common.{◌≡◌, ◌+◌, Bool, true, List, [], ◌∷◌, Option, Some, None, refl, ap, subst, sym, ◌∙◌}
+use Rattle.std.specs.Prelude.{nat_lt}
 use Rattle.std.specs.Option.{option_or}
 use Rattle.esm_base.specs.declared.limits.Limit.{Limit}
 use Rattle.esm_base.specs.declared.limits.TheConstants.{MAX_DELIVERED_BYTES}
@@ -10,14 +10,12 @@ use Rattle.esm_ast.specs.Deliveries.{Delivery, asks_by}
 use Rattle.esm_ast.specs.Outcome.{OutcomeView}
 use Rattle.esm_import_map.specs.ImportMap.{Maps}
 use Rattle.esm_promise.specs.Promises.{next_job}
-use Rattle.esm_loads.specs.Loading.{Loading, LoadState}
-use Rattle.esm_loads.specs.Arrival.{next, open_asks, bytes_of}
-use Rattle.esm_loads.specs.Whole.{HasEnded}
+use Rattle.esm_loads.specs.Arrival.{open_asks, bytes_of}
 use Rattle.esm_loads.proofs.Whole.{loads_end}
-use Rattle.esm_world.specs.World.{World, opening, stopped, host_of, with_host}
+use Rattle.esm_world.specs.World.{World, opening, stopped, host_of}
 use Rattle.esm_world.specs.Jobs.{Jobs}
 use Rattle.esm_world.specs.Turn.{Tasks, Turn, fetched}
-use Rattle.esm_world.specs.Run.{Runs, asks}
+use Rattle.esm_world.specs.Run.{Runs}
 use Rattle.esm_world.specs.Loaded.{FitsLoading}
 use Rattle.esm_world.specs.RunLaws.{IsIdle, HoldsOfRuns, TurnsLeaveNothing, LoadsHaveEnded}
 use Rattle.esm_world.proofs.ToldWorld.{fetched_same}
