@@ -8,7 +8,10 @@ pub mod Fits
 pub mod FitLaws
 pub mod Plain
 pub mod Loaded
+pub mod Awaits
+pub mod Told
 pub mod Laws
+pub mod RunLaws
 pub mod ImportCalls
 pub mod Direct
 pub mod Unproved
