@@ -1,8 +1,7 @@
 -- The standard run: all turns of a list of deliveries, and what it shows. own, as far as no algorithm is named
-use Rattle.std.specs.Prelude.{◌≡◌, Bool, true, List, [], ◌∷◌, Option, Some, None, is_some, option_map}
+use Rattle.std.specs.Prelude.{◌≡◌, Bool, true, List, [], ◌∷◌, Option, is_some, option_map}
 use Rattle.esm_tree.specs.Syntax.{Item}
 use Rattle.esm_import_map.specs.ImportMap.{Maps}
-use Rattle.esm_base.specs.declared.limits.Limit.{Limit}
 use Rattle.esm_base.specs.declared.status.Status.{Status}
 use Rattle.esm_base.specs.Urls.{Text, Url, has}
 use Rattle.esm_ast.specs.Deliveries.{Delivery, asks_by}
