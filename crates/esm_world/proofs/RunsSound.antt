@@ -14,5 +14,4 @@ module _ (agrees : SharedSetAgrees) (ends : SharedSetEnds) where
     fits = λ maps built entry trace ds w r live. (runs_sound maps built entry trace ds w r live).fit;
     loading = λ maps built entry trace ds w r live. (runs_sound maps built entry trace ds w r live).loading;
     unlinked = λ maps built entry trace ds w r live. (runs_sound maps built entry trace ds w r live).unlinked;
-    awaits = λ maps built entry trace ds w r live. (runs_sound maps built entry trace ds w r live).awaits;
   }

@@ -12,19 +12,17 @@ use Rattle.esm_world.specs.World.{World, opening, stopped}
 use Rattle.esm_world.specs.Run.{asks, Runs}
 use Rattle.esm_world.specs.Fits.{IsFit}
 use Rattle.esm_world.specs.Loaded.{FitsLoading}
-use Rattle.esm_world.specs.Awaits.{AwaitsHaveBodies}
 
 -- this holds of each world of a run that no limit has stopped
 abbrev pub HoldsOfRuns : (World → Type 0) → Type 0
 HoldsOfRuns Holds = (maps : Maps) (built : List Item → Bool) (entry : Url) (trace : Bool) (deliveries : List Delivery) (w : World)
     → Runs (opening maps built entry trace) deliveries w → stopped w ≡ None → Holds w
 
--- such a world fits; loading is orderly and whole; what is linked is or was Unlinked; reactions to an await have their bodies
+-- such a world fits; loading is orderly and whole; what is linked is or was Unlinked
 pub record RunsFit : Type 0 where
   pub fits : HoldsOfRuns IsFit
   pub loading : HoldsOfRuns (λ w. FitsLoading w.loading)
   pub unlinked : HoldsOfRuns (λ w. (u : Url) → has w.linked u ≡ true → w.loading.unlinked u ≡ true)
-  pub awaits : HoldsOfRuns AwaitsHaveBodies
 
 -- no job is left, and no pending request of a fetched URL
 pub record IsIdle (w : World) : Type 0 where
