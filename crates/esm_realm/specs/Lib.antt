@@ -4,3 +4,5 @@ pub mod Records
 pub mod Laws
 pub mod Sound
 pub mod Components
+pub mod ById
+pub mod Places
