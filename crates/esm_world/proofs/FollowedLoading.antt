@@ -1,13 +1,12 @@
 -- What follows of each import() goes on where loading does.
-use Rattle.std.proofs.Common.{◌≡◌, ◌⊎◌, inl, inr, ℕ, zero, suc, ◌+◌, ◌<◌, Bool, true, false, List, [], ◌∷◌, ◌++◌, length, Option, Some, None, Contains, refl, ap, subst, sym, ◌∙◌, arith}
+use Rattle.std.proofs.Common.{◌≡◌, ◌⊎◌, inl, inr, ℕ, ◌<◌, true, false, List, [], ◌∷◌, length, Option, Some, None, refl, ap, subst, sym, ◌∙◌}
 use Rattle.std.specs.Prelude.{slice_get, slice_set, nat_lt}
 use Rattle.esm_base.specs.declared.limits.TheConstants.{MAX_URLS}
 use Rattle.esm_base.specs.Urls.{Text, Url, has}
-use Rattle.esm_values.specs.Value.{Value}
-use Rattle.esm_promise.specs.Promises.{Settled, Pending, make, settle, next_promise}
-use Rattle.esm_promise.specs.Reactions.{Reaction, Loaded, Evaluated}
+use Rattle.esm_promise.specs.Promises.{Pending, next_promise}
+use Rattle.esm_promise.specs.Reactions.{Loaded, Evaluated}
 use Rattle.esm_loads.specs.UrlTable.{TableEntry, Throw, New, Kept, thrown_by}
-use Rattle.esm_loads.specs.Loading.{Loading, LoadState, Asked, Open, LoadComplete, Thrown, PendingRequest, Root, Request, Purpose, ForEntry, ForImport, OpenLoad, open_load, load_of, import_promise_in}
+use Rattle.esm_loads.specs.Loading.{Loading, LoadState, Asked, Open, LoadComplete, Thrown, PendingRequest, Root, Request, Purpose, ForEntry, ForImport, OpenLoad, import_promise_in}
 use Rattle.esm_loads.specs.Load.{Answers}
 use Rattle.esm_loads.specs.Load.Answers.{no_root, no_module, root, request}
 use Rattle.esm_loads.specs.Host.{Host, Answered, begin_load, begin_by, own_load, settle_load, settle_by, with_loading, promise_of}
@@ -24,8 +23,8 @@ use Rattle.esm_loads.proofs.Requests.{contains_here, set_other, equal_cases}
 use Rattle.esm_loads.proofs.Owed.{Ends, answers_ends, root_stage, begun_same, push_own, push_other}
 use Rattle.esm_world.specs.Told.{OfImport, Own, own_promise_in, load_promise, AreToldOf}
 use Rattle.esm_world.specs.Followed.{IsSettled}
-use Rattle.esm_world.proofs.ToldPromises.{Ps, get_end, get_below, some_is}
-use Rattle.esm_world.proofs.ToldLoading.{KeptOf, begin_kept, ends_kept, unchanged, ask_purposes}
+use Rattle.esm_world.proofs.ToldPromises.{Ps, some_is}
+use Rattle.esm_world.proofs.ToldLoading.{begin_kept, ends_kept, unchanged, ask_purposes}
 use Rattle.esm_world.proofs.FollowedPromises.{IsWaiting, Goes, goes_same, push_goes, settle_goes, settled_own}
 
 -- what follows of an import() whose load has a promise of its own

@@ -1,10 +1,10 @@
 -- Reactions that wait and promises that are settled, as promises are made, settled and reacted to.
-use Rattle.std.proofs.Common.{◌≡◌, ◌⊎◌, inl, inr, ℕ, zero, suc, ◌+◌, ◌<◌, true, false, List, [], ◌∷◌, ◌++◌, map, length, Option, Some, None, Contains, refl, ap, subst, sym, ◌∙◌, arith}
+use Rattle.std.proofs.Common.{◌≡◌, ◌⊎◌, inl, inr, ℕ, zero, suc, ◌<◌, true, false, List, [], ◌∷◌, ◌++◌, map, length, Option, Some, None, Contains, refl, ap, subst, sym, ◌∙◌, arith}
 use Rattle.std.specs.Prelude.{slice_get, slice_set, is_some}
 use Rattle.esm_base.specs.Urls.{Url}
 use Rattle.esm_values.specs.Value.{Value, Undefined, Truth, Text, Func, Error, Namespace}
 use Rattle.esm_values.specs.Value as value
-use Rattle.esm_promise.specs.Promises.{Promise, Settled, Fulfilled, Pending, Done, Job, job, make, make_fulfilled, settle, settled, settled_by, triggered, register, register_by, next_promise, next_job, first_job}
+use Rattle.esm_promise.specs.Promises.{Promise, Settled, Fulfilled, Pending, Done, Job, job, make_fulfilled, settle, settled_by, triggered, register, register_by, next_promise, next_job, first_job}
 use Rattle.esm_promise.specs.Reactions.{Reaction, Await}
 use Rattle.esm_loads.proofs.Requests.{contains_here, contains_there, contains_cases, contains_more, contains_last, contains_none, set_other, equal_cases}
 use Rattle.esm_loads.proofs.Limits.{get_set}

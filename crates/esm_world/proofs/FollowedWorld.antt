@@ -1,5 +1,5 @@
 -- No import() is forgotten: what follows of each goes on in each step of a world.
-use Rattle.std.proofs.Common.{◌≡◌, ◌⊎◌, inl, inr, ℕ, zero, suc, ◌+◌, ◌<◌, Bool, true, false, List, [], ◌∷◌, ◌++◌, length, Option, Some, None, Contains, refl, ap, subst, sym, ◌∙◌, arith}
+use Rattle.std.proofs.Common.{◌≡◌, ◌⊎◌, inl, inr, ℕ, zero, suc, ◌+◌, Bool, true, false, List, [], ◌∷◌, Option, Some, None, Contains, refl, ap, subst, sym, ◌∙◌}
 use Rattle.std.specs.Prelude.{slice_get, Result, Ok, Err, nat_lt, is_some}
 use Rattle.std.specs.List.{AllByRecursion}
 use Rattle.std.specs.Option.{option_or}
@@ -11,37 +11,35 @@ use Rattle.esm_base.specs.Urls.{Url, has, same_url}
 use Rattle.esm_ast.specs.Deliveries.{Delivery, asks_by}
 use Rattle.esm_ast.specs.Outcome.{OutcomeView}
 use Rattle.esm_import_map.specs.ImportMap.{Maps}
-use Rattle.esm_values.specs.Value.{Value, Undefined, Namespace}
-use Rattle.esm_values.specs.Errors.{Errors}
+use Rattle.esm_values.specs.Value.{Value, Undefined}
 use Rattle.esm_promise.specs.Promises.{Settled, Fulfilled, Rejected, Pending, Job, make, settle, settled, settled_by, register, next_promise, next_job, first_job}
 use Rattle.esm_promise.specs.Reactions.{Reaction, Await, BodyEnd, Loaded, Evaluated, EntryLoaded, EntryDone}
 use Rattle.esm_loads.specs.Loading.{Loading, LoadState, Asked, Purpose, ForEntry, ForImport, import_promise, import_promise_in}
 use Rattle.esm_loads.specs.Host.{Host, opening_host}
-use Rattle.esm_loads.specs.Arrival.{AnswersNext, bytes_of, open_asks}
+use Rattle.esm_loads.specs.Arrival.{bytes_of, open_asks}
 use Rattle.esm_loads.specs.ImportCall.{BeginsImport, add_load, counted}
 use Rattle.esm_loads.specs.Whole.{HasEnded}
 use Rattle.esm_loads.proofs.Requests.{contains_none, contains_cases, equal_cases}
 use Rattle.esm_eval.specs.Nodes.{Call, CallAnswer}
-use Rattle.esm_body.specs.State.{State, Standing}
-use Rattle.esm_body.specs.Bodies.{await_on}
-use Rattle.esm_world.specs.World.{World, opening, stopped, host_of, with_host, state_of, with_state, modules_in}
-use Rattle.esm_world.specs.Layers.{Executes, evaluation, with_linked, with_promises}
+use Rattle.esm_body.specs.State.{Standing}
+use Rattle.esm_world.specs.World.{World, opening, stopped, host_of, modules_in}
+use Rattle.esm_world.specs.Layers.{Executes, evaluation, with_linked}
 use Rattle.esm_world.specs.Jobs.{EvaluatesLoad, Reacts, Jobs, when_evaluated}
 use Rattle.esm_world.specs.Jobs.Reacts.{entry_linked, entry_fault, entry_refused, entry_ended, entry_threw, linked, fault, refused, evaluated, threw, body_ended, body_threw, resumes}
 use Rattle.esm_world.specs.Turn.{Tasks, Turn, fetched}
-use Rattle.esm_world.specs.Run.{IsAllowed, Runs}
-use Rattle.esm_world.specs.Told.{OfImport, Own, own_promise_in, load_promise, HasLoaded, MayStandOn, AreToldOf, IsHostTold, AreTold}
+use Rattle.esm_world.specs.Run.{Runs}
+use Rattle.esm_world.specs.Told.{OfImport, Own, own_promise_in, load_promise, MayStandOn, AreToldOf, IsHostTold, AreTold}
 use Rattle.esm_world.specs.Followed.{IsSettled, HasGoneOn, ImportsGoOn}
-use Rattle.esm_world.proofs.OuterKeeps.{LastsOuter, Around, around, EndsSo, KeepsAround, CallEnds, with_errors, makes, settles, starts_around, runs_around, resumes_around}
-use Rattle.esm_world.proofs.EvalHolds.{FreeCall, Holding, evaluates_holds, evaluates_free, fulfills_holds, rejects_holds}
+use Rattle.esm_world.proofs.OuterKeeps.{LastsOuter, Around, around, EndsSo, KeepsAround, CallEnds, makes, starts_around, runs_around, resumes_around}
+use Rattle.esm_world.proofs.EvalHolds.{Holding, evaluates_holds, evaluates_free, fulfills_holds, rejects_holds}
 use Rattle.esm_world.proofs.StartsOnce.{IsStopped, stops_call, none_stopped}
 use Rattle.esm_world.proofs.EvalStops.{evaluates_stop}
 use Rattle.esm_world.proofs.ToldPromises.{Ps, some_is}
 use Rattle.esm_world.proofs.ToldLoading.{KeptBut, added_kept, next_free}
-use Rattle.esm_world.proofs.ToldHost.{KeptHost, host_on, KeepsTold, lasts_told, host_makes}
+use Rattle.esm_world.proofs.ToldHost.{KeptHost, host_on, lasts_told, host_makes}
 use Rattle.esm_world.proofs.ToldWorld.{FreeIn, KeptWorld, holding, taken_told, linked_told, job_kept, answers, fetches, opens, fetched_same}
-use Rattle.esm_world.proofs.FollowedPromises.{IsWaiting, Goes, goes_same, goes_on, push_goes, settle_goes, settled_own, register_goes, registered_waits, await_goes, taken_waits, taken_settled}
-use Rattle.esm_world.proofs.FollowedLoading.{IsFollowed, AreFollowed, F, goes_followed, same_followed, next_followed, imports_followed}
+use Rattle.esm_world.proofs.FollowedPromises.{IsWaiting, goes_on, push_goes, settle_goes, settled_own, register_goes, registered_waits, await_goes, taken_waits, taken_settled}
+use Rattle.esm_world.proofs.FollowedLoading.{IsFollowed, F, goes_followed, same_followed, next_followed, imports_followed}
 use Rattle.esm_world.proofs.RunsIdle.{turns_leave_nothing}
 
 module _ (out : Option ℕ) where
