@@ -3,4 +3,4 @@ mod AllSound
 mod Search
 mod SharedSet
 mod NameLists
-mod Renumbered
+pub mod Renumbered

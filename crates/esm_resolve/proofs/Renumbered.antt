@@ -202,7 +202,7 @@ module _ (g h : Graph) (number : ℕ → ℕ) (m : ℕ) (k : Renumbers g h numbe
         by None is e = let i = indirect_home (g.target p.home.0) (g.entries p.home.0).indirects p.name y b e in subst (IsReached g m) (sym i.2) (IsReached.by_name r i.1)
         by (Some x) is e = subst (IsReached g m) (sym (local_home p.home.0 (g.entries p.home.0).locals p.name y b (is ∙ e))) r
 
-    end_home : (e : End) → LeadsTo g from e → Reached e.0.0
+    pub end_home : (e : End) → LeadsTo g from e → Reached e.0.0
     end_home e l = by (export_of g l.0) refl l.2
       where
         by : (o : Option Export) → export_of g l.0 ≡ o → end_by o ≡ Some e → Reached e.0.0
