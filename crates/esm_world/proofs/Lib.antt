@@ -13,6 +13,7 @@ pub mod BodyStops
 pub mod EvalStops
 pub mod StartsOnce
 pub mod runs
+pub mod Each
 pub mod FitLists
 pub mod FitBodies
 pub mod FitEvaluation

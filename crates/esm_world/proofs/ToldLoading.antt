@@ -21,7 +21,8 @@ use Rattle.esm_loads.proofs.Orderly.{without_orderly}
 use Rattle.esm_loads.proofs.Requests.{set_other, length_set, equal_cases}
 use Rattle.esm_loads.proofs.Owed.{Ends, answers_ends, root_stage, begun_same, push_own, push_other}
 use Rattle.esm_world.specs.Told.{Whose, OfImport, Own, own_promise_in, load_promise, IsFree, HasSettled, MayStandOn, AreToldOf}
-use Rattle.esm_world.proofs.ToldPromises.{Ps, Continues, continues_same, continues_on, stands_on, all_on, some_is, below_not, get_end, length_push, set_end, set_told, make_told, settle_told}
+use Rattle.esm_world.proofs.Each.{all_on}
+use Rattle.esm_world.proofs.ToldPromises.{Ps, Continues, continues_same, continues_on, stands_on, some_is, below_not, get_end, length_push, set_end, set_told, make_told, settle_told}
 
 -- what is told is told still, what was free is free, and what has ended has ended so
 pub record KeptOf (l : Loading) (ps : Ps) (m : Loading) (qs : Ps) : Type 0 where

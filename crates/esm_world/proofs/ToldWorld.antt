@@ -34,7 +34,8 @@ use Rattle.esm_world.specs.Told.{Whose, OfImport, Own, load_promise, IsFree, Has
 use Rattle.esm_world.proofs.OuterKeeps.{Around, around, EndsSo, KeepsAround, CallEnds, settles, starts_around, runs_around, resumes_around}
 use Rattle.esm_world.proofs.LoadedFits.{in_filter}
 use Rattle.esm_world.proofs.EvalHolds.{FreeCall, Holding, evaluates_holds, fulfills_holds, rejects_holds}
-use Rattle.esm_world.proofs.ToldPromises.{Ps, Continues, continues_same, continues_on, pushed, all_on, loaded_on, root_on, make_told, take_told, is_told}
+use Rattle.esm_world.proofs.Each.{pushed, all_on}
+use Rattle.esm_world.proofs.ToldPromises.{Ps, Continues, continues_same, continues_on, loaded_on, root_on, make_told, take_told, is_told}
 use Rattle.esm_world.proofs.ToldLoading.{KeptOf, made_free, next_free, make_kept, unchanged}
 use Rattle.esm_world.proofs.ToldHost.{Row, KeptHost, host_on, host_await, same_rows, host_errors, host_make, host_settle, host_settle_free, host_register, import_not_owed, host_next, KeepsTold, lasts_told}
 
