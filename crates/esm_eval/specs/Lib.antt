@@ -8,3 +8,5 @@ pub mod SmallWorld
 pub mod Examples
 pub mod Begins
 pub mod Keeping
+pub mod Calls
+pub mod Inner
