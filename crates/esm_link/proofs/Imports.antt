@@ -1,6 +1,6 @@
 -- The imports of a module, one after the other.
 use Rattle.std.proofs.Common.{◌≡◌, ℕ, ◌+◌, ◌<◌, ◌≤◌, Bool, true, false, cond, List, [], ◌∷◌, ◌++◌, length, drop, Option, Some, None, refl, ap, subst, sym, ◌∙◌, arith, append_assoc}
-use Rattle.std.specs.Prelude.{slice_get, All}
+use Rattle.std.specs.Prelude.{slice_get, All, Result, Ok, Err, MatchResult}
 use Rattle.std.specs.Option.{option_map}
 use Rattle.std.specs.Str.{bytes_eq}
 use Rattle.std.proofs.Math.ListN.{drop_of_length-le}
@@ -21,9 +21,9 @@ use Rattle.esm_env.specs.Bindings.{Binds, target_of}
 use Rattle.esm_env.specs.Faithful.{target_in}
 use Rattle.esm_env.specs.Scopes.{import_by, import_in}
 use Rattle.esm_env.specs.declared.scope.Target.{Target}
-use Rattle.esm_link.specs.Faults.{FaultAt, ExportFault, ImportFault, export_fault, import_fault}
+use Rattle.esm_link.specs.Faults.{FaultAt, ExportFault, ImportFault, FirstFault, export_fault, import_fault}
 use Rattle.esm_link.specs.Realm.{fault_of}
-use Rattle.esm_link.specs.Inner.Imports.{IsBoundName, IsUnboundName, IsBoundEntry, IsUnboundEntry, BindEach}
+use Rattle.esm_link.specs.Inner.Imports.{IsBoundName, IsUnboundName, IsNameBoundTo, IsBoundEntry, IsUnboundEntry, IsBoundTo, BindEach, AreBoundImports, HasImportFault, IsBound, HasFault}
 use Rattle.esm_link.specs.declared.LinkFault.{LinkFault}
 use Rattle.esm_link.proofs.Marking.{drop_at}
 
@@ -53,6 +53,22 @@ module _ (g : Modules ℕ) (x : ℕ) where
 
   pub import_none : (es : List ImportEntry) (i : ℕ) → length es ≤ i → ImportFault g x (drop i es) None
   import_none es i le = subst (λ es. ImportFault g x es None) (sym (drop_of_length-le es le)) ImportFault.none
+
+  pub entry_bound : (e : ImportEntry) (name : List ℕ) (t : ℕ) (r : Result Target (End LinkFault)) → e.wanted ≡ wanted.Named name → t ≡ g.target x e.request → IsNameBoundTo g x t name r → IsBoundTo g x e r
+  entry_bound e name t (Ok to) w is h = IsBoundEntry.named name w (subst (λ t. IsBoundName g x t name to) is h)
+  entry_bound e name t (Err (Fault f)) w is h = record { name = name; wants = w; unbound = subst (λ t. IsUnboundName g x t name f) is h }
+  entry_bound e name t (Err Memory) w is h = tt
+
+  pub entry_unbound : (es : List ImportEntry) (i : ℕ) (e : ImportEntry) (end : End LinkFault) → slice_get es i ≡ Some e → ((f : Option (FaultAt ℕ)) → ImportFault g x (drop i es) f → ImportFault g x es f) → IsBoundTo g x e (Err end) → HasImportFault g x es end
+  entry_unbound es i e (Fault f) at on u = on (Some (fault_of f)) (import_found es i e f at u)
+  entry_unbound es i e Memory at on u = tt
+
+  -- all imports, behind the indirect exports
+  pub all_bound : {V : Type 0} (items : V → List (List ℕ × Target)) (es : List ImportEntry) (r : Result V (End LinkFault)) → es ≡ (entries g x).imports → ExportFault g x (entries g x).indirects None
+      → MatchResult r (λ v. AreBoundImports g x es (items v)) (HasImportFault g x es) → MatchResult r (λ v. IsBound g x (items v)) (HasFault g x)
+  all_bound items es (Ok v) own h m = record { fault = FirstFault.of_imports h (subst (λ es. ImportFault g x es None) own m.fault); each = subst (λ es. BindEach g x es (items v)) own m.each }
+  all_bound items es (Err (Fault f)) own h m = FirstFault.of_imports h (subst (λ es. ImportFault g x es (Some (fault_of f))) own m)
+  all_bound items es (Err Memory) own h m = tt
 
   -- ---- each is bound
 

@@ -19,7 +19,7 @@ use Rattle.esm_realm.specs.Walk.{Mark, Visits}
 use Rattle.esm_realm.specs.ById.{status_of, entries_by, entries_at, loaded_by, loaded_at, loaded_id, target_by, target_at, targets_at, is_unlinked, is_linking, without_status}
 use Rattle.esm_realm.proofs.ByIds.{holds_at}
 use Rattle.esm_realm.proofs.NumberWalks.{number_walk}
-use Rattle.esm_realm.proofs.Numbers.{In, in_first, place_of}
+use Rattle.esm_realm.proofs.Numbers.{In, in_first, has_at, place_of}
 use Rattle.esm_realm.proofs.Lists.{either}
 use Rattle.esm_realm.proofs.Urls.{cases}
 use Rattle.esm_env.specs.Modules.{Modules}
@@ -27,6 +27,7 @@ use Rattle.esm_link.specs.Faults.{FaultAt}
 use Rattle.esm_link.specs.Link.{targets, targets_from, LinksMarks, LinksPart, IsLinking, IsCutLinking}
 use Rattle.esm_link.specs.Realm.{modules_of, items_at, items_by, AreTrees, fault_of, AreClosed, relinked, IsRelinked, LinkedAs}
 use Rattle.esm_link.specs.declared.LinkFault.{LinkFault}
+use Rattle.esm_link.specs.Inner.Graph.{IsInside}
 use Rattle.esm_link.specs.Inner.Visit.{IsWhole, status_amid, Amid, Cut, Outcome, Ends, IsCut, Links, outcome_of, Visiting, Walking}
 use Rattle.esm_link.specs.Inner.Visit.Links.{done, cut, enters, passes, fails, stays, component}
 use Rattle.esm_link.proofs.Trees.{past, no_items}
@@ -116,13 +117,28 @@ pub targets_are : (trees : List Parts) (rs : List RecordParts) → IsWhole trees
 targets_are trees rs w x = either (cases (nat_lt x (length rs))) (λ t. near (ltb-true x (length rs) t)) (λ f. far (ltb-false x (length rs) f))
   where
     near : x < length rs → targets (modules_of trees rs) x ≡ targets_at rs x
-    near lt = targets_list (modules_of trees rs) x 0 (loaded_at rs x) (entries_of (items_at trees x)).requests (w.as_many x lt ∙ ap (λ e. length e.requests) (w.trees_are.entries x lt)) (λ k. refl)
+    near lt = targets_list (modules_of trees rs) x 0 (loaded_at rs x) (entries_of (items_at trees x)).requests (w.as_many x lt ∙ ap (λ e. length e.requests) (w.trees_are.entries x lt)) (λ k. let e : 0 + k ≡ k = omega arith in ap (target_at rs x) (sym e))
 
     far : length rs ≤ x → targets (modules_of trees rs) x ≡ targets_at rs x
     far le =
         let no_tree = past trees x (subst (λ n. n ≤ x) (sym w.trees_are.as_many) le) in
         ap (λ o. targets_from (modules_of trees rs) x 0 (entries_of (items_by o)).requests) no_tree
         ∙ ap (λ es. targets_from (modules_of trees rs) x 0 es.requests) no_items ∙ ap (λ o. map loaded_id (loaded_by o)) (sym (past rs x le))
+
+get_map : (ls : List (Option ModuleId)) (i : ℕ) (l : Option ModuleId) → slice_get ls i ≡ Some l → slice_get (map loaded_id ls) i ≡ Some (loaded_id l)
+get_map [] i l e = cc
+get_map (m ∷ ls) zero l e = let same : m ≡ l = cc in ap (λ l. Some (loaded_id l)) same
+get_map (m ∷ ls) (suc i) l e = get_map ls i l e
+
+pub inside_of : (trees : List Parts) (rs : List RecordParts) → IsWhole trees rs → IsInside trees rs
+inside_of trees rs w = record { target = inside; trees_are = w.trees_are }
+  where
+    inside : (x i : ℕ) → x < length rs → target_at rs x i < length rs
+    inside x i lt = by (slice_get (loaded_at rs x) i) refl
+      where
+        by : (o : Option (Option ModuleId)) → slice_get (loaded_at rs x) i ≡ o → target_by o < length rs
+        by None e = omega (arith, lt)
+        by (Some l) e = w.inside x (loaded_id l) lt (has_at (targets_at rs x) i (loaded_id l) (get_map (loaded_at rs x) i l e))
 
 -- ---- the walk exists
 

@@ -44,7 +44,11 @@ use Rattle.esm_resolve.specs.Graph.{Graph}
 use Rattle.esm_link.proofs.Trees.{past, no_items}
 use Rattle.esm_link.specs.Realm.{items_by}
 use Rattle.esm_link.specs.Inner.Graph.{graph_of, IsInside, namespace_by, namespace_in, namespace_of}
-use Rattle.esm_link.specs.Inner.Imports.{cell_or, end_target}
+use Rattle.esm_resolve.specs.Keys.{is_one}
+use Rattle.esm_env.specs.declared.scope.Target.{Target as CodeTarget}
+use Rattle.esm_link.specs.Faults.{import_kind}
+use Rattle.esm_link.specs.declared.LinkFault.{LinkFault}
+use Rattle.esm_link.specs.Inner.Imports.{cell_or, end_target, IsBoundName, IsUnboundName}
 
 -- ---- members of lists
 
@@ -229,3 +233,23 @@ module _ (trees : List Parts) (rs : List RecordParts) (inside : IsInside trees r
   pub there : (m : ℕ) (name : List ℕ) (x : ModuleId) (b : Binding) → Good m → IsResolutionOf (graph g) (pair_of m name) (resolutions.One x b)
       → target_of g (resolutions.One x b) ≡ target_in (Some (end_target g x b))
   there m name x b k i = end_there x b (leads_good (pair_of m name) (x, b) k i.0).1
+
+  -- ---- an import of a name
+
+  module _ (x t : ℕ) (name text : List ℕ) (r : Resolution) (within : t < length rs) (is : IsResolutionOf (graph_of rs) (pair_of t text) r) (same : text ≡ name) where
+    resolves : Exports g t name r
+    resolves = exports_back t name r (subst (λ n. IsResolutionOf (graph_of rs) (pair_of t n) r) same is)
+
+    pub home_within : (home : ModuleId) (b : Binding) → r ≡ resolutions.One home b → home.0 < length rs
+    home_within home b e = home_good t name home b within (subst (Exports g t name) e resolves)
+
+    pub bound_name : (home : ModuleId) (b : Binding) (to : CodeTarget) → r ≡ resolutions.One home b → to ≡ end_target g home b → IsBoundName g x t name to
+    bound_name home b to e there_is = record {
+      resolution = r;
+      resolves = resolves;
+      one = ap is_one e;
+      there = ap (target_of g) e ∙ there t name home b within (subst (Exports g t name) e resolves) ∙ ap (λ k. target_in (Some k)) (sym there_is);
+    }
+
+    pub unbound_name : (f : LinkFault) → (is_one r ≡ false) × (f.kind ≡ import_kind r) → f.«module».0 ≡ x → f.name ≡ name → f.target.0 ≡ t → IsUnboundName g x t name f
+    unbound_name f k m n a = record { resolution = r; resolves = resolves; none = k.0; fault = λ i. record { kind = k.1 i; module_is = m i; name = n i; target = a i } }

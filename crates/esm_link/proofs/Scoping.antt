@@ -163,7 +163,7 @@ module _ (trees : List Parts) (rs : List RecordParts) where
         other y e n = l.others y n
 
         is_x : {C : Type 0} (y : ℕ) → (IsLinkedScope trees rs y (scope_in E2 y) → C) → ((y ≡ x → ⊥) → C) → C
-        is_x y here there = by (nat_eq y x) refl
+        is_x {C} y here there = by (nat_eq y x) refl
           where
             by : (b : Bool) → nat_eq y x ≡ b → C
             by true e = here (subst (λ z. IsLinkedScope trees rs z (scope_in E2 z)) (sym (eqb-true y x e)) l.made)
@@ -189,8 +189,8 @@ module _ (trees : List Parts) (xs ys : List RecordParts) (same : modules_of tree
   pub left_on : {x : ℕ} {E E' : Scopes} → IsLeft trees xs x E E' → IsLeft trees ys x E E'
   left_on {x} {E} {E'} l = record { fault = subst (λ g. FirstFault g x None) same l.fault; made = scope_on x (scope_in E' x) l.made; others = l.others }
 
-  pub fault_on : {x : ℕ} (end : End LinkFault) → HasFault (modules_of trees xs) x end → HasFault (modules_of trees ys) x end
-  fault_on {x} end h = subst (λ g. HasFault g x end) same h
+  pub fault_on : (x : ℕ) (end : End LinkFault) → HasFault (modules_of trees xs) x end → HasFault (modules_of trees ys) x end
+  fault_on x end h = subst (λ g. HasFault g x end) same h
 
   -- ---- the scopes of linking
 

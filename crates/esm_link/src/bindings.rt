@@ -2,7 +2,7 @@
 ghost use Rattle.std.specs.Prelude.{◌≡◌, ◌<◌, ◌++◌, ◌∷◌, [], length, IfOk, OnOk, MatchResult};
 ghost use Rattle.esm_env.specs.Modules.{entries};
 ghost use Rattle.esm_link.specs.Inner.Graph.{modules_in, AreIndexes, IsWholeGraph};
-ghost use Rattle.esm_link.specs.Inner.Imports.{AreBoundImports, HasFault, HasImportFault, IsBound, IsBoundTo, IsNameBoundTo, end_target};
+ghost use Rattle.esm_link.specs.Inner.Imports.{AreBoundImports, HasFault, HasImportFault, IsBound, IsBoundTo, IsNameBoundTo, cell_or, end_target};
 
 use crate::fault::export_fault;
 use crate::graph::RealmGraph;
@@ -148,10 +148,18 @@ fn end_target(
     match binding {
         Binding::Whole => Ok(Target::Whole(home)),
         Binding::Local(name) => {
-            match indexes.namespaces.find(alloc, graph, home, name.as_str())? {
-                Some(of) => Ok(Target::Whole(of)),
-                None => Ok(Target::Cell(home, name)),
-            }
+            let found = indexes.namespaces.find(alloc, graph, home, name.as_str())?;
+            Ok(cell_or(home, name, found))
         }
+    }
+}
+
+/// The namespace that was found, or else a cell.
+fn cell_or(home: ModuleId, name: Text, found: Option<ModuleId>) -> Target
+    ensures { result ≡ cell_or home name found }
+{
+    match found {
+        Some(of) => Target::Whole(of),
+        None => Target::Cell(home, name),
     }
 }

@@ -127,7 +127,7 @@ pub returns-in-Err-leave-clause-grown : goal.returns-in-Err-leave-clause-grown
 returns-in-Err-leave-clause-grown t c = scoping.grown_of (map arc_value c.args.trees.now) (map without_status (records_of c.args.realm.now)) c.args.x (status_of (records_of c.args.realm.now)) (status_of (records_of c.loop-i.realm)) c.args.opened.now.items c.loop-i.opened.items c.loop-i.invariant.grown
 
 pub returns-in-Err-leave-clause-visits : goal.returns-in-Err-leave-clause-visits
-returns-in-Err-leave-clause-visits t c = steps.leave_ends (map arc_value c.args.trees.now) (map without_status (records_of c.args.realm.now)) (status_of (records_of c.args.realm.now)) (index_of c.args.realm.now) c.args.opened.now.items c.args.x c.requires.within (sym c.status.ensures ∙ c.in-Unlinked.is) (status_of (records_of c.loop-i.realm)) (index_of c.loop-i.realm) c.loop-i.opened.items c.loop-i.i c.loop-i.low c.loop-i.invariant.passing (subst (λ n. n ≤ c.loop-i.i) c.loop-i.invariant.count c.loop-i-test.false) c.in-Err-leave.end (scoping.fault_on (map arc_value c.args.trees.now) (records_of c.loop-i.realm) (map without_status (records_of c.args.realm.now)) (marking.modules_on (records_of c.loop-i.realm) (records_of c.args.realm.now) c.loop-i.invariant.rest (map arc_value c.args.trees.now)) c.in-Err-leave.end c.in-Err-leave.ensures.left.fault)
+returns-in-Err-leave-clause-visits t c = steps.leave_ends (map arc_value c.args.trees.now) (map without_status (records_of c.args.realm.now)) (status_of (records_of c.args.realm.now)) (index_of c.args.realm.now) c.args.opened.now.items c.args.x c.requires.within (sym c.status.ensures ∙ c.in-Unlinked.is) (status_of (records_of c.loop-i.realm)) (index_of c.loop-i.realm) c.loop-i.opened.items c.loop-i.i c.loop-i.low c.loop-i.invariant.passing (subst (λ n. n ≤ c.loop-i.i) c.loop-i.invariant.count c.loop-i-test.false) c.in-Err-leave.end (scoping.fault_on (map arc_value c.args.trees.now) (records_of c.loop-i.realm) (map without_status (records_of c.args.realm.now)) (marking.modules_on (records_of c.loop-i.realm) (records_of c.args.realm.now) c.loop-i.invariant.rest (map arc_value c.args.trees.now)) c.args.x c.in-Err-leave.end c.in-Err-leave.ensures.left.fault)
 
 pub returns-then-low-place-clause-rest : goal.returns-then-low-place-clause-rest
 returns-then-low-place-clause-rest t c = c.loop-i.invariant.rest
