@@ -11,3 +11,4 @@ pub mod Resolved
 pub mod Imports
 pub mod Naming
 pub mod Trees
+pub mod FaithfulScopes

@@ -9,8 +9,6 @@ mod indexes;
 pub mod laws;
 mod namespaces;
 mod statuses;
-#[cfg(test)]
-mod tests;
 mod walk;
 
 use esm_base::{End, ModuleId, Text};

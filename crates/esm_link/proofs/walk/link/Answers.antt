@@ -7,6 +7,7 @@ use Rattle.esm_realm.specs.Sound.{records_of}
 use Rattle.esm_realm.specs.ById.{without_status, status_of, index_of}
 use Rattle.esm_realm.proofs.Numbers.{drop_none}
 use Rattle.esm_env.specs.Calls.{scopes_of}
+use Rattle.esm_link.specs.Realm.{modules_of}
 use Rattle.esm_link.specs.Inner.Visit.{AreInside, Visiting}
 use Rattle.esm_link.proofs.Linking as linking
 use Rattle.esm_link.proofs.Marking as marking
@@ -15,6 +16,9 @@ use Rattle.esm_link.proofs.walk.link.Goals as goal
 
 pub visit-requires-clause-whole : goal.visit-requires-clause-whole
 visit-requires-clause-whole c = (linking.sound_whole (map arc_value c.args.trees.now) (records_of c.args.realm.now) c.requires.sound c.requires.trees)
+
+pub visit-requires-clause-indexes : goal.visit-requires-clause-indexes
+visit-requires-clause-indexes c = c.new-indexes.ensures (modules_of (map arc_value c.args.trees.now) (map without_status (records_of c.args.realm.now)))
 
 pub returns-in-Ok-clause-links : goal.returns-in-Ok-clause-links
 returns-in-Ok-clause-links c closed are = linking.linked_ok (map arc_value c.args.trees.now) (records_of c.args.realm.now) (index_of c.args.realm.now) c.args.root.0 (subst (λ n. c.args.root.0 < n) (sym (marking.length_plain (records_of c.args.realm.now))) c.requires.root) (linking.sound_whole (map arc_value c.args.trees.now) (records_of c.args.realm.now) c.requires.sound c.requires.trees) c.requires.idle closed are (records_of c.visit.new.realm) c.in-Ok.ensures.rest (index_of c.visit.new.realm) c.visit.new.opened.items c.in-Ok._low (subst (λ o. Visiting (map arc_value c.args.trees.now) (map without_status (records_of c.args.realm.now)) (status_of (records_of c.args.realm.now)) (index_of c.args.realm.now) o c.args.root.0 (Ok c.in-Ok._low) (status_of (records_of c.visit.new.realm)) (index_of c.visit.new.realm) c.visit.new.opened.items) c.new-opened.ensures.items c.in-Ok.ensures.visits)
