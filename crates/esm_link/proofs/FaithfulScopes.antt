@@ -1,16 +1,13 @@
 -- A scope that linking has made is faithful to its module.
-use Rattle.std.proofs.Common.{◌≡◌, ℕ, List, Option, Some, refl, ap, subst, sym}
-use Rattle.esm_tree.specs.Syntax.{Parts}
-use Rattle.esm_realm.specs.Sound.{RecordParts}
+use Rattle.std.proofs.Common.{ap, subst, sym}
 use Rattle.esm_resolve.specs.Resolution.{module_id}
 use Rattle.esm_env.specs.Bindings.{Binds}
 use Rattle.esm_env.specs.Declarations.{initial}
-use Rattle.esm_env.specs.Faithful.{IsFaithfulAt, SlotFits, target_in}
+use Rattle.esm_env.specs.Faithful.{SlotFits, target_in}
 use Rattle.esm_env.specs.Scopes.{import_in}
 use Rattle.esm_env.specs.Slots.{slot_in}
-use Rattle.esm_env.specs.declared.scope.ModuleScope.{ModuleScope}
 use Rattle.esm_env.proofs.MadeLemmas.{made_fits}
-use Rattle.esm_link.specs.Realm.{modules_of, items_by, items_at, IsLinkedScope}
+use Rattle.esm_link.specs.Realm.{modules_of, items_by, items_at}
 use Rattle.esm_link.specs.Laws.{LinkedScopesAreFaithful}
 
 pub linked_scopes_are_faithful : LinkedScopesAreFaithful

@@ -1,18 +1,15 @@
 -- The imports of a module, one after the other.
-use Rattle.std.proofs.Common.{◌≡◌, ℕ, ◌+◌, ◌<◌, ◌≤◌, Bool, true, false, cond, List, [], ◌∷◌, ◌++◌, length, drop, Option, Some, None, refl, ap, subst, sym, ◌∙◌, arith, append_assoc}
-use Rattle.std.specs.Prelude.{slice_get, All, Result, Ok, Err, MatchResult}
-use Rattle.std.specs.Option.{option_map}
+use Rattle.std.proofs.Common.{◌≡◌, ℕ, ◌+◌, ◌≤◌, Bool, true, false, cond, List, [], ◌∷◌, ◌++◌, length, drop, Option, Some, None, refl, ap, subst, sym, ◌∙◌, append_assoc}
+use Rattle.std.specs.Prelude.{slice_get, Result, Ok, Err, MatchResult}
 use Rattle.std.specs.Str.{bytes_eq}
 use Rattle.std.proofs.Math.ListN.{drop_of_length-le}
 use Rattle.std.proofs.lemmas.List.{append-nil}
 use Rattle.esm_base.specs.declared.end.End.{End}
 use Rattle.esm_base.specs.declared.end.End.TheVariants.{Fault, Memory}
-use Rattle.esm_tree.specs.Syntax.{Parts}
 use Rattle.esm_tree.specs.declared.node.Wanted.TheVariants as wanted
 use Rattle.esm_ast.specs.declared.entries.ImportEntry.{ImportEntry}
 use Rattle.esm_ast.specs.declared.entries.IndirectExport.{IndirectExport}
 use Rattle.esm_ast.specs.Entries.{import_named}
-use Rattle.esm_realm.specs.Sound.{RecordParts}
 use Rattle.esm_resolve.specs.Keys.{is_one}
 use Rattle.esm_resolve.specs.declared.graph.Resolution.{Resolution}
 use Rattle.esm_env.specs.Modules.{Modules, entries, Exports}
@@ -21,7 +18,7 @@ use Rattle.esm_env.specs.Bindings.{Binds, target_of}
 use Rattle.esm_env.specs.Faithful.{target_in}
 use Rattle.esm_env.specs.Scopes.{import_by, import_in}
 use Rattle.esm_env.specs.declared.scope.Target.{Target}
-use Rattle.esm_link.specs.Faults.{FaultAt, ExportFault, ImportFault, FirstFault, export_fault, import_fault}
+use Rattle.esm_link.specs.Faults.{FaultAt, ExportFault, ImportFault, FirstFault, export_fault}
 use Rattle.esm_link.specs.Realm.{fault_of}
 use Rattle.esm_link.specs.Inner.Imports.{IsBoundName, IsUnboundName, IsNameBoundTo, IsBoundEntry, IsUnboundEntry, IsBoundTo, BindEach, AreBoundImports, HasImportFault, IsBound, HasFault}
 use Rattle.esm_link.specs.declared.LinkFault.{LinkFault}

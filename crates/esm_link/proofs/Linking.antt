@@ -9,14 +9,14 @@ use Rattle.esm_base.specs.declared.limits.TheConstants.{MAX_URLS}
 use Rattle.esm_base.specs.declared.module_id.ModuleId.{ModuleId}
 use Rattle.esm_base.specs.declared.end.End.{End}
 use Rattle.esm_base.specs.declared.end.End.TheVariants.{Fault, Memory}
-use Rattle.esm_tree.specs.Syntax.{Item, Parts}
+use Rattle.esm_tree.specs.Syntax.{Parts}
 use Rattle.esm_ast.specs.Entries.{entries_of}
 use Rattle.esm_realm.specs.declared.record.ModuleStatus.{ModuleStatus}
 use Rattle.esm_realm.specs.declared.record.ModuleStatus.TheVariants as statuses
 use Rattle.esm_realm.specs.Laws.{AreDistinct}
 use Rattle.esm_realm.specs.Sound.{RecordParts, IsSound, IsSoundRecord, AreLoaded, url_of}
 use Rattle.esm_realm.specs.Walk.{Mark, Visits}
-use Rattle.esm_realm.specs.ById.{status_of, entries_by, entries_at, loaded_by, loaded_at, loaded_id, target_by, target_at, targets_at, is_unlinked, is_linking, without_status}
+use Rattle.esm_realm.specs.ById.{status_of, entries_by, loaded_by, loaded_at, loaded_id, target_by, target_at, targets_at, is_unlinked, is_linking, without_status}
 use Rattle.esm_realm.proofs.ByIds.{holds_at}
 use Rattle.esm_realm.proofs.NumberWalks.{number_walk}
 use Rattle.esm_realm.proofs.Numbers.{In, in_first, has_at, place_of}
@@ -28,10 +28,10 @@ use Rattle.esm_link.specs.Link.{targets, targets_from, LinksMarks, LinksPart, Is
 use Rattle.esm_link.specs.Realm.{modules_of, items_at, items_by, AreTrees, fault_of, AreClosed, relinked, IsRelinked, LinkedAs}
 use Rattle.esm_link.specs.declared.LinkFault.{LinkFault}
 use Rattle.esm_link.specs.Inner.Graph.{IsInside}
-use Rattle.esm_link.specs.Inner.Visit.{IsWhole, status_amid, Amid, Cut, Outcome, Ends, IsCut, Links, outcome_of, Visiting, Walking}
+use Rattle.esm_link.specs.Inner.Visit.{IsWhole, status_amid, Amid, Cut, Outcome, Ends, IsCut, Links, Visiting, Walking}
 use Rattle.esm_link.specs.Inner.Visit.Links.{done, cut, enters, passes, fails, stays, component}
 use Rattle.esm_link.proofs.Trees.{past, no_items}
-use Rattle.esm_link.proofs.Marking.{length_plain, plain_targets, plain_modules, same_length, trees_plain}
+use Rattle.esm_link.proofs.Marking.{length_plain, plain_modules, same_length, trees_plain}
 
 -- ---- sound realms
 

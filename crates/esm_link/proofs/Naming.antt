@@ -1,5 +1,5 @@
 -- The namespaces of a module by local name.
-use Rattle.std.proofs.Common.{◌≡◌, ℕ, ◌+◌, ◌≤◌, Bool, true, false, cond, List, [], ◌∷◌, length, drop, Option, Some, None, refl, ap, subst, sym, ◌∙◌}
+use Rattle.std.proofs.Common.{◌≡◌, ℕ, ◌+◌, ◌≤◌, Bool, true, false, cond, List, length, drop, Option, Some, None, refl, ap, subst, sym, ◌∙◌}
 use Rattle.std.specs.Prelude.{slice_get}
 use Rattle.std.specs.Option.{option_or}
 use Rattle.std.specs.Str.{bytes_eq}
@@ -10,7 +10,6 @@ use mathlib.Core.Bool.{true≢false}
 use Rattle.esm_base.specs.TextMap.{TextMapView, at, with, with_new}
 use Rattle.esm_base.proofs.TextMaps.{at-with_own, at-with_other, with_new-there, with_new-fresh}
 use Rattle.esm_base.specs.declared.module_id.ModuleId.{ModuleId}
-use Rattle.esm_tree.specs.declared.node.Wanted.{Wanted}
 use Rattle.esm_tree.specs.declared.node.Wanted.TheVariants as wanted
 use Rattle.esm_ast.specs.declared.entries.ImportEntry.{ImportEntry}
 use Rattle.esm_resolve.specs.Resolution.{module_id}

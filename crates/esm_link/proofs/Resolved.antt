@@ -1,10 +1,10 @@
 -- What the modules of a realm export is resolved to a module of the realm, and a name of it is bound there.
-use Rattle.std.proofs.Common.{◌≡◌, ℕ, zero, suc, ◌<◌, ◌≤◌, Bool, true, false, cond, List, [], ◌∷◌, map, Option, Some, None, All, ap, subst, sym, ◌∙◌, refl, arith, length}
+use Rattle.std.proofs.Common.{◌≡◌, ℕ, ◌<◌, ◌≤◌, Bool, true, false, cond, List, [], ◌∷◌, map, Option, Some, None, All, ap, subst, sym, ◌∙◌, refl, arith, length}
 use Rattle.std.specs.Prelude.{⊤, codes, Contains, slice_get}
 use Rattle.std.specs.Option.{option_or}
 use Rattle.std.specs.Str.{bytes_eq}
 use Rattle.std.specs.List.{AllByRecursion}
-use Rattle.std.proofs.lemmas.List.Elements.{All-contains, All-cons, All-nil, All-map, All-weaker, recursion_from_All}
+use Rattle.std.proofs.lemmas.List.Elements.{All-contains, All-cons, All-nil, All-map, recursion_from_All}
 use Rattle.esm_tree.specs.Syntax.{Parts}
 use Rattle.esm_tree.specs.declared.node.Wanted.{Wanted}
 use Rattle.esm_tree.specs.declared.node.Wanted.TheVariants as wanted
@@ -29,8 +29,8 @@ use Rattle.esm_env.specs.Modules.{Modules, graph, entries, Exports}
 use Rattle.esm_resolve.specs.Index.{IsIndexOf}
 use Rattle.esm_resolve.specs.declared.index.ExportIndex.{ExportIndex}
 use Rattle.esm_resolve.specs.declared.graph.Resolution.{Resolution}
-use Rattle.esm_env.specs.Bindings.{Target, CellOf, WholeOf, own_by, whole_by, whole_only, target_of}
-use Rattle.esm_env.specs.Declarations.{Initial, initial}
+use Rattle.esm_env.specs.Bindings.{own_by, whole_by, whole_only, target_of}
+use Rattle.esm_env.specs.Declarations.{initial}
 use Rattle.esm_env.specs.Faithful.{target_in}
 use Rattle.esm_link.specs.Realm.{modules_of, items_at, IsOwnBinding, BindsOwnExports}
 use Rattle.esm_link.specs.Realm.IsOwnBinding.{declared, namespace}

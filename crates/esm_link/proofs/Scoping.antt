@@ -1,6 +1,6 @@
 -- Scopes amid a walk of linking.
 use Rattle.std.proofs.Common.{◌≡◌, ℕ, Bool, true, false, cond, List, [], ◌∷◌, ◌++◌, refl, ap, subst, sym, ◌∙◌, nat_eq, eqb-true, eq-eqb, inl, inr, append_assoc, length, drop, take}
-use Rattle.std.specs.Prelude.{◌⊎◌, ◌||◌}
+use Rattle.std.specs.Prelude.{◌⊎◌}
 use Rattle.std.proofs.lemmas.List.{append-nil}
 use mathlib.Core.Bool.{true≢false}
 use Rattle.esm_base.specs.Lists.{is_in}
@@ -23,7 +23,7 @@ use Rattle.esm_link.specs.Realm.{modules_of, IsLinkedScope, MakesScopes}
 use Rattle.esm_link.specs.Inner.Imports.{HasFault}
 use Rattle.esm_link.specs.declared.LinkFault.{LinkFault}
 use Rattle.esm_link.specs.Inner.Leave.{IsLeft}
-use Rattle.esm_link.specs.Inner.Visit.{with_open, IsAdded, Grown, GrownFrom, Scoped}
+use Rattle.esm_link.specs.Inner.Visit.{with_open, Grown, GrownFrom, Scoped}
 
 both : {C : Type 0} {b : Bool} → b ≡ true → b ≡ false → C
 both t f = absurd (true≢false (sym t ∙ f))

@@ -1,5 +1,5 @@
 -- The steps of a visit amid a walk of linking.
-use Rattle.std.proofs.Common.{◌≡◌, ℕ, suc, ◌+◌, ◌<◌, ◌≤◌, Bool, true, false, not, cond, List, [], ◌∷◌, ◌++◌, length, drop, take, Option, Some, None, Ok, Err, refl, ap, subst, sym, ◌∙◌, arith, nat_eq, eqb-true, append_assoc, nat_lt, ltb-true, ltb-false}
+use Rattle.std.proofs.Common.{◌≡◌, ℕ, suc, ◌+◌, ◌<◌, ◌≤◌, Bool, true, false, not, cond, List, [], ◌∷◌, ◌++◌, length, drop, take, Some, None, Ok, Err, refl, ap, subst, sym, ◌∙◌, arith, nat_eq, eqb-true, append_assoc, nat_lt, ltb-true, ltb-false}
 use Rattle.std.specs.Prelude.{◌||◌, slice_get}
 use Rattle.std.proofs.lemmas.List.{append-nil}
 use Rattle.std.proofs.lemmas.Option.{slice_get_within}

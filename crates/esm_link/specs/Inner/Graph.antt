@@ -1,5 +1,5 @@
 -- The records of a realm as a graph, and the indexes over it.
-use Rattle.std.specs.Prelude.{◌≡◌, ◌<◌, ℕ, Bool, true, false, if◌then◌else◌, nat_eq, List, [], ◌∷◌, map, length, Option, Some, None}
+use Rattle.std.specs.Prelude.{◌≡◌, ◌<◌, ℕ, Bool, if◌then◌else◌, nat_eq, List, [], ◌∷◌, map, length, Option, Some, None}
 use Rattle.std.specs.Arc.{arc_value}
 use Rattle.std.specs.HashMap as maps
 use Rattle.std.specs.Str.{bytes_eq}

@@ -1,5 +1,5 @@
 -- What the imports of a module are bound to, one after the other.
-use Rattle.std.specs.Prelude.{◌≡◌, ℕ, true, false, List, [], ◌∷◌, ◌++◌, Option, Some, None, Result, Ok, Err}
+use Rattle.std.specs.Prelude.{◌≡◌, ℕ, true, false, List, [], ◌∷◌, Option, Some, None, Result, Ok, Err}
 use Rattle.esm_base.specs.declared.end.End.{End}
 use Rattle.esm_base.specs.declared.end.End.TheVariants.{Fault, Memory}
 use Rattle.esm_base.specs.declared.module_id.ModuleId.{ModuleId}
@@ -14,7 +14,7 @@ use Rattle.esm_env.specs.Bindings.{target_of}
 use Rattle.esm_env.specs.Faithful.{target_in}
 use Rattle.esm_env.specs.declared.scope.Target.{Target}
 use Rattle.esm_env.specs.declared.scope.Target.TheVariants as targets
-use Rattle.esm_link.specs.Faults.{FaultAt, FirstFault, ImportFault, import_kind, import_fault}
+use Rattle.esm_link.specs.Faults.{FirstFault, ImportFault, import_kind}
 use Rattle.esm_link.specs.Realm.{fault_of}
 use Rattle.esm_link.specs.Inner.Graph.{namespace_of}
 use Rattle.esm_link.specs.declared.LinkFault.{LinkFault}

@@ -1,5 +1,5 @@
 -- What the leave of a module does.
-use Rattle.std.specs.Prelude.{◌≡◌, ℕ, List, Option, Some, None}
+use Rattle.std.specs.Prelude.{◌≡◌, ℕ, List, None}
 use Rattle.esm_base.specs.declared.end.End.{End}
 use Rattle.esm_tree.specs.Syntax.{Parts}
 use Rattle.esm_realm.specs.Sound.{RecordParts}

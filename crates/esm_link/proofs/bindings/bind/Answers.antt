@@ -1,12 +1,10 @@
 -- The indirect exports, and then the imports.
-use Rattle.std.proofs.Common.{◌≡◌, ◌<◌, ◌≤◌, Some, None, Ok, Err, true, false, refl, ap, sym, subst, ◌∙◌, map, length, slice_get}
+use Rattle.std.proofs.Common.{Some, None, ap, sym, subst, ◌∙◌, map}
 use Rattle.std.specs.Arc.{arc_value}
 use Rattle.esm_realm.specs.Sound.{records_of}
 use Rattle.esm_link.specs.Inner.Graph.{modules_in}
 use Rattle.esm_link.proofs.Imports as imports
 use Rattle.esm_link.proofs.Resolved as resolved
-use Rattle.std.specs.Option.{option_map}
-use Rattle.esm_env.specs.Modules.{entries}
 use Rattle.esm_link.specs.Faults.{ExportFault, FirstFault}
 use Rattle.esm_link.specs.Realm.{fault_of}
 use Rattle.esm_link.proofs.bindings.bind.Goals as goal

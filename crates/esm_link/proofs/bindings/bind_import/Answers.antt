@@ -1,8 +1,7 @@
 -- A whole namespace, or a name.
-use Rattle.std.proofs.Common.{◌≡◌, ◌<◌, ◌≤◌, Some, None, Ok, Err, true, false, refl, ap, sym, subst, ◌∙◌, map, length, slice_get}
+use Rattle.std.proofs.Common.{◌<◌, Some, ap, sym, subst, map, length}
 use Rattle.std.specs.Arc.{arc_value}
 use Rattle.esm_realm.specs.Sound.{records_of}
-use Rattle.esm_realm.proofs.ByIds.{at_index}
 use Rattle.esm_link.specs.Inner.Graph.{modules_in}
 use Rattle.esm_link.proofs.Imports as imports
 use Rattle.esm_link.proofs.Resolved as resolved

@@ -1,10 +1,7 @@
 -- The resolution of the name.
-use Rattle.std.proofs.Common.{◌≡◌, ◌<◌, ◌≤◌, Some, None, Ok, Err, true, false, refl, ap, sym, subst, ◌∙◌, map, length, slice_get}
+use Rattle.std.proofs.Common.{refl, ap, sym, ◌∙◌, map}
 use Rattle.std.specs.Arc.{arc_value}
 use Rattle.esm_realm.specs.Sound.{records_of}
-use Rattle.esm_realm.proofs.ByIds.{at_index}
-use Rattle.esm_link.specs.Inner.Graph.{modules_in}
-use Rattle.esm_link.proofs.Imports as imports
 use Rattle.esm_link.proofs.Resolved as resolved
 use Rattle.esm_resolve.specs.Keys.{is_one}
 use Rattle.esm_link.specs.Faults.{import_kind}

@@ -1,5 +1,5 @@
 -- One export after the other.
-use Rattle.std.proofs.Common.{◌≡◌, ◌<◌, ◌≤◌, Some, None, Ok, Err, true, false, refl, ap, sym, subst, ◌∙◌, map, length, slice_get}
+use Rattle.std.proofs.Common.{sym, subst, ◌∙◌, map}
 use Rattle.std.specs.Arc.{arc_value}
 use Rattle.esm_realm.specs.Sound.{records_of}
 use Rattle.esm_realm.proofs.ByIds.{at_index}

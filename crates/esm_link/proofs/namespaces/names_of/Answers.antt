@@ -1,11 +1,10 @@
-use Rattle.std.proofs.Common.{◌≡◌, ◌<◌, ◌≤◌, Some, None, Ok, Err, true, false, refl, ap, sym, subst, ◌∙◌, map, length, slice_get}
+use Rattle.std.proofs.Common.{ap, sym, ◌∙◌, map}
 use Rattle.std.specs.Arc.{arc_value}
 use Rattle.esm_realm.specs.Sound.{records_of}
 use Rattle.esm_realm.proofs.ByIds.{at_index}
 use Rattle.std.specs.Option.{option_or}
 use Rattle.esm_base.specs.TextMap.{at}
 use Rattle.esm_link.specs.Inner.Graph.{modules_in, namespace_in}
-use Rattle.esm_env.specs.Modules.{entries}
 use Rattle.esm_link.proofs.Naming as naming
 use Rattle.esm_link.proofs.Resolved as resolved
 use Rattle.esm_link.proofs.namespaces.names_of.Goals as goal

@@ -1,4 +1,3 @@
-use Rattle.esm_env.specs.Modules.{entries}
 use Rattle.esm_link.specs.Inner.Graph.{modules_in}
 use Rattle.esm_link.proofs.Naming.{NamesOn}
 use Rattle.esm_link.proofs.namespaces.names_of.Given as goal

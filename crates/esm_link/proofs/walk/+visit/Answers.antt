@@ -1,5 +1,5 @@
 -- The steps of a visit: what it answers early, the loop over its targets, its leave and the closing of its component.
-use Rattle.std.proofs.Common.{◌≡◌, ◌<◌, ◌≤◌, Some, None, Ok, Err, refl, true, false, cond, nat_eq, map, length, drop, slice_get, ap, sym, subst, ◌∙◌, rules, arith}
+use Rattle.std.proofs.Common.{◌≡◌, ◌<◌, ◌≤◌, Some, Ok, Err, refl, true, false, cond, nat_eq, map, length, drop, slice_get, ap, sym, subst, ◌∙◌, rules, arith}
 use Rattle.std.specs.Arc.{arc_value}
 use Rattle.esm_base.specs.Lists.{is_in}
 use Rattle.esm_base.specs.declared.end.End.TheVariants.{Memory}

@@ -1,9 +1,7 @@
 -- The fault of the module, or its scope.
-use Rattle.std.proofs.Common.{◌≡◌, ◌<◌, ◌≤◌, Some, None, Ok, Err, refl, ap, sym, subst, ◌∙◌, map, length, slice_get, arith}
+use Rattle.std.proofs.Common.{◌<◌, refl, sym, subst, map, length}
 use Rattle.std.specs.Arc.{arc_value}
 use Rattle.esm_realm.specs.Sound.{records_of}
-use Rattle.esm_realm.proofs.ByIds.{at_index, holds_at}
-use Rattle.esm_tree.specs.Syntax.{Parts}
 use Rattle.esm_link.specs.Realm.{modules_of}
 use Rattle.esm_link.specs.Inner.Graph.{IsInside, AreIndexes}
 use Rattle.esm_link.specs.Inner.Imports.{HasFault, IsBound}
