@@ -56,11 +56,14 @@ one_is x y h = either (in_cons x [] y h) (λ e. e) (λ k. cc)
 
 pub grown_enter : (x : ℕ) (status status' : ℕ → ModuleStatus) (opened opened' : List ℕ) → status x ≡ statuses.Unlinked
     → ((y : ℕ) → status' y ≡ with_open x status y) → opened' ≡ opened ++ x ∷ [] → GrownFrom x status opened status' opened'
-grown_enter x status status' opened opened' u e o = ([], record {
-  is = o;
-  fresh = λ y h. subst (λ y. is_unlinked (status y) ≡ true) (sym (one_is x y h)) (ap is_unlinked u);
-  open_now = λ y h. subst (λ y. is_unlinked (status' y) ≡ false) (sym (one_is x y h)) (ap is_unlinked (e x ∙ ap (λ b. cond b statuses.Linking (status x)) (own x)));
-})
+grown_enter x status status' opened opened' u e o = (
+  [],
+  record {
+    is = o;
+    fresh = λ y h. subst (λ y. is_unlinked (status y) ≡ true) (sym (one_is x y h)) (ap is_unlinked u);
+    open_now = λ y h. subst (λ y. is_unlinked (status' y) ≡ false) (sym (one_is x y h)) (ap is_unlinked (e x ∙ ap (λ b. cond b statuses.Linking (status x)) (own x)));
+  },
+)
 
 module _ (x : ℕ) (status now : ℕ → ModuleStatus) (opened open_now : List ℕ) (place : ℕ) (placed : place ≡ length opened) (g : GrownFrom x status opened now open_now) where
   dropped_is : drop place open_now ≡ x ∷ g.0
@@ -79,11 +82,14 @@ module _ (trees : List Parts) (rs : List RecordParts) where
   pub grown_more : (x : ℕ) (status now after : ℕ → ModuleStatus) (opened open_now open_after : List ℕ) (E E' E0 : Scopes) {k : Bool}
       → GrownFrom x status opened now open_now → Grown now open_now after open_after
       → Scoped trees rs true (with_open x status) E0 now E → Scoped trees rs k now E after E' → GrownFrom x status opened after open_after
-  grown_more x status now after opened open_now open_after E E' E0 g h a b = (g.0 ++ h.0, record {
-    is = h.1.is ∙ ap (λ o. o ++ h.0) g.1.is ∙ append_assoc opened (x ∷ g.0) h.0;
-    fresh = λ y k. either (in_split (x ∷ g.0) h.0 y k) (g.1.fresh y) (λ q. was y (h.1.fresh y q));
-    open_now = λ y k. either (in_split (x ∷ g.0) h.0 y k) (λ q. b.grows y (g.1.open_now y q)) (h.1.open_now y);
-  })
+  grown_more x status now after opened open_now open_after E E' E0 g h a b = (
+    g.0 ++ h.0,
+    record {
+      is = h.1.is ∙ ap (λ o. o ++ h.0) g.1.is ∙ append_assoc opened (x ∷ g.0) h.0;
+      fresh = λ y k. either (in_split (x ∷ g.0) h.0 y k) (g.1.fresh y) (λ q. was y (h.1.fresh y q));
+      open_now = λ y k. either (in_split (x ∷ g.0) h.0 y k) (λ q. b.grows y (g.1.open_now y q)) (h.1.open_now y);
+    },
+  )
     where
       was : (y : ℕ) → is_unlinked (now y) ≡ true → is_unlinked (status y) ≡ true
       was y u = either (cases (is_unlinked (status y))) (λ t. t) (λ f. both u (a.grows y (open_grows (nat_eq y x) (status y) f)))

@@ -33,8 +33,7 @@ pub fn export_fault(
 {
     for i in 0..exports.len() {
         let entry = &exports[i];
-        let resolution =
-            resolve_with(alloc, graph, &mut indexes.exports, x, entry.name.as_str())?;
+        let resolution = resolve_with(alloc, graph, &mut indexes.exports, x, entry.name.as_str())?;
         if !is_one_binding(&resolution) {
             let kind = export_kind(&resolution);
             let name = Text::copy(alloc, entry.name.as_str())?;

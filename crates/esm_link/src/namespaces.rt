@@ -61,11 +61,7 @@ fn find_name(names: &TextMap<ModuleId>, name: &str) -> Option<ModuleId>
 }
 
 /// The namespaces that a module imports, by local name.
-fn names_of(
-    alloc: Global,
-    graph: &RealmGraph<'_>,
-    m: ModuleId,
-) -> Result<TextMap<ModuleId>, Memory>
+fn names_of(alloc: Global, graph: &RealmGraph<'_>, m: ModuleId) -> Result<TextMap<ModuleId>, Memory>
     requires inside { IsWholeGraph graph.now }
     requires within { m.0 < (modules_in graph.now).size }
     ensures { IfOk result (AreNames (modules_in graph.now) m.0) }

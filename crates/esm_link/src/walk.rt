@@ -162,9 +162,9 @@ fn leave(
         (modules_of (map arc_value trees.now) (records_of realm.now)) indexes.new) }
     ensures left { MatchResult result
         (λ u. IsLeft (map arc_value trees.now) (records_of realm.now) x (scopes_of envs.old)
-            (scopes_of envs.new))
+        (scopes_of envs.new))
         (IsNotLeft (map arc_value trees.now) (records_of realm.now) x (scopes_of envs.old)
-            (scopes_of envs.new)) }
+        (scopes_of envs.new)) }
 {
     let m = ModuleId(x as u32);
     let graph = RealmGraph::new(realm, trees);

@@ -25,6 +25,6 @@ returns-in-One-clause-bound c = resolved.bound_name (map arc_value c.args.graph.
 
 pub returns-clause-bound : goal.returns-clause-bound
 returns-clause-bound c = resolved.unbound_name (map arc_value c.args.graph.now.trees.now) (records_of c.args.graph.now.realm.now) c.requires.inside c.args.x.0 c.args.target.0 c.args.name.now c.as_str.result.now c.in_ok-home.field-0 c.requires.within c.in_ok-home.ensures.resolution c.as_str.ensures.value _ (elim c.match-branch-2.branch [
-    | in-Missing w ↦ (ap is_one w.in-Missing.is, w.kind-is ∙ ap import_kind (sym w.in-Missing.is))
-    | in-Ambiguous w ↦ (ap is_one w.in-Ambiguous.is, w.kind-is ∙ ap import_kind (sym w.in-Ambiguous.is))
-    ]) refl (c.in_ok-name.ensures ∙ c.as_str-2.ensures.value) refl
+  | in-Missing w ↦ (ap is_one w.in-Missing.is, w.kind-is ∙ ap import_kind (sym w.in-Missing.is))
+  | in-Ambiguous w ↦ (ap is_one w.in-Ambiguous.is, w.kind-is ∙ ap import_kind (sym w.in-Ambiguous.is))
+]) refl (c.in_ok-name.ensures ∙ c.as_str-2.ensures.value) refl

@@ -72,7 +72,7 @@ pub target-t-requires-clause-request : goal.target-t-requires-clause-request
 target-t-requires-clause-request t c = subst (λ n. c.loop-i.i < n) (c.loop-i.invariant.count ∙ ap length (sym (marking.targets_on (records_of c.loop-i.realm) (records_of c.args.realm.now) c.loop-i.invariant.rest c.args.x))) c.loop-i-test.true
 
 pub visit-requires : goal.visit-requires
-visit-requires t c = 
+visit-requires t c =
     let rest = c.loop-i.invariant.rest in
     let inside = c.requires.whole.inside c.args.x c.target-t.result c.requires.within (has_at (targets_at (map without_status (records_of c.args.realm.now)) c.args.x) c.loop-i.i c.target-t.result (subst (λ ts. slice_get ts c.loop-i.i ≡ Some c.target-t.result) (marking.targets_on (records_of c.loop-i.realm) (records_of c.args.realm.now) c.loop-i.invariant.rest c.args.x) c.target-t.ensures)) in
     (omega (arith, c.decreases, c.loop-i.invariant.fewer), (marking.whole_on (records_of c.loop-i.realm) (records_of c.args.realm.now) rest (map arc_value c.args.trees.now) c.requires.whole, (subst (λ rs. c.target-t.result < length rs) (sym rest) inside, (marking.inside_on (records_of c.loop-i.realm) (records_of c.args.realm.now) rest c.loop-i.opened.items c.loop-i.invariant.inside, subst (λ rs. AreIndexes (modules_of (map arc_value c.args.trees.now) rs) c.loop-i.indexes) (sym rest) c.loop-i.invariant.indexes))))
@@ -166,7 +166,7 @@ pub returns-clause-indexes : goal.returns-clause-indexes
 returns-clause-indexes t c = subst (λ g. AreIndexes g c.leave.new.indexes) (marking.modules_on (records_of c.loop-i.realm) (records_of c.args.realm.now) c.loop-i.invariant.rest (map arc_value c.args.trees.now)) c.in-Ok-leave.ensures.indexes
 
 pub returns-clause-scopes : goal.returns-clause-scopes
-returns-clause-scopes t c = 
+returns-clause-scopes t c =
     let dropped = scoping.dropped c.args.x (status_of (records_of c.args.realm.now)) (status_of (records_of c.loop-i.realm)) c.args.opened.now.items c.loop-i.opened.items c.len-place.result c.loop-i.invariant.place c.loop-i.invariant.grown in
     scoping.leave_scoped (map arc_value c.args.trees.now) (map without_status (records_of c.args.realm.now)) c.args.x (status_of (records_of c.args.realm.now)) (sym c.status.ensures ∙ c.in-Unlinked.is) (λ y. is_in nat_eq (drop c.len-place.result c.loop-i.opened.items) y) c.loop-i.invariant.scopes (scoping.left_on (map arc_value c.args.trees.now) (records_of c.loop-i.realm) (map without_status (records_of c.args.realm.now)) (marking.modules_on (records_of c.loop-i.realm) (records_of c.args.realm.now) c.loop-i.invariant.rest (map arc_value c.args.trees.now)) c.in-Ok-leave.ensures.left) (λ y. c.mark_from.ensures.statuses y ∙ ap (λ o. cond (is_in nat_eq (drop c.len-place.result o) y) statuses.Linked ((status_of (records_of c.loop-i.realm)) y)) c.as_slice.ensures.value) dropped.0 dropped.1
 
