@@ -1,5 +1,5 @@
 // Laws of the definitions, as functions without effect.
-ghost use Rattle.esm_link.specs.Laws.{ClosesWhole, HasLinking, LinksWhole, OneLinking};
+ghost use Rattle.esm_link.specs.Laws.{ClosesWhole, HasLinking, LinkedScopesAreFaithful, LinksWhole, OneLinking};
 
 /// Linking a module has one outcome: a fault or none, and the modules that are closed then.
 pub fn one_linking<N>()
@@ -19,4 +19,9 @@ pub fn has_linking<N>()
 /// With a fault or without one, what is closed behind linking is closed under requests.
 pub fn closes_whole<N>()
     ensures { ClosesWhole N }
+{}
+
+/// The scope that linking makes of a module reads as the module's names do: it fits its tree, and its imports are bound.
+pub fn linked_scopes_are_faithful()
+    ensures { LinkedScopesAreFaithful }
 {}
