@@ -22,3 +22,4 @@ pub mod Outcomes
 pub mod NamedRests
 pub mod NamedActs
 pub mod NamedMoves
+pub mod NamedBodies
