@@ -3,3 +3,4 @@ pub mod HasLinking
 pub mod LinksWhole
 pub mod WorkedLinks
 pub mod ClosedLinks
+pub mod Named
