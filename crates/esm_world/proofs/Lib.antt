@@ -45,3 +45,6 @@ pub mod LastLines
 pub mod StandsOnce
 pub mod RunsIdle
 pub mod RunsSound
+pub mod FollowedPromises
+pub mod FollowedLoading
+pub mod FollowedWorld
