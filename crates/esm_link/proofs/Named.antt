@@ -1,5 +1,5 @@
 -- Linking modules is linking them by their names.
-use Rattle.std.proofs.Common.{◌≡◌, ℕ, zero, suc, ◌+◌, ◌<◌, Bool, true, false, List, [], ◌∷◌, ◌++◌, map, length, Option, Some, None, All, refl, ap, subst, sym, ◌∙◌, arith}
+use Rattle.std.proofs.Common.{◌≡◌, ℕ, suc, ◌+◌, ◌<◌, Bool, List, [], ◌∷◌, ◌++◌, map, length, Option, Some, None, All, refl, ap, subst, sym, ◌∙◌, arith}
 use Rattle.std.specs.Option.{option_map}
 use Rattle.std.proofs.lemmas.List.{map-append}
 use Rattle.std.proofs.lemmas.List.Elements.{All-head, All-tail}
@@ -8,7 +8,7 @@ use Rattle.esm_ast.specs.Entries.{entries_of}
 use Rattle.esm_ast.specs.declared.entries.ImportEntry.{ImportEntry}
 use Rattle.esm_ast.specs.declared.entries.IndirectExport.{IndirectExport}
 use Rattle.esm_ast.proofs.Requests.{names_requests}
-use Rattle.esm_realm.specs.Walk.{Mark, Enter, Pass, Leave}
+use Rattle.esm_realm.specs.Walk.{Mark}
 use Rattle.esm_realm.specs.Naming as walks
 use Rattle.esm_realm.specs.Naming.{WalkFollows, named_mark}
 use Rattle.esm_realm.proofs.Named.{walks_follow_names}
@@ -22,13 +22,12 @@ use Rattle.esm_resolve.proofs.Renumbered.{follows_numbers}
 use Rattle.esm_values.specs.Naming.{Naming}
 use Rattle.esm_env.specs.Modules.{Modules, entries, graph, Exports}
 use Rattle.esm_env.specs.Naming.{AreNamed}
-use Rattle.esm_link.specs.declared.LinkKind.{LinkKind}
 use Rattle.esm_link.specs.Faults.{FaultAt, export_kind, import_kind, export_fault, import_fault, ExportFault, ImportFault, FirstFault, message, link_error}
 use Rattle.esm_values.specs.Errors.{fault}
 use Rattle.esm_values.specs.declared.errors.FaultKind.TheVariants as kinds
 use Rattle.esm_link.specs.Link.{targets_from, targets, LinksMarks, IsLinking}
 use Rattle.esm_link.specs.Link.LinksMarks.{done, enters, passes, fails, stays, component}
-use Rattle.esm_link.specs.Naming.{named_fault, LinkFollows, LinkingFollowsNames}
+use Rattle.esm_link.specs.Naming.{named_fault, LinkingFollowsNames}
 
 module _ {M N : Type 0} (names : Naming M N) (same : M → M → Bool) (other : N → N → Bool) (g : Modules M) (h : Modules N) (alike : (x y : M) → other (names.name x) (names.name y) ≡ same x y) (k : AreNamed names g h) where
   abbrev nm : M → N
