@@ -12,3 +12,4 @@ pub mod Imports
 pub mod Naming
 pub mod Trees
 pub mod FaithfulScopes
+pub mod Named

@@ -4,3 +4,4 @@ pub mod Realm
 pub mod Laws
 pub mod Examples
 pub mod Inner
+pub mod Naming
