@@ -1,3 +1,4 @@
+pub mod ImportFacts
 pub mod PublicFacts
 pub mod StepFacts
 pub mod NextFacts

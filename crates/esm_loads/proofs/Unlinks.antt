@@ -6,10 +6,10 @@ use Rattle.std.proofs.lemmas.List.Elements.{All-head, All-tail, All-cons}
 use Rattle.esm_tree.specs.Syntax.{Item}
 use Rattle.esm_base.specs.Urls.{Url}
 use Rattle.esm_realm.specs.Laws.{AreDistinct}
-use Rattle.esm_realm.specs.Sound.{RecordParts, IsSound, IsSoundRecord, parts_of, url_of}
+use Rattle.esm_realm.specs.Sound.{RecordParts, IsSound, IsSoundRecord, AreLoaded, parts_of, url_of}
 use Rattle.esm_realm.specs.declared.record.Record.{Record}
 use Rattle.esm_realm.specs.declared.record.ModuleStatus.{ModuleStatus}
-use Rattle.esm_realm.specs.declared.record.ModuleStatus.TheVariants.{New, Unlinked}
+use Rattle.esm_realm.specs.declared.record.ModuleStatus.TheVariants.{New, Unlinked, Linking, Linked}
 use Rattle.esm_import_map.specs.ImportMap.{Maps}
 use Rattle.esm_loads.specs.Loading.{Loading, OpenLoad, open_load, finish, finish_by, has_pending, LoadComplete, is_of as asks_of, load_of}
 use Rattle.esm_loads.specs.LoadsView.{urls_of, url_at, at_url, get_by, entries_in, entry_at, entry_by, module_of, tree_at, modules_in, is_in, is_unlinked, is_past_new, load_state, LoadView, request_of, request_by, requests_in, pending_in}
@@ -56,6 +56,8 @@ stale_unlink (r ∷ R) (suc id) = ap (λ rs. stale r ∷ rs) (stale_unlink R id)
 past : (s : ModuleStatus) → is_past_new (after_load s) ≡ true
 past New = refl
 past Unlinked = refl
+past Linking = refl
+past Linked = refl
 
 zero_apart : (n : ℕ) → nat_eq (suc n) 0 ≡ false
 zero_apart n = grind arith
@@ -122,11 +124,23 @@ from_stale : (R : List RecordParts) → All Fits (map stale R) → All Fits R
 from_stale [] h = h
 from_stale (r ∷ R) h = All-cons Fits r R (All-head Fits (stale r) (map stale R) h) (from_stale R (All-tail Fits (stale r) (map stale R) h))
 
+abbrev HasLoaded : ℕ → RecordParts → Type 0
+HasLoaded n r = AreLoaded n r.entries r.loaded
+
+loaded_to_stale : (n : ℕ) (R : List RecordParts) → All (HasLoaded n) R → All (HasLoaded n) (map stale R)
+loaded_to_stale n [] h = h
+loaded_to_stale n (r ∷ R) h = All-cons (HasLoaded n) (stale r) (map stale R) (All-head (HasLoaded n) r R h) (loaded_to_stale n R (All-tail (HasLoaded n) r R h))
+
+loaded_from_stale : (n : ℕ) (R : List RecordParts) → All (HasLoaded n) (map stale R) → All (HasLoaded n) R
+loaded_from_stale n [] h = h
+loaded_from_stale n (r ∷ R) h = All-cons (HasLoaded n) r R (All-head (HasLoaded n) (stale r) (map stale R) h) (loaded_from_stale n R (All-tail (HasLoaded n) (stale r) (map stale R) h))
+
 pub sound_stale : (first R : List RecordParts) → map stale R ≡ map stale first → IsSound first → IsSound R
 sound_stale first R e h = record {
   few = let f = long_stale first R e in omega (arith, f, h.few);
   differ = subst AreDistinct (sym (urls_stale first) ∙ (ap (map url_of) (sym e) ∙ urls_stale R)) h.differ;
   each = from_stale R (subst (All Fits) (sym e) (to_stale first h.each));
+  loaded = subst (λ n. All (HasLoaded n) R) (sym (long_stale first R e)) (loaded_from_stale (length first) R (subst (All (HasLoaded (length first))) (sym e) (loaded_to_stale (length first) first h.loaded)));
 }
 
 module _ (trees : List (List Item)) where

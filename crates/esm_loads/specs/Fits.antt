@@ -95,4 +95,5 @@ pub record FitRecords (l : Loads) (records : List RecordParts) : Type 0 where
 
 -- the URL isn't fetched
 abbrev pub IsFetching : Loads → Url → Type 0
-IsFetching l u = (k : ℕ) (s : Slot) → place_in (urls_of l.urls.slots) u ≡ Some k → slice_get l.urls.slots k ≡ Some s → is_open s.state ≡ true
+IsFetching l u = (k : ℕ) (s : Slot) → place_in (urls_of l.urls.slots) u ≡ Some k
+    → slice_get l.urls.slots k ≡ Some s → is_open s.state ≡ true

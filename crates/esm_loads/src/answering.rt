@@ -25,8 +25,13 @@ use esm_realm::{ModuleStatus, Realm};
 fn unlink_one(status: &mut ModuleStatus)
     ensures { status.new ≡ after_load status.old }
 {
-    if let ModuleStatus::New = *status {
-        *status = ModuleStatus::Unlinked;
+    match *status {
+        ModuleStatus::New => {
+            *status = ModuleStatus::Unlinked;
+        }
+        ModuleStatus::Unlinked => {}
+        ModuleStatus::Linking => {}
+        ModuleStatus::Linked => {}
     }
 }
 

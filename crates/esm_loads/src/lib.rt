@@ -9,6 +9,7 @@ mod data;
 mod end;
 mod entering;
 pub mod examples;
+mod importing;
 pub mod laws;
 mod load_record;
 mod loads;

@@ -31,8 +31,8 @@ use esm_promise::{Promises, Reaction, ReactionKind};
 use esm_realm::Realm;
 use esm_values::Errors;
 
-// Whether the URL at a place is fetched.
-fn is_fetched(loads: &Loads, place: usize) -> bool
+/// Whether the URL at a place is fetched.
+pub fn is_fetched(loads: &Loads, place: usize) -> bool
     requires { place < length loads.now.urls.slots }
     ensures { (s : Slot) → slice_get loads.now.urls.slots place ≡ Some s
         → result ≡ not (is_open s.state) }

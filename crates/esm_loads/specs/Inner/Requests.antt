@@ -29,4 +29,5 @@ push_at queues k w = slice_set queues k (queue_at queues k ++ w ∷ [])
 -- the first request of the URL is taken, or there is none
 abbrev pub IsPopped : ℕ → QueuesView → QueuesView → Option Waiting → Type 0
 IsPopped k old new None = (queue_at old.queues k ≡ []) × (new ≡ old)
-IsPopped k old new (Some w) = (rest : List Waiting) × (queue_at old.queues k ≡ w ∷ rest) × (new ≡ record old { queues = slice_set old.queues k rest }) × (w.load < old.loads)
+IsPopped k old new (Some w) = (rest : List Waiting) × (queue_at old.queues k ≡ w ∷ rest)
+    × (new ≡ record old { queues = slice_set old.queues k rest }) × (w.load < old.loads)

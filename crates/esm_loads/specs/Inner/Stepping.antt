@@ -28,18 +28,22 @@ pub record Takes (old new : Loads) (w : Waiting) : Type 0 where
   pub rest : List Waiting
   pub queue : slice_get old.queues.queues old.delivered ≡ Some (w ∷ rest)
   pub load : w.load < old.queues.loads
-  pub new_is : new ≡ record old { queues = record old.queues { queues = slice_set old.queues.queues old.delivered rest } }
+  pub new_is : new
+      ≡ record old { queues = record old.queues { queues = slice_set old.queues.queues old.delivered rest } }
 
 -- where the URL that was fetched last is there, its queue is empty
 abbrev pub NothingPending : Loads → Type 0
-NothingPending l = (s : Slot) (q : List Waiting) → slice_get l.urls.slots l.delivered ≡ Some s → slice_get l.queues.queues l.delivered ≡ Some q
+NothingPending l = (s : Slot) (q : List Waiting) → slice_get l.urls.slots l.delivered ≡ Some s
+    → slice_get l.queues.queues l.delivered ≡ Some q
     → is_open s.state ≡ false → q ≡ []
 
 -- the load of an import() whose root isn't thrown gets its promise
-abbrev pub BeginsBy : (ℕ → Url) → Maps → List RecordParts → Errors → Loads → Numbered → Loads → Numbered → ℕ → Option Throw → Type 0
+abbrev pub BeginsBy : (ℕ → Url) → Maps → List RecordParts → Errors → Loads → Numbered → Loads → Numbered → ℕ → Option Throw
+    → Type 0
 BeginsBy named maps records errors old before new after load thrown =
     host_of named after errors (loading_of maps new records)
-    ≡ begin_by (host_of named before errors (loading_of maps old records)) load thrown (slice_get (loading_of maps old records).purposes load)
+    ≡ begin_by (host_of named before errors (loading_of maps old records)) load thrown
+    (slice_get (loading_of maps old records).purposes load)
 
 -- the request is answered, and the promise of its load is settled where the load has ended by that
 pub record Settles (h : Host) (a : PendingRequest) (u : Url) (e : TableEntry) (after : Host) : Type 0 where
@@ -48,22 +52,35 @@ pub record Settles (h : Host) (a : PendingRequest) (u : Url) (e : TableEntry) (a
   pub settled : after ≡ settle_load (with_loading h answered) (load_of a)
 
 -- where the URL at the place is fetched, the load of an import() whose root is a module gets its promise
-abbrev pub IsBegun : (ℕ → Url) → Maps → List RecordParts → Errors → Loads → Numbered → ℕ → ℕ → Result (Unit {0}) Memory → Loads → Numbered → Type 0
+abbrev pub IsBegun : (ℕ → Url) → Maps → List RecordParts → Errors → Loads → Numbered → ℕ → ℕ
+    → Result (Unit {0}) Memory → Loads → Numbered → Type 0
 IsBegun named maps records errors old before place load result new after =
-    (e : TableEntry) → (loading_of maps old records).entries (url_at (urls_of old.urls.slots) place) ≡ Some e → HaveRecords old.urls.slots records → AreJoined old (length records) → OnOk result
+    (e : TableEntry) → (loading_of maps old records).entries (url_at (urls_of old.urls.slots) place) ≡ Some e
+    → HaveRecords old.urls.slots records → AreJoined old (length records) → OnOk result
     (host_of named after errors (loading_of maps new records)
-    ≡ begin_load (host_of named before errors (loading_of maps old records)) (Root load) (url_at (urls_of old.urls.slots) place) e)
+    ≡ begin_load (host_of named before errors (loading_of maps old records)) (Root load)
+    (url_at (urls_of old.urls.slots) place) e)
+
+-- a relation of a host, a pending request, the entry of its URL, and a host
+abbrev pub AnswerOf : Type 1
+AnswerOf = Host → PendingRequest → Url → TableEntry → Host → Type 0
+
+-- the call answers the request with the entry of the URL at the place, in this way
+abbrev pub IsGiven : AnswerOf → (ℕ → Url) → Maps → Loads → Numbered → Errors → List RecordParts → Waiting → ℕ
+    → Result (Unit {0}) (End Limit) → Loads → Numbered → Errors → List RecordParts → Type 0
+IsGiven answers named maps old before errors records w place result new after made more =
+    (e : TableEntry) → (loading_of maps old records).entries (url_at (urls_of old.urls.slots) place) ≡ Some e
+    → OnOk result (answers (host_of named before errors (loading_of maps old records)) (request_of (urls_of old.urls.slots) w)
+    (url_at (urls_of old.urls.slots) place) e (host_of named after made (loading_of maps new more)))
+    × StopsHost result (answers (host_of named before errors (loading_of maps old records))
+    (request_of (urls_of old.urls.slots) w) (url_at (urls_of old.urls.slots) place) e)
 
 -- the answer to the request, behind the beginning of its load, and what the end of the load settles
-abbrev pub IsSettled : (ℕ → Url) → Maps → Loads → Numbered → Errors → List RecordParts → Waiting → ℕ → Result (Unit {0}) (End Limit) → Loads → Numbered → Errors → List RecordParts → Type 0
-IsSettled named maps old before errors records w place result new after made more =
-    (e : TableEntry) → (loading_of maps old records).entries (url_at (urls_of old.urls.slots) place) ≡ Some e
-    → OnOk result (Settles (host_of named before errors (loading_of maps old records)) (request_of (urls_of old.urls.slots) w) (url_at (urls_of old.urls.slots) place) e (host_of named after made (loading_of maps new more)))
-    × StopsHost result (Settles (host_of named before errors (loading_of maps old records)) (request_of (urls_of old.urls.slots) w) (url_at (urls_of old.urls.slots) place) e)
+abbrev pub IsSettled : (ℕ → Url) → Maps → Loads → Numbered → Errors → List RecordParts → Waiting → ℕ
+    → Result (Unit {0}) (End Limit) → Loads → Numbered → Errors → List RecordParts → Type 0
+IsSettled = IsGiven Settles
 
 -- the request is answered with the entry of the URL at the place
-abbrev pub IsAnsweredIn : (ℕ → Url) → Maps → Loads → Numbered → Errors → List RecordParts → Waiting → ℕ → Result (Unit {0}) (End Limit) → Loads → Numbered → Errors → List RecordParts → Type 0
-IsAnsweredIn named maps old before errors records w place result new after made more =
-    (e : TableEntry) → (loading_of maps old records).entries (url_at (urls_of old.urls.slots) place) ≡ Some e
-    → OnOk result (Answered (host_of named before errors (loading_of maps old records)) (request_of (urls_of old.urls.slots) w) (url_at (urls_of old.urls.slots) place) e (host_of named after made (loading_of maps new more)))
-    × StopsHost result (Answered (host_of named before errors (loading_of maps old records)) (request_of (urls_of old.urls.slots) w) (url_at (urls_of old.urls.slots) place) e)
+abbrev pub IsAnsweredIn : (ℕ → Url) → Maps → Loads → Numbered → Errors → List RecordParts → Waiting → ℕ
+    → Result (Unit {0}) (End Limit) → Loads → Numbered → Errors → List RecordParts → Type 0
+IsAnsweredIn = IsGiven Answered

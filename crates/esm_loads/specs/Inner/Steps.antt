@@ -4,7 +4,7 @@ use Rattle.std.specs.Vec.{with_item}
 use Rattle.esm_base.specs.Urls.{Url}
 use Rattle.esm_realm.specs.Sound.{RecordParts}
 use Rattle.esm_realm.specs.declared.record.ModuleStatus.{ModuleStatus}
-use Rattle.esm_realm.specs.declared.record.ModuleStatus.TheVariants.{New, Unlinked}
+use Rattle.esm_realm.specs.declared.record.ModuleStatus.TheVariants.{New, Unlinked, Linking, Linked}
 use Rattle.esm_loads.specs.LoadsView.{is_open, is_in, LoadView}
 use Rattle.esm_loads.specs.Inner.Urls.{open_slot}
 use Rattle.esm_loads.specs.Inner.Requests.{push_at}
@@ -104,3 +104,5 @@ stale r = record r { status = New }
 abbrev pub after_load : ModuleStatus → ModuleStatus
 after_load New = Unlinked
 after_load Unlinked = Unlinked
+after_load Linking = Linking
+after_load Linked = Linked
