@@ -4,3 +4,12 @@ pub mod LinksWhole
 pub mod WorkedLinks
 pub mod ClosedLinks
 pub mod Named
+pub mod Marking
+pub mod Steps
+pub mod Linking
+pub mod Scoping
+pub mod Resolved
+pub mod Imports
+pub mod Naming
+pub mod Trees
+pub mod FaithfulScopes
