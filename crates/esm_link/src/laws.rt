@@ -1,7 +1,6 @@
 // Laws of the definitions, as functions without effect.
-ghost use Rattle.esm_link.specs.Laws.{ClosesWhole, HasLinking, LinksWhole, OneLinking};
-ghost use Rattle.esm_link.specs.Naming.{LinkingFollowsNames};
 ghost use Rattle.esm_link.specs.Laws.{ClosesWhole, HasLinking, LinkedScopesAreFaithful, LinksWhole, OneLinking};
+ghost use Rattle.esm_link.specs.Naming.{LinkingFollowsNames};
 
 /// Linking a module has one outcome: a fault or none, and the modules that are closed then.
 pub fn one_linking<N>()
@@ -44,6 +43,8 @@ pub trait Named {
 /// Linking modules is linking them by their names: with the same fault or none, whose error has the same text.
 pub fn linking_follows_names<A: Named>()
     ensures { LinkingFollowsNames A.names A.same A.other }
+{}
+
 /// The scope that linking makes of a module reads as the module's names do: it fits its tree, and its imports are bound.
 pub fn linked_scopes_are_faithful()
     ensures { LinkedScopesAreFaithful }
