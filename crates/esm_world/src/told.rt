@@ -14,8 +14,8 @@ pub fn runs_are_told()
     ensures { RunsAreTold }
 {}
 
-/// No `import()` is forgotten: behind each turn its promise is settled, or its load hasn't ended, or the promise of its
-/// root's evaluation is pending, with the reaction that settles the `import()`.
+/// No `import()` is forgotten: behind each turn its promise is settled, or its load hasn't ended, or a pending promise has
+/// the reaction that settles it.
 pub fn imports_go_on()
     ensures { ImportsGoOn }
 {}
