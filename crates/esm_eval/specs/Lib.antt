@@ -9,4 +9,5 @@ pub mod Examples
 pub mod Begins
 pub mod Keeping
 pub mod Calls
+pub mod Table
 pub mod Inner
