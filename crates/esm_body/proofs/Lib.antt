@@ -19,3 +19,7 @@ pub mod SomeMove
 pub mod SomeSegment
 pub mod SomeBody
 pub mod Outcomes
+pub mod NamedRests
+pub mod NamedActs
+pub mod NamedMoves
+pub mod NamedBodies

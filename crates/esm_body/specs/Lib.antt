@@ -8,3 +8,4 @@ pub mod Fits
 pub mod Bodies
 pub mod Laws
 pub mod Examples
+pub mod Naming

@@ -8,3 +8,4 @@ pub mod OneRead
 pub mod WrittenLemmas
 pub mod LocalLemmas
 pub mod FunctionLemmas
+pub mod Named

@@ -12,3 +12,4 @@ pub mod Calls
 pub mod Makes
 pub mod Faithful
 pub mod Laws
+pub mod Naming

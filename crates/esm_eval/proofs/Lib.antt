@@ -14,4 +14,5 @@ pub mod Marked
 pub mod HasMarks
 pub mod HasReady
 pub mod HasEvaluation
+pub mod Named
 pub mod Inner

@@ -8,6 +8,7 @@ pub mod SmallWorld
 pub mod Examples
 pub mod Begins
 pub mod Keeping
+pub mod Naming
 pub mod Calls
 pub mod Table
 pub mod Inner

@@ -17,3 +17,4 @@ pub mod Lowest
 pub mod WalkParts
 pub mod NumberWalks
 pub mod ByIds
+pub mod Named

@@ -6,3 +6,4 @@ pub mod Sound
 pub mod Components
 pub mod ById
 pub mod Places
+pub mod Naming

@@ -9,6 +9,7 @@ use Rattle.esm_promise.specs.Reactions.{Reaction}
 use Rattle.esm_body.specs.State.{Standing}
 use Rattle.esm_body.specs.Bodies.{Taken, take_by, take_standing}
 use Rattle.esm_world.specs.Awaits.{is_await, awaits_among, awaits_on, awaits_pending, awaits_in_jobs, awaits_of, standing_of, AreSettled}
+use Rattle.esm_world.proofs.Each.{joined}
 
 abbrev pub Queue : Type 0
 Queue = Promises (Reaction Url) (Value Url)
@@ -177,13 +178,12 @@ now_settled [] q how x e = cc
 now_settled (y ∷ ys) zero how x e = refl
 now_settled (y ∷ ys) (suc q) how x e = now_settled ys q how x e
 
+abbrev HasResult : Queue → Job (Reaction Url) → Type 0
+HasResult ps j = is_some (settled ps j.promise) ≡ true
+
 stay : (ps qs : Queue) → StaySettled ps qs → (js : List (Job (Reaction Url))) → AreSettled ps js → AreSettled qs js
 stay ps qs f [] h = tt
 stay ps qs f (j ∷ js) h = (f j.promise h.0, stay ps qs f js h.1)
-
-both : (ps : Queue) (xs ys : List (Job (Reaction Url))) → AreSettled ps xs → AreSettled ps ys → AreSettled ps (xs ++ ys)
-both ps [] ys h k = k
-both ps (x ∷ xs) ys h k = (h.0, both ps xs ys h.1 k)
 
 all_of : (ps : Queue) (p : ℕ) → is_some (settled ps p) ≡ true → (rs : List (Reaction Url)) → AreSettled ps (map (job p) rs)
 all_of ps p h [] = tt
@@ -191,7 +191,7 @@ all_of ps p h (r ∷ rs) = (h, all_of ps p h rs)
 
 pub settle_jobs : (ps : Queue) (p : ℕ) (how : Settled (Value Url)) → AreSettled ps ps.jobs → AreSettled (settle ps p how) (settle ps p how).jobs
 settle_jobs ps p how h =
-    both now ps.jobs (triggered p (slice_get ps.all p)) (stay ps now (changed ps.all p how) ps.jobs h) (by (slice_get ps.all p) refl)
+    joined (HasResult now) ps.jobs (triggered p (slice_get ps.all p)) (stay ps now (changed ps.all p how) ps.jobs h) (by (slice_get ps.all p) refl)
   where
     now : Queue
     now = settle ps p how
@@ -209,7 +209,7 @@ register_jobs ps p r h = by (slice_get ps.all p) refl
     by (Some (Pending rs)) e = stay ps (register_by (Some (Pending rs)) ps p r) (pending_still ps.all p rs (rs ++ r ∷ []) e) ps.jobs h
     by (Some (Done how)) e =
         let now = register_by (Some (Done how)) ps p r in
-        both now ps.jobs (job p r ∷ []) (stay ps now (λ q k. k) ps.jobs h) (ap (λ o. is_some (settled_by o)) e, tt)
+        joined (HasResult now) ps.jobs (job p r ∷ []) (stay ps now (λ q k. k) ps.jobs h) (ap (λ o. is_some (settled_by o)) e, tt)
 
 pub make_jobs : (ps : Queue) (rs : List (Reaction Url)) → AreSettled ps ps.jobs → AreSettled (make ps rs) (make ps rs).jobs
 make_jobs ps rs h = stay ps (make ps rs) (longer ps.all (Pending rs ∷ [])) ps.jobs h

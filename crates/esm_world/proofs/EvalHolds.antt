@@ -1,7 +1,7 @@
 -- What holds of a world, where each write and each call for a body keeps it, evaluation keeps. Of promises evaluation settles those
 -- alone that it made, and that modules keep.
 use Rattle.std.proofs.Common.{◌≡◌, ℕ, true, List, [], ◌∷◌, Option, Some, None, refl, subst}
-use Rattle.std.specs.Prelude.{Result, ◌++◌, ⊤}
+use Rattle.std.specs.Prelude.{Result, Ok, ◌++◌, ⊤}
 use Rattle.esm_realm.specs.Walk.{Mark}
 use Rattle.esm_realm.specs.Components.{opened_from}
 use Rattle.esm_eval.specs.Nodes.{Phase, NotEntered, Evaluating, EvaluatingAsync, Evaluated, Node, Call, CallAnswer, Start, Run, BodyCalls}
@@ -162,3 +162,19 @@ module _ {N V W S : Type 0} (E : Evaluation N V W) (acts : BodyCalls N V W S) (P
   pub fulfills_holds : {v w : W} {m : N} {a : Result (Unit {0}) S} → P v → Fulfills E acts v m a w → Keep v w
   fulfills_holds {v} h (Fulfills.over e) = k.same v h
   fulfills_holds {v} {m = m} h (Fulfills.goes_on n r p) = next (finishes v m h) (λ g. go_on g p)
+
+  -- the promise that an evaluation answers with is one that may be settled
+  root_free : {v : W} {m : N} {q : ℕ} {w : W} → P v → EvaluatesRoot E acts v m (Ok q) w → Free w q
+  root_free {v} {m = m} h (EvaluatesRoot.kept p n) = k.node v m p h n
+  root_free {v} {m = m} h (EvaluatesRoot.thrown u n e) = k.free (k.reject (keep E v m) (E.next_promise v) u (k.holds (keeps v m h)) (kept_free v m h)) (E.next_promise v) (kept_free v m h)
+  root_free {v} {m = m} h (EvaluatesRoot.walks {after = after} n e p) =
+      let b = marks (k.holds (keeps v m h)) p.leads in
+      let f = k.free b (E.next_promise v) (kept_free v m h) in
+      k.free (settles after (E.next_promise v) _ (k.holds b) f) (E.next_promise v) f
+  root_free {v} {m = m} h (EvaluatesRoot.throws {after = after} u n e p) =
+      let b = marks (k.holds (keeps v m h)) p.leads in
+      let f = k.free b (E.next_promise v) (kept_free v m h) in
+      k.free (k.reject after (E.next_promise v) u (k.holds b) f) (E.next_promise v) f
+
+  pub evaluates_free : (v : W) (m : N) {w : W} {q : ℕ} → P v → Evaluates E acts v m (Ok q) w → Free w q
+  evaluates_free v m h p = root_free h p

@@ -1,6 +1,6 @@
 -- The root of a load is linked where a reaction to its evaluation stands: loading, bodies, evaluation and jobs keep it.
 use Rattle.std.proofs.Common.{◌≡◌, ℕ, zero, suc, true, List, [], ◌∷◌, ◌++◌, map, Option, Some, None, refl, ap, subst, sym, ◌∙◌}
-use Rattle.std.specs.Prelude.{Result, Ok, Err, slice_get, slice_set, ⊤}
+use Rattle.std.specs.Prelude.{Result, Ok, Err, slice_get, ⊤}
 use Rattle.std.specs.List.{AllByRecursion}
 use Rattle.esm_base.specs.declared.limits.Limit.{Limit}
 use Rattle.esm_base.specs.Urls.{Url, has, same_url}
@@ -23,6 +23,7 @@ use Rattle.esm_world.specs.Layers.{Executes, evaluation, with_linked}
 use Rattle.esm_world.specs.Jobs.{EvaluatesLoad, Reacts, when_evaluated}
 use Rattle.esm_world.specs.Jobs.Reacts.{entry_linked, entry_fault, entry_refused, entry_ended, entry_threw, linked, fault, refused, evaluated, threw, body_ended, body_threw, resumes}
 use Rattle.esm_world.specs.Turn.{fetched}
+use Rattle.esm_world.proofs.Each.{pushed, joined, put, all_on}
 use Rattle.esm_world.proofs.OuterKeeps.{Around, LastsOuter, CallEnds, EndsSo, starts_around, runs_around, resumes_around}
 use Rattle.esm_world.proofs.EvalKeeps.{Lasts, evaluates_keeps, fulfills_keeps, rejects_keeps}
 use Rattle.esm_world.proofs.LoadedFits.{linked_stays_linked}
@@ -33,25 +34,6 @@ Queue = Promises (Reaction Url) (Value Url)
 
 abbrev Row : Type 0
 Row = p.Promise (Reaction Url) (Value Url)
-
--- ---- lists
-
-pushed : {A : Type 0} (P : A → Type 0) (xs : List A) (x : A) → AllByRecursion P xs → P x → AllByRecursion P (xs ++ x ∷ [])
-pushed P [] x h k = (k, tt)
-pushed P (y ∷ ys) x h k = (h.0, pushed P ys x h.1 k)
-
-joined : {A : Type 0} (P : A → Type 0) (xs ys : List A) → AllByRecursion P xs → AllByRecursion P ys → AllByRecursion P (xs ++ ys)
-joined P [] ys h k = k
-joined P (x ∷ xs) ys h k = (h.0, joined P xs ys h.1 k)
-
-put : {A : Type 0} (P : A → Type 0) (xs : List A) (i : ℕ) (x : A) → AllByRecursion P xs → P x → AllByRecursion P (slice_set xs i x)
-put P [] i x h k = tt
-put P (y ∷ ys) zero x h k = (k, h.1)
-put P (y ∷ ys) (suc i) x h k = (h.0, put P ys i x h.1 k)
-
-weaker : {A : Type 0} (P Q : A → Type 0) → ((a : A) → P a → Q a) → (xs : List A) → AllByRecursion P xs → AllByRecursion Q xs
-weaker P Q f [] h = tt
-weaker P Q f (x ∷ xs) h = (f x h.0, weaker P Q f xs h.1)
 
 -- ---- reactions to evaluations
 
@@ -268,11 +250,11 @@ of_more P Q f EntryLoaded k = tt
 of_more P Q f EntryDone k = tt
 
 on_more : (P Q : ℕ → Type 0) → ((s : ℕ) → P s → Q s) → (x : Row) → OnPromise P x → OnPromise Q x
-on_more P Q f (Pending rs) k = weaker (OfLoad P) (OfLoad Q) (of_more P Q f) rs k
+on_more P Q f (Pending rs) k = all_on (OfLoad P) (OfLoad Q) rs (of_more P Q f) k
 on_more P Q f (Done how) k = tt
 
 loads_more : (P Q : ℕ → Type 0) → ((s : ℕ) → P s → Q s) → (ps : Queue) → LoadsAre P ps → LoadsAre Q ps
-loads_more P Q f ps h = record { all = weaker (OnPromise P) (OnPromise Q) (on_more P Q f) ps.all h.all; jobs = weaker (InJob P) (InJob Q) (λ j. of_more P Q f j.reaction) ps.jobs h.jobs }
+loads_more P Q f ps h = record { all = all_on (OnPromise P) (OnPromise Q) ps.all (on_more P Q f) h.all; jobs = all_on (InJob P) (InJob Q) ps.jobs (λ j. of_more P Q f j.reaction) h.jobs }
 
 -- roots stay, and what is linked stays so
 pub record RootsStay (v w : World) : Type 0 where

@@ -13,6 +13,7 @@ pub mod BodyStops
 pub mod EvalStops
 pub mod StartsOnce
 pub mod runs
+pub mod Each
 pub mod FitLists
 pub mod FitBodies
 pub mod FitEvaluation
@@ -44,3 +45,6 @@ pub mod LastLines
 pub mod StandsOnce
 pub mod RunsIdle
 pub mod RunsSound
+pub mod FollowedPromises
+pub mod FollowedLoading
+pub mod FollowedWorld

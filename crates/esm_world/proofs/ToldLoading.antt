@@ -21,7 +21,8 @@ use Rattle.esm_loads.proofs.Orderly.{without_orderly}
 use Rattle.esm_loads.proofs.Requests.{set_other, length_set, equal_cases}
 use Rattle.esm_loads.proofs.Owed.{Ends, answers_ends, root_stage, begun_same, push_own, push_other}
 use Rattle.esm_world.specs.Told.{Whose, OfImport, Own, own_promise_in, load_promise, IsFree, HasSettled, MayStandOn, AreToldOf}
-use Rattle.esm_world.proofs.ToldPromises.{Ps, Continues, continues_same, continues_on, stands_on, all_on, some_is, below_not, get_end, length_push, set_end, set_told, make_told, settle_told}
+use Rattle.esm_world.proofs.Each.{all_on}
+use Rattle.esm_world.proofs.ToldPromises.{Ps, Continues, continues_same, continues_on, stands_on, some_is, below_not, get_end, length_push, set_end, set_told, make_told, settle_told}
 
 -- what is told is told still, what was free is free, and what has ended has ended so
 pub record KeptOf (l : Loading) (ps : Ps) (m : Loading) (qs : Ps) : Type 0 where
@@ -186,7 +187,7 @@ module _ (h : Host) (s q : ℕ) (is : slice_get h.imports.purposes s ≡ Some (F
       free : (p : ℕ) → IsFree h.imports ps p → IsFree m (make ps (Loaded s ∷ [])) p
       free p f = new_free h.imports m (make ps (Loaded s ∷ [])) s Own (next_promise ps) p own_new (made_free h.imports ps (Loaded s ∷ []) p f) (below_not p (next_promise ps) f.made)
 
-begin_kept : (h : Host) (s : ℕ) (t : Option Throw) (p : Option Purpose) → slice_get h.imports.purposes s ≡ p → AreToldOf h.imports h.promises → KeptIn h (begin_by h s t p)
+pub begin_kept : (h : Host) (s : ℕ) (t : Option Throw) (p : Option Purpose) → slice_get h.imports.purposes s ≡ p → AreToldOf h.imports h.promises → KeptIn h (begin_by h s t p)
 begin_kept h s (Some t) p e k = kept_same h.imports h.promises k
 begin_kept h s None None e k = kept_same h.imports h.promises k
 begin_kept h s None (Some (ForEntry q)) e k = kept_same h.imports h.promises k
@@ -236,7 +237,7 @@ not_ended (Some (LoadComplete r)) how e h = cc
 not_ended (Some (Thrown t)) how e h = cc
 
 -- of loads only that one changes, which hasn't ended
-ends_kept : (l m : Loading) (ps : Ps) (s : ℕ) → owes (slice_get l.loads s) ≡ true → Ends s l m → AreToldOf l ps → KeptOf l ps m ps
+pub ends_kept : (l m : Loading) (ps : Ps) (s : ℕ) → owes (slice_get l.loads s) ≡ true → Ends s l m → AreToldOf l ps → KeptOf l ps m ps
 ends_kept l m ps s g e t = loads_told l m ps (promises_same l m e.purposes) c t
   where
     by : (k : ℕ) (how : Settled (Value Url)) → HasSettled (slice_get l.loads k) how → (k ≡ s) ⊎ (k ≡ s → ⊥) → slice_get m.loads k ≡ slice_get l.loads k
@@ -342,14 +343,14 @@ but_on a b = record { told = b.told; free = λ p f n. b.free p (a.free p f n); c
 but : {q : ℕ} {l m : Loading} {ps qs : Ps} → KeptOf l ps m qs → KeptBut q l ps m qs
 but a = record { told = a.told; free = λ p f n. a.free p f; continues = a.continues }
 
-added_kept : (h : Host) (promise : ℕ) → length h.imports.purposes ≡ length h.imports.loads → AreToldOf h.imports h.promises → IsFree h.imports h.promises promise → KeptBut promise h.imports h.promises (add_load (counted h) promise).imports h.promises
+pub added_kept : (h : Host) (promise : ℕ) → length h.imports.purposes ≡ length h.imports.loads → AreToldOf h.imports h.promises → IsFree h.imports h.promises promise → KeptBut promise h.imports h.promises (add_load (counted h) promise).imports h.promises
 added_kept h promise sizes t f = record {
   told = new_told h.imports (added h promise sizes) h.promises (length h.imports.purposes) OfImport promise t (added_continues h promise sizes) (added_new h promise sizes) f (λ e. cc);
   free = λ p g n. new_free h.imports (added h promise sizes) h.promises (length h.imports.purposes) OfImport promise p (added_new h promise sizes) g n;
   continues = added_continues h promise sizes;
 }
 
-ask_purposes : (b c : Bool) (l : Loading) (u : Url) (a : PendingRequest) → ((ask_by b c l u a).purposes ≡ l.purposes) × ((ask_by b c l u a).loads ≡ l.loads)
+pub ask_purposes : (b c : Bool) (l : Loading) (u : Url) (a : PendingRequest) → ((ask_by b c l u a).purposes ≡ l.purposes) × ((ask_by b c l u a).loads ≡ l.loads)
 ask_purposes true c l u a = (refl, refl)
 ask_purposes false true l u a = (refl, refl)
 ask_purposes false false l u a = (refl, refl)

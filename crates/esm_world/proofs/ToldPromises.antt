@@ -11,6 +11,7 @@ use Rattle.esm_loads.specs.Loading.{Loading, LoadState, Asked, Open, LoadComplet
 use Rattle.esm_loads.proofs.Requests.{set_own, set_other, length_set, equal_cases, push_cases}
 use Rattle.esm_body.specs.Bodies.{await_on}
 use Rattle.esm_world.specs.Told.{Own, own_promise_in, load_promise, HasSettled, HasLoaded, MayStandOn, AreToldOf, IsTold}
+use Rattle.esm_world.proofs.Each.{pushed, joined}
 
 abbrev pub Ps : Type 0
 Ps = Promises (Reaction Url) (Value Url)
@@ -25,18 +26,6 @@ pub below_not : (p n : ℕ) → p < n → p ≡ n → ⊥
 below_not p n h e = omega (arith, h, e)
 
 -- ---- lists
-
-pub pushed : {A : Type 0} (P : A → Type 0) (xs : List A) (x : A) → AllByRecursion P xs → P x → AllByRecursion P (xs ++ x ∷ [])
-pushed P [] x h k = (k, tt)
-pushed P (y ∷ ys) x h k = (h.0, pushed P ys x h.1 k)
-
-joined : {A : Type 0} (P : A → Type 0) (xs ys : List A) → AllByRecursion P xs → AllByRecursion P ys → AllByRecursion P (xs ++ ys)
-joined P [] ys h k = k
-joined P (x ∷ xs) ys h k = (h.0, joined P xs ys h.1 k)
-
-pub all_on : {A : Type 0} (P Q : A → Type 0) (xs : List A) → ((x : A) → P x → Q x) → AllByRecursion P xs → AllByRecursion Q xs
-all_on P Q [] f h = tt
-all_on P Q (x ∷ xs) f h = (f x h.0, all_on P Q xs f h.1)
 
 pub length_push : {A : Type 0} (xs : List A) (y : A) → length (xs ++ y ∷ []) ≡ suc (length xs)
 length_push [] y = refl

@@ -34,14 +34,15 @@ use Rattle.esm_world.specs.Told.{Whose, OfImport, Own, load_promise, IsFree, Has
 use Rattle.esm_world.proofs.OuterKeeps.{Around, around, EndsSo, KeepsAround, CallEnds, settles, starts_around, runs_around, resumes_around}
 use Rattle.esm_world.proofs.LoadedFits.{in_filter}
 use Rattle.esm_world.proofs.EvalHolds.{FreeCall, Holding, evaluates_holds, fulfills_holds, rejects_holds}
-use Rattle.esm_world.proofs.ToldPromises.{Ps, Continues, continues_same, continues_on, pushed, all_on, loaded_on, root_on, make_told, take_told, is_told}
+use Rattle.esm_world.proofs.Each.{pushed, all_on}
+use Rattle.esm_world.proofs.ToldPromises.{Ps, Continues, continues_same, continues_on, loaded_on, root_on, make_told, take_told, is_told}
 use Rattle.esm_world.proofs.ToldLoading.{KeptOf, made_free, next_free, make_kept, unchanged}
 use Rattle.esm_world.proofs.ToldHost.{Row, KeptHost, host_on, host_await, same_rows, host_errors, host_make, host_settle, host_settle_free, host_register, import_not_owed, host_next, KeepsTold, lasts_told}
 
-abbrev FreeIn : World → ℕ → Type 0
+abbrev pub FreeIn : World → ℕ → Type 0
 FreeIn w p = IsFree w.loading w.promises p
 
-abbrev AreFree : Host → List (Standing Url) → Type 0
+abbrev pub AreFree : Host → List (Standing Url) → Type 0
 AreFree h ss = AllByRecursion (λ (s : Standing Url). IsFree h.imports h.promises s.done) ss
 
 free_on : (h k : Host) (ss : List (Standing Url)) → ((p : ℕ) → IsFree h.imports h.promises p → IsFree k.imports k.promises p) → AreFree h ss → AreFree k ss
@@ -49,10 +50,10 @@ free_on h k ss f a = all_on (λ (s : Standing Url). IsFree h.imports h.promises 
 
 -- ---- a world goes on
 
-record KeptWorld (v w : World) : Type 0 where
-  told : AreTold w
-  free : (p : ℕ) → FreeIn v p → FreeIn w p
-  continues : Continues v.loading w.loading
+pub record KeptWorld (v w : World) : Type 0 where
+  pub told : AreTold w
+  pub free : (p : ℕ) → FreeIn v p → FreeIn w p
+  pub continues : Continues v.loading w.loading
 
 same : (w : World) → AreTold w → KeptWorld w w
 same w t = record { told = t; free = λ p f. f; continues = continues_same w.loading }
@@ -97,9 +98,9 @@ pushed_free : (h : Host) (ss : List (Standing Url)) (s : Standing Url) → AreFr
 pushed_free h ss s a f = pushed (λ (x : Standing Url). IsFree h.imports h.promises x.done) ss s a f
 
 -- what is told where a body has run up to here, with these bodies at an await
-record AroundTold (h : Host) (a : Around Url Loading) : Type 0 where
-  kept : KeptHost h a.0
-  standing : AreFree a.0 a.1
+pub record AroundTold (h : Host) (a : Around Url Loading) : Type 0 where
+  pub kept : KeptHost h a.0
+  pub standing : AreFree a.0 a.1
 
 ends_told : (h : Host) (m : Url) (done : ℕ) (late w : Around Url Loading) → AroundTold h late → IsFree h.imports h.promises done → EndsSo m done late w → AroundTold h w
 ends_told h m done late w a f EndsSo.stays = a
@@ -114,12 +115,12 @@ ends_told h m done late w a f (EndsSo.stands v rest) =
       standing = pushed_free now late.1 (record { at = m; done = done; rest = rest }) (free_on late.0 now late.1 k.free a.standing) (k.free done (a.kept.free done f));
     }
 
-segment_told : (h : Host) (ss : List (Standing Url)) (late : Around Url Loading) → IsHostTold h → AreFree h ss → KeepsAround KeepsTold (h, ss) late → AroundTold h late
+pub segment_told : (h : Host) (ss : List (Standing Url)) (late : Around Url Loading) → IsHostTold h → AreFree h ss → KeepsAround KeepsTold (h, ss) late → AroundTold h late
 segment_told h ss late t a k =
     let r = k.outer t in
     record { kept = r; standing = subst (λ xs. AreFree late.0 xs) (sym k.standing) (free_on h late.0 ss r.free a) }
 
-call_told : (h : Host) (ss : List (Standing Url)) (m : Url) (done : ℕ) (w : Around Url Loading) → IsHostTold h → AreFree h ss → IsFree h.imports h.promises done → CallEnds KeepsTold m done (h, ss) w → AroundTold h w
+pub call_told : (h : Host) (ss : List (Standing Url)) (m : Url) (done : ℕ) (w : Around Url Loading) → IsHostTold h → AreFree h ss → IsFree h.imports h.promises done → CallEnds KeepsTold m done (h, ss) w → AroundTold h w
 call_told h ss m done w t a f c = ends_told h m done c.late w (segment_told h ss c.late t a c.keeps) f c.ends
 
 calls : {v w : World} {c : Call Url} {r : Result (CallAnswer (Value Url) c) Limit} → AreTold v → FreeCall FreeIn v c → Executes v c r w → KeptWorld v w
@@ -145,7 +146,7 @@ stamps w x t = record { told = record { host = t.host; nodes = t.nodes; standing
 body_kept : (w : World) (x : Url) → AreTold w → KeptOf w.loading w.promises w.loading (make w.promises (BodyEnd x ∷ []))
 body_kept w x t = record { told = make_told w.loading w.promises (BodyEnd x ∷ []) t.host.told (tt, tt); free = made_free w.loading w.promises (BodyEnd x ∷ []); continues = continues_same w.loading }
 
-holding : Holding evaluation Executes AreTold FreeIn KeptWorld
+pub holding : Holding evaluation Executes AreTold FreeIn KeptWorld
 holding = record {
   same = same;
   on = λ a b. on a b;
@@ -166,7 +167,7 @@ holding = record {
 -- ---- jobs
 
 -- a job is taken
-taken_told : (w : World) (j : Job (Reaction Url)) (left : Ps) → AreTold w → next_job w.promises ≡ Some (j, left) → AreTold (with_promises w left) × MayStandOn w.loading j.promise j.reaction
+pub taken_told : (w : World) (j : Job (Reaction Url)) (left : Ps) → AreTold w → next_job w.promises ≡ Some (j, left) → AreTold (with_promises w left) × MayStandOn w.loading j.promise j.reaction
 taken_told w j left t e =
     let k = take_told w.loading w.promises left j e t.host.told in
     let same = same_rows w.promises left j e in (
@@ -185,13 +186,13 @@ taken_told w j left t e =
     free : {p : ℕ} → FreeIn w p → IsFree w.loading left p
     free {p} f = record { made = subst (λ (xs : List Row). p < length xs) (sym (same_rows w.promises left j e)) f.made; apart = f.apart }
 
-linked_told : (w : World) (ls : List Url) → AreTold w → AreTold (with_linked w ls)
+pub linked_told : (w : World) (ls : List Url) → AreTold w → AreTold (with_linked w ls)
 linked_told w ls t = record { host = t.host; nodes = t.nodes; standing = t.standing }
 
-entry_told : (w : World) (e : EntryState) → AreTold w → AreTold (with_entry w e)
+pub entry_told : (w : World) (e : EntryState) → AreTold w → AreTold (with_entry w e)
 entry_told w e t = record { host = t.host; nodes = t.nodes; standing = t.standing }
 
-errors_told : (w : World) (es : Errors) → AreTold w → AreTold (record w { errors = es })
+pub errors_told : (w : World) (es : Errors) → AreTold w → AreTold (record w { errors = es })
 errors_told w es t = record { host = (host_errors (host_of w) es t.host).told; nodes = t.nodes; standing = t.standing }
 
 registered : (w : World) (r : Reaction Url) (a : Result ℕ Limit) → ((p : ℕ) → MayStandOn w.loading p r) → AreTold w → AreTold (when_evaluated w r a)
@@ -205,7 +206,7 @@ import_settled w q s r how t is = (promises_world w (settle w.promises q how) t 
     apart : (k : ℕ) → load_promise w.loading k Own ≡ Some q → HasSettled (slice_get w.loading.loads k) how
     apart k e = absurd (let same : OfImport ≡ Own = (t.host.told.once s k q OfImport Own (ap import_promise_in is) e).1 in cc)
 
-evaluates_told : (w : World) (s : ℕ) (a : Result ℕ Limit) (after : World) → AreTold w → EvaluatesLoad w s a after → KeptWorld w after
+pub evaluates_told : (w : World) (s : ℕ) (a : Result ℕ Limit) (after : World) → AreTold w → EvaluatesLoad w s a after → KeptWorld w after
 evaluates_told w s a after t p =
     let k = evaluates_holds evaluation Executes AreTold FreeIn KeptWorld holding (with_linked w p.linked) p.root (linked_told w p.linked t) p.evaluates in
     record { told = k.told; free = λ q f. k.free q (record { made = f.made; apart = f.apart }); continues = k.continues }
@@ -220,7 +221,7 @@ purpose_of l s q p e h = let same : h.0 ≡ q = some_is (sym (ap import_promise_
 loaded_of : (l : Loading) (s q : ℕ) → import_promise l s ≡ Some q → (h : HasLoaded l s) → slice_get l.purposes s ≡ Some (ForImport q (Some h.load))
 loaded_of l s q e h = let same : h.promise ≡ q = some_is (sym (ap import_promise_in h.purpose) ∙ e) in subst (λ x. slice_get l.purposes s ≡ Some (ForImport x (Some h.load))) same h.purpose
 
-taken_free : (ss : List (Standing Url)) (m : Url) (h : Host) (t : Taken Url) → take_standing same_url ss m ≡ Some t → AreFree h ss → IsFree h.imports h.promises t.standing.done × AreFree h t.others
+pub taken_free : (ss : List (Standing Url)) (m : Url) (h : Host) (t : Taken Url) → take_standing same_url ss m ≡ Some t → AreFree h ss → IsFree h.imports h.promises t.standing.done × AreFree h t.others
 taken_free [] m h t e a = cc
 taken_free (s ∷ ss) m h t e a = by (same_url s.at m) (take_standing same_url ss m) e (λ u f. taken_free ss m h u f a.1)
   where
@@ -235,9 +236,9 @@ taken_free (s ∷ ss) m h t e a = by (same_url s.at m) (take_standing same_url s
         subst (λ (u : Taken Url). IsFree h.imports h.promises u.standing.done × AreFree h u.others) is (r.0, (a.0, r.1))
 
 -- what a job keeps: what is told, and what has ended
-record KeptJob (v w : World) : Type 0 where
-  told : AreTold w
-  continues : Continues v.loading w.loading
+pub record KeptJob (v w : World) : Type 0 where
+  pub told : AreTold w
+  pub continues : Continues v.loading w.loading
 
 -- no load changes
 job_of : {v w : World} → w.loading ≡ v.loading → AreTold w → KeptJob v w
@@ -276,7 +277,7 @@ reacts_told {v} p t m i (resumes {m = x} {s = s} e) =
 tells : (w : World) (j : Job (Reaction Url)) (left : Ps) (how : Settled (Value Url)) → AreTold w → next_job w.promises ≡ Some (j, left) → settled left j.promise ≡ Some how → IsTold w.loading j.reaction how
 tells w j left how t e s = let k = taken_told w j left t e in is_told w.loading left j.promise j.reaction how k.0.host.told k.1 s
 
-job_kept : (w after : World) (j : Job (Reaction Url)) (left : Ps) (how : Settled (Value Url)) → AreTold w → next_job w.promises ≡ Some (j, left) → settled left j.promise ≡ Some how → Reacts (with_promises w left) j.reaction how after → KeptJob w after
+pub job_kept : (w after : World) (j : Job (Reaction Url)) (left : Ps) (how : Settled (Value Url)) → AreTold w → next_job w.promises ≡ Some (j, left) → settled left j.promise ≡ Some how → Reacts (with_promises w left) j.reaction how after → KeptJob w after
 job_kept w after j left how t e s p =
     let k = taken_told w j left t e in
     let r = reacts_told j.promise k.0 k.1 (tells w j left how t e s) p in
@@ -289,10 +290,10 @@ loading_live : (o e : Option Limit) → option_or o e ≡ None → o ≡ None
 loading_live None e h = refl
 loading_live (Some limit) e h = cc
 
-answer_kept : (w : World) (h : Host) → AreTold w → stopped w ≡ None → AnswersNext (host_of w) h → KeptHost (host_of w) h
+pub answer_kept : (w : World) (h : Host) → AreTold w → stopped w ≡ None → AnswersNext (host_of w) h → KeptHost (host_of w) h
 answer_kept w h t live q = host_next (host_of w) h t.host (loading_live w.loading.stopped w.engine.stopped live) q
 
-answers : (w : World) (h : Host) → AreTold w → stopped w ≡ None → AnswersNext (host_of w) h → AreTold (with_host w h)
+pub answers : (w : World) (h : Host) → AreTold w → stopped w ≡ None → AnswersNext (host_of w) h → AreTold (with_host w h)
 answers w h t live q = (host_world w h t (answer_kept w h t live q)).told
 
 -- the end of a fetch changes no load and no promise
@@ -314,7 +315,7 @@ pub fetched_same : (b : Bool) (h : Host) (u : Url) (c : OutcomeView) → IsSameL
 fetched_same true h u c = record { purposes = refl; loads = refl; promises = refl }
 fetched_same false h u c = let k = store_same h.imports.stopped (with_loading h (count_by false h.imports (bytes_of c))) u c in record { purposes = k.purposes; loads = k.loads; promises = k.promises }
 
-fetch_told : (h : Host) (u : Url) (c : OutcomeView) → IsHostTold h → has h.imports.asked u ≡ true → KeptHost h (after_fetch h u c)
+pub fetch_told : (h : Host) (u : Url) (c : OutcomeView) → IsHostTold h → has h.imports.asked u ≡ true → KeptHost h (after_fetch h u c)
 fetch_told h u c t a = record {
   told = record {
     orderly = stays_orderly.fetched h u c t.orderly a;
@@ -334,11 +335,11 @@ fetch_told h u c t a = record {
     same : KeptOf h.imports h.promises k.imports h.promises
     same = unchanged h.imports k.imports h.promises s.purposes s.loads t.told
 
-open_asked : (o : Option Limit) (l : Loading) (u : Url) → has (asks_by o (open_asks l)) u ≡ true → has l.asked u ≡ true
+pub open_asked : (o : Option Limit) (l : Loading) (u : Url) → has (asks_by o (open_asks l)) u ≡ true → has l.asked u ≡ true
 open_asked None l u h = (in_filter (λ x. is_fetching (l.entries x)) l.asked u h).0
 open_asked (Some limit) l u h = cc
 
-fetches : (w : World) (d : Delivery) → AreTold w → IsAllowed w d → AreTold (fetched w d.url d.outcome)
+pub fetches : (w : World) (d : Delivery) → AreTold w → IsAllowed w d → AreTold (fetched w d.url d.outcome)
 fetches w d t a = (host_world w (after_fetch (host_of w) d.url d.outcome) t (fetch_told (host_of w) d.url d.outcome t.host (open_asked (stopped w) w.loading d.url a.asked))).told
 
 -- ---- the opening

@@ -12,6 +12,7 @@ pub mod Awaits
 pub mod Told
 pub mod Laws
 pub mod RunLaws
+pub mod Followed
 pub mod ImportCalls
 pub mod Direct
 pub mod Unproved
