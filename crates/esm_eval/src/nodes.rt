@@ -83,7 +83,8 @@ impl Nodes {
     /// The module is so far.
     pub(crate) fn set_phase(&mut self, x: u32, phase: Phase)
         requires { x < size self.old }
-        ensures { self.new ≡ with_node self.old x (record (node_at self.old x) { phase = phase_of phase }) }
+        ensures { self.new ≡ with_node self.old x
+            (record (node_at self.old x) { phase = phase_of phase }) }
     {
         self.nodes[x as usize].phase = phase;
     }
@@ -142,7 +143,8 @@ impl Nodes {
     /// The module keeps a promise.
     pub(crate) fn set_promise(&mut self, x: u32, promise: PromiseId)
         requires { x < size self.old }
-        ensures { self.new ≡ with_node self.old x (record (node_at self.old x) { promise = Some promise.0 }) }
+        ensures { self.new ≡ with_node self.old x
+            (record (node_at self.old x) { promise = Some promise.0 }) }
     {
         self.nodes[x as usize].promise = Some(promise);
     }
