@@ -3,3 +3,4 @@ pub mod Places
 pub mod Root
 pub mod LateSteps
 pub mod Onces
+pub mod Tables

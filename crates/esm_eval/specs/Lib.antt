@@ -10,4 +10,5 @@ pub mod Begins
 pub mod Keeping
 pub mod Naming
 pub mod Calls
+pub mod Table
 pub mod Inner

@@ -51,7 +51,8 @@ pub trait Late: Drop {
     fn refuse(&mut self, x: u32, v: &Value) -> Result<(), Memory>
         requires has { x < count self.old }
         requires unfinished { IsEvaluated lens self.old x → ⊥ }
-        ensures world { OnOk result (self.new ≡ end.refuse (numbered lens) self.old x (value_of v.now)) }
+        ensures world { OnOk result
+            (self.new ≡ end.refuse (numbered lens) self.old x (value_of v.now)) }
         ensures fewer { OnOk result (unfinished self.new < unfinished self.old) }
         ensures waiters { OnOk result (SameWaiters lens self.old self.new) }
         ensures count { OnOk result (count self.new ≡ count self.old) };
@@ -77,8 +78,10 @@ pub trait Late: Drop {
     /// The modules that are ready once `m` is done, in their order of asynchronous evaluation.
     fn ready(&self, m: u32) -> Result<Vec<u32>, Memory>
         requires { IsFinished lens m self.now }
-        ensures ready { IfOk result (λ xs. end.ReadyAmong (numbered lens) self.now (lens.stamps self.now) xs.items) }
-        ensures have { IfOk result (λ xs. (k x : ℕ) → slice_get xs.items k ≡ Some x → x < count self.now) };
+        ensures ready { IfOk result
+            (λ xs. end.ReadyAmong (numbered lens) self.now (lens.stamps self.now) xs.items) }
+        ensures have { IfOk result
+            (λ xs. (k x : ℕ) → slice_get xs.items k ≡ Some x → x < count self.now) };
 
     /// The body of the module, which awaits, begins.
     fn start(&mut self, x: u32) -> Result<(), EvalEnd<Self::Stop>>
@@ -101,7 +104,8 @@ pub trait Late: Drop {
 pub fn rejected<D: Late>(desk: &mut D, m: ModuleId, with: &Value) -> Result<(), Memory>
     requires has { m.0 < D.count desk.old }
     requires between { HaveBegunOnce (numbered D.lens) desk.old }
-    ensures rejects { OnOk result (Rejects (numbered D.lens) desk.old m.0 (value_of with.now) desk.new) }
+    ensures rejects { OnOk result
+        (Rejects (numbered D.lens) desk.old m.0 (value_of with.now) desk.new) }
     ensures between { OnOk result (HaveBegunOnce (numbered D.lens) desk.new) }
 {
     reject_by(desk, m.0, with)

@@ -4,8 +4,10 @@
 mod ends;
 pub mod examples;
 pub mod laws;
+mod nodes;
 mod walk;
 
 pub use ends::{Late, fulfilled, rejected};
 pub use laws::AnyWorld;
+pub use nodes::{Nodes, Phase};
 pub use walk::{Cut, Desk, EvalEnd, evaluate};

@@ -48,6 +48,7 @@ IsEndOf E w x ran (Err ends.Memory) v = Unit {0}
 
 -- a module that is ready goes on: whatever the others come to, it comes to behind this one
 abbrev pub GoesOn : {W S : Type 0} → CodeEvaluation W → CodeCalls W S → W → ℕ → Result (Unit {0}) (EvalEnd S) → W → Type 0
-GoesOn {W} {S} E acts w x (Ok u) v = (xs : List ℕ) (end : Result (Unit {0}) S) (after : W) → GoOn (numbered E) acts v xs end after → GoOn (numbered E) acts w (x ∷ xs) end after
+GoesOn {W} {S} E acts w x (Ok u) v = (xs : List ℕ) (end : Result (Unit {0}) S) (after : W)
+    → GoOn (numbered E) acts v xs end after → GoOn (numbered E) acts w (x ∷ xs) end after
 GoesOn E acts w x (Err (ends.Stopped why)) v = (xs : List ℕ) → GoOn (numbered E) acts w (x ∷ xs) (Err why) v
 GoesOn E acts w x (Err ends.Memory) v = Unit {0}

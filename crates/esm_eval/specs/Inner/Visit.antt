@@ -16,7 +16,9 @@ is_entered E w x = was_entered (phase E w x)
 
 -- the place of x among these, or one past all where it is none of them
 abbrev pub IsPlace : List ℕ → ℕ → ℕ → Type 0
-IsPlace opened x k = ((slice_get opened k ≡ Some x) × ((j : ℕ) → slice_get opened j ≡ Some x → k ≤ j)) ⊎ ((length opened ≤ k) × (is_in nat_eq opened x ≡ false))
+IsPlace opened x k =
+    ((slice_get opened k ≡ Some x) × ((j : ℕ) → slice_get opened j ≡ Some x → k ≤ j))
+    ⊎ ((length opened ≤ k) × (is_in nat_eq opened x ≡ false))
 
 abbrev pub AllEntered : {W : Type 0} → CodeEvaluation W → W → List ℕ → Type 0
 AllEntered E w xs = (y : ℕ) → is_in nat_eq xs y ≡ true → is_entered E w y ≡ true
@@ -58,15 +60,18 @@ module _ {W : Type 0} (E : CodeEvaluation W) (linked : W → List ℕ) (left : W
 
     -- the target t of a request of x was visited: its error cuts the walk, or x waits for it where it has to
     abbrev pub PassesBy : W → List ℕ → ℕ → ℕ → Result (Unit {0}) (Cut S) → W → Type 0
-    PassesBy w opened x t (Ok u) v = (error_of (numbered E) w t ≡ None) × (v ≡ add_wait (numbered E) w x (wait_on (numbered E) w t)) × Keeps w v
-    PassesBy w opened x t (Err (cuts.Thrown e)) v = (error_of (numbered E) w t ≡ Some (value_of e)) × (v ≡ fail (numbered E) w (value_of e) opened)
+    PassesBy w opened x t (Ok u) v =
+        (error_of (numbered E) w t ≡ None) × (v ≡ add_wait (numbered E) w x (wait_on (numbered E) w t)) × Keeps w v
+    PassesBy w opened x t (Err (cuts.Thrown e)) v =
+        (error_of (numbered E) w t ≡ Some (value_of e)) × (v ≡ fail (numbered E) w (value_of e) opened)
     PassesBy w opened x t (Err (cuts.Stopped why)) v = ⊥
     PassesBy w opened x t (Err cuts.Memory) v = Unit {0}
 
     -- x is left, and what is open fails where its body throws
     abbrev pub LeavesBy : W → List ℕ → ℕ → Result (Unit {0}) (Cut S) → W → Type 0
     LeavesBy w opened x (Ok u) v = Leaves (numbered E) acts w x Ends v × Keeps w v
-    LeavesBy w opened x (Err (cuts.Thrown e)) v = (mid : W) × Leaves (numbered E) acts w x (Throws (value_of e)) mid × (v ≡ fail (numbered E) mid (value_of e) opened)
+    LeavesBy w opened x (Err (cuts.Thrown e)) v =
+        (mid : W) × Leaves (numbered E) acts w x (Throws (value_of e)) mid × (v ≡ fail (numbered E) mid (value_of e) opened)
     LeavesBy w opened x (Err (cuts.Stopped why)) v = Leaves (numbered E) acts w x (Stops why) v
     LeavesBy w opened x (Err cuts.Memory) v = Unit {0}
 
@@ -90,14 +95,18 @@ module _ {W : Type 0} (E : CodeEvaluation W) (linked : W → List ℕ) (left : W
 
     abbrev pub VisitingBy : (ℕ → List ℕ) → List ℕ → W → List ℕ → ℕ → List (Mark ℕ) → List ℕ → Result ℕ (Cut S) → W → List ℕ → Type 0
     VisitingBy to modules w opened x marks seen' (Ok low) v opened' = Landed to modules w opened x marks seen' low v opened'
-    VisitingBy to modules w opened x marks seen' (Err (cuts.Thrown e)) v opened' = (ms : List (Mark ℕ)) → Walking to w opened (marks ++ ms) (Throws (value_of e)) v
-    VisitingBy to modules w opened x marks seen' (Err (cuts.Stopped why)) v opened' = (ms : List (Mark ℕ)) → Walking to w opened (marks ++ ms) (Stops why) v
+    VisitingBy to modules w opened x marks seen' (Err (cuts.Thrown e)) v opened' =
+        (ms : List (Mark ℕ)) → Walking to w opened (marks ++ ms) (Throws (value_of e)) v
+    VisitingBy to modules w opened x marks seen' (Err (cuts.Stopped why)) v opened' =
+        (ms : List (Mark ℕ)) → Walking to w opened (marks ++ ms) (Stops why) v
     VisitingBy to modules w opened x marks seen' (Err cuts.Memory) v opened' = Unit {0}
 
     -- for every walk that a visit of x is amid
     abbrev pub Visiting : W → List ℕ → ℕ → Result ℕ (Cut S) → W → List ℕ → Type 0
-    Visiting w opened x r v opened' = (to : ℕ → List ℕ) (modules : List ℕ) (seen : List ℕ) → Amid to modules seen opened w → is_in nat_eq modules x ≡ true
-        → (marks : List (Mark ℕ)) (seen' : List ℕ) → Visits nat_eq to seen x marks seen' → VisitingBy to modules w opened x marks seen' r v opened'
+    Visiting w opened x r v opened' = (to : ℕ → List ℕ) (modules : List ℕ) (seen : List ℕ)
+        → Amid to modules seen opened w → is_in nat_eq modules x ≡ true
+        → (marks : List (Mark ℕ)) (seen' : List ℕ) → Visits nat_eq to seen x marks seen'
+        → VisitingBy to modules w opened x marks seen' r v opened'
 
     -- amid the loop over the targets of x
     pub record Passed (to : ℕ → List ℕ) (modules : List ℕ) (w : W) (opened : List ℕ) (x : ℕ) (inner : List (Mark ℕ)) (seen' : List ℕ)
@@ -113,5 +122,7 @@ module _ {W : Type 0} (E : CodeEvaluation W) (linked : W → List ℕ) (left : W
           → Walking to w opened (Enter x ∷ (inner ++ ms)) end after
 
     abbrev pub Passing : W → List ℕ → ℕ → W → List ℕ → ℕ → ℕ → Type 0
-    Passing w opened x now open_now i low = (to : ℕ → List ℕ) (modules : List ℕ) (seen : List ℕ) → Amid to modules seen opened w → is_in nat_eq modules x ≡ true
-        → (inner : List (Mark ℕ)) (seen' : List ℕ) → Passes nat_eq to (x ∷ seen) x 0 (to x) inner seen' → Passed to modules w opened x inner seen' now open_now i low
+    Passing w opened x now open_now i low = (to : ℕ → List ℕ) (modules : List ℕ) (seen : List ℕ)
+        → Amid to modules seen opened w → is_in nat_eq modules x ≡ true
+        → (inner : List (Mark ℕ)) (seen' : List ℕ) → Passes nat_eq to (x ∷ seen) x 0 (to x) inner seen'
+        → Passed to modules w opened x inner seen' now open_now i low

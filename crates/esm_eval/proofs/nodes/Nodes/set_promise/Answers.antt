@@ -1,0 +1,20 @@
+use Rattle.std.proofs.Common.{◌≡◌, Some, length, slice_get, refl}
+use Rattle.esm_values.specs.Code.{CodeValue}
+use Rattle.esm_eval.specs.Nodes as nodes
+use Rattle.esm_eval.proofs.Inner.Tables as tables
+use Rattle.esm_eval.proofs.nodes.Nodes.set_promise.Goals as goal
+
+pub returns : goal.returns
+returns c =
+    let ns = c.self.inside.nodes.items in
+    let stamps = c.self.inside.stamps.items in
+    let at : slice_get ns c.args.x ≡ Some c.index_mut.result.now = tables.reads ns (length ns) c.args.x c.index_mut.result.now refl (tables.bound ns stamps c.args.self.now c.args.x c.self.view_is c.requires) c.index_mut.ensures.value in
+    rw (← c.self.view_is) (tables.writes (λ (n : nodes.Node _ CodeValue). record n { promise = Some c.args.promise.0 }) ns stamps c.args.x c.index_mut.result.now (record c.index_mut.result.now { promise = Some c.args.promise }) at refl)
+
+pub invariant_of-self : goal.invariant_of-self
+invariant_of-self c =
+    let ns = c.self.inside.nodes.items in
+    let stamps = c.self.inside.stamps.items in
+    let at : slice_get ns c.args.x ≡ Some c.index_mut.result.now = tables.reads ns (length ns) c.args.x c.index_mut.result.now refl (tables.bound ns stamps c.args.self.now c.args.x c.self.view_is c.requires) c.index_mut.ensures.value in
+    let kept = c.self.invariant.bounded c.args.x c.index_mut.result.now at in
+    tables.keeps ns stamps c.args.x c.index_mut.result.now (record c.index_mut.result.now { promise = Some c.args.promise }) c.self.invariant at (record { root = kept.root; waits = kept.waits; waiters = kept.waiters }) refl

@@ -1,0 +1,197 @@
+// What evaluation keeps of modules.
+ghost use Rattle.std.specs.Prelude.{◌≡◌, ◌<◌, nat_eq, Some, true};
+ghost use Rattle.std.specs.Option.{option_map, option_copied};
+ghost use Rattle.esm_base.specs.Lists.{is_in};
+ghost use Rattle.esm_values.specs.Code.{value_of};
+ghost use Rattle.esm_eval.specs.Nodes as spec;
+ghost use Rattle.esm_eval.specs.Table.{node_at, no_nodes, phase_of, size, with_node};
+
+use esm_base::Memory;
+use esm_values::{PromiseId, Value};
+use std::alloc::Global;
+use std::marker::Model;
+
+/// How far the evaluation of a module has come.
+///
+/// ECMA-262, [[Status]]: before it is entered, loading and linking tell.
+#[derive(Clone, Copy, Debug, PartialEq, Eq)]
+pub enum Phase {
+    /// No evaluation has entered it.
+    NotEntered,
+    /// The walk of an evaluation has it on its stack.
+    Evaluating,
+    /// It waits, or its body awaits.
+    EvaluatingAsync,
+    /// It is evaluated, with or without an error.
+    Evaluated,
+}
+
+/// The fields of a module record that evaluation writes.
+#[derive(Drop)]
+pub(crate) struct Node {
+    pub(crate) phase: Phase,
+    pub(crate) error: Option<Value>,
+    pub(crate) cycle_root: Option<u32>,
+    pub(crate) promise: Option<PromiseId>,
+    pub(crate) done: bool,
+    /// It has an order of asynchronous evaluation.
+    pub(crate) stamped: bool,
+    pub(crate) waits: Vec<u32>,
+    pub(crate) waiters: Vec<u32>,
+}
+
+/// The nodes of modules by their ids, and the modules that have an order of asynchronous evaluation, in that order.
+#[derive(Drop)]
+pub struct Nodes {
+    nodes: Vec<Node>,
+    stamps: Vec<u32>,
+}
+
+impl Model for Nodes {
+    ghost use Rattle.esm_eval.specs.Table.{AreKept, Table, table_of};
+
+    ghost Value = { Table };
+
+    ghost view = { λ n. table_of n.nodes.items n.stamps.items };
+
+    ghost invariant = { λ n. AreKept n.nodes.items n.stamps.items };
+}
+
+impl Nodes {
+    /// Without nodes. It doesn't allocate.
+    pub fn new(alloc: Global) -> Nodes
+        ensures { result ≡ no_nodes }
+    {
+        Nodes {
+            nodes: Vec::new(alloc),
+            stamps: Vec::new(alloc),
+        }
+    }
+
+    /// How far the evaluation of the module has come. A module without a node hasn't been entered.
+    pub fn phase(&self, x: u32) -> Phase
+        ensures { phase_of result ≡ (node_at self.now x).phase }
+    {
+        let at = x as usize;
+        if at < self.nodes.len() {
+            self.nodes[at].phase
+        } else {
+            Phase::NotEntered
+        }
+    }
+
+    /// The module is so far.
+    pub(crate) fn set_phase(&mut self, x: u32, phase: Phase)
+        requires { x < size self.old }
+        ensures { self.new ≡ with_node self.old x
+            (record (node_at self.old x) { phase = phase_of phase }) }
+    {
+        self.nodes[x as usize].phase = phase;
+    }
+
+    /// Whether the module is done: its order of asynchronous evaluation is.
+    pub(crate) fn is_done(&self, x: u32) -> bool
+        ensures { result ≡ (node_at self.now x).done }
+    {
+        let at = x as usize;
+        if at < self.nodes.len() {
+            self.nodes[at].done
+        } else {
+            false
+        }
+    }
+
+    /// Whether the module has an order of asynchronous evaluation.
+    pub(crate) fn is_stamped(&self, x: u32) -> bool
+        ensures { result ≡ is_in nat_eq self.now.stamps x }
+    {
+        let at = x as usize;
+        if at < self.nodes.len() {
+            self.nodes[at].stamped
+        } else {
+            false
+        }
+    }
+
+    /// The promise that the module keeps.
+    pub(crate) fn promise(&self, x: u32) -> Option<PromiseId>
+        ensures { option_map (λ p. p.0) result ≡ (node_at self.now x).promise }
+    {
+        let at = x as usize;
+        if at < self.nodes.len() {
+            self.nodes[at].promise
+        } else {
+            None
+        }
+    }
+
+    /// The module's own error.
+    pub(crate) fn error(&self, x: u32) -> Option<&Value>
+        ensures { option_map value_of (option_copied result) ≡ (node_at self.now x).error }
+    {
+        let at = x as usize;
+        if at < self.nodes.len() {
+            match &self.nodes[at].error {
+                Some(error) => Some(error),
+                None => None,
+            }
+        } else {
+            None
+        }
+    }
+
+    /// The module keeps a promise.
+    pub(crate) fn set_promise(&mut self, x: u32, promise: PromiseId)
+        requires { x < size self.old }
+        ensures { self.new ≡ with_node self.old x
+            (record (node_at self.old x) { promise = Some promise.0 }) }
+    {
+        self.nodes[x as usize].promise = Some(promise);
+    }
+
+    /// The module is taken off the stack, with its cycle root.
+    pub(crate) fn close(&mut self, x: u32, phase: Phase, root: u32)
+        requires has { x < size self.old }
+        requires root { root < size self.old }
+        ensures { self.new ≡ with_node self.old x
+            (record (node_at self.old x) { phase = phase_of phase; cycle_root = Some root }) }
+    {
+        let node = &mut self.nodes[x as usize];
+        node.phase = phase;
+        node.cycle_root = Some(root);
+    }
+
+    /// The module fails on the stack.
+    pub(crate) fn fail(&mut self, x: u32, error: Value)
+        requires { x < size self.old }
+        ensures { self.new ≡ with_node self.old x
+            (record (node_at self.old x) { phase = spec.Evaluated; error = Some (value_of error) }) }
+    {
+        let node = &mut self.nodes[x as usize];
+        node.phase = Phase::Evaluated;
+        node.error = Some(error);
+    }
+
+    /// The module is done, without an error.
+    pub(crate) fn finish(&mut self, x: u32)
+        requires { x < size self.old }
+        ensures { self.new ≡ with_node self.old x
+            (record (node_at self.old x) { phase = spec.Evaluated; done = true }) }
+    {
+        let node = &mut self.nodes[x as usize];
+        node.phase = Phase::Evaluated;
+        node.done = true;
+    }
+
+    /// The module is done, with an error.
+    pub(crate) fn refuse(&mut self, x: u32, error: Value)
+        requires { x < size self.old }
+        ensures { self.new ≡ with_node self.old x
+            (record (node_at self.old x) { phase = spec.Evaluated; error = Some (value_of error); done = true }) }
+    {
+        let node = &mut self.nodes[x as usize];
+        node.phase = Phase::Evaluated;
+        node.error = Some(error);
+        node.done = true;
+    }
+}
