@@ -14,11 +14,10 @@ use Rattle.esm_loads.specs.Load.{Answers}
 use Rattle.esm_loads.specs.Host.{Host, Answered, begin_load, settle_load, with_loading}
 use Rattle.esm_loads.specs.Host.Answered.{answered}
 use Rattle.esm_loads.specs.Arrival.{Next, next, AnswersNext}
-use Rattle.esm_loads.specs.LoadsView.{urls_of, url_at, request_of, request_by}
+use Rattle.esm_loads.specs.LoadsView.{urls_of, url_at, request_of, request_by, before_linking}
 use Rattle.esm_loads.specs.LoadsAsLoading.{loading_of, trees_of}
 use Rattle.esm_loads.specs.Fits.{AreJoined, HaveRecords, RecordsMatch, FitRecords}
 use Rattle.esm_loads.specs.Hosted.{host_of, StopsHost}
-use Rattle.esm_loads.specs.Inner.Steps.{stale}
 use Rattle.esm_loads.specs.Inner.Answering.{KeepsUrls}
 use Rattle.esm_loads.specs.Inner.Stepping.{Settles, IsAnsweredIn, Takes}
 use Rattle.esm_loads.specs.declared.data.Waiting.{Waiting}
@@ -41,7 +40,7 @@ matching_more t new R h k = subst (λ ss. RecordsMatch ss (trees_of new) R) (sym
   entries = h.entries;
 }))
 
-pub fits_after : (t new : Loads) (R R' : List RecordParts) → FitRecords t R → AreJoined new (length R) → KeepsUrls t new → map stale R' ≡ map stale R → FitRecords new R'
+pub fits_after : (t new : Loads) (R R' : List RecordParts) → FitRecords t R → AreJoined new (length R) → KeepsUrls t new → map before_linking R' ≡ map before_linking R → FitRecords new R'
 fits_after t new R R' h j k e = record {
   joined = subst (AreJoined new) (sym (long_stale R R' e)) j;
   matching = matching_stale R R' new.urls.slots (trees_of new) e (matching_more t new R h.matching k);

@@ -12,12 +12,12 @@ use Rattle.esm_realm.specs.declared.record.ModuleStatus.{ModuleStatus}
 use Rattle.esm_realm.specs.declared.record.ModuleStatus.TheVariants.{New, Unlinked, Linking, Linked}
 use Rattle.esm_import_map.specs.ImportMap.{Maps}
 use Rattle.esm_loads.specs.Loading.{Loading, OpenLoad, open_load, finish, finish_by, has_pending, LoadComplete, is_of as asks_of, load_of}
-use Rattle.esm_loads.specs.LoadsView.{urls_of, url_at, at_url, get_by, entries_in, entry_at, entry_by, module_of, tree_at, modules_in, is_in, is_unlinked, is_past_new, load_state, LoadView, request_of, request_by, requests_in, pending_in}
+use Rattle.esm_loads.specs.LoadsView.{urls_of, url_at, at_url, get_by, entries_in, entry_at, entry_by, module_of, tree_at, modules_in, is_in, is_unlinked, is_past_new, load_state, LoadView, request_of, request_by, requests_in, pending_in, before_linking, status_before_linking}
 use Rattle.esm_loads.specs.LoadsAsLoading.{loading_of, trees_of}
 use Rattle.esm_loads.specs.Fits.{AreJoined, HaveRecords, IsLoadWithin, IsStageWithin, RecordsMatch}
 use Rattle.esm_loads.specs.Inner.Flags.{root_in}
 use Rattle.esm_loads.specs.Inner.Requests.{is_of}
-use Rattle.esm_loads.specs.Inner.Steps.{stale, after_load, set_load, is_open_stage}
+use Rattle.esm_loads.specs.Inner.Steps.{after_load, set_load, is_open_stage}
 use Rattle.esm_loads.specs.declared.data.Slot.{Slot}
 use Rattle.esm_loads.specs.declared.data.UrlState.{UrlState}
 use Rattle.esm_loads.specs.declared.data.UrlState.TheVariants as states
@@ -48,10 +48,16 @@ set_unlink [] id x e = cc
 set_unlink (y ∷ xs) zero x e = ap (λ x. unlinked_record (parts_of x) ∷ map parts_of xs) (sym (some_is e))
 set_unlink (y ∷ xs) (suc id) x e = ap (λ rs. parts_of y ∷ rs) (set_unlink xs id x e)
 
-pub stale_unlink : (R : List RecordParts) (id : ℕ) → map stale (unlink_at R id) ≡ map stale R
+status_unlinked : (s : ModuleStatus) → status_before_linking (after_load s) ≡ status_before_linking s
+status_unlinked New = refl
+status_unlinked Unlinked = refl
+status_unlinked Linking = refl
+status_unlinked Linked = refl
+
+pub stale_unlink : (R : List RecordParts) (id : ℕ) → map before_linking (unlink_at R id) ≡ map before_linking R
 stale_unlink [] id = refl
-stale_unlink (r ∷ R) zero = refl
-stale_unlink (r ∷ R) (suc id) = ap (λ rs. stale r ∷ rs) (stale_unlink R id)
+stale_unlink (r ∷ R) zero = ap (λ (status : ModuleStatus). record r { status = status } ∷ map before_linking R) (status_unlinked r.status)
+stale_unlink (r ∷ R) (suc id) = ap (λ rs. before_linking r ∷ rs) (stale_unlink R id)
 
 past : (s : ModuleStatus) → is_past_new (after_load s) ≡ true
 past New = refl
@@ -87,21 +93,21 @@ unlinked_more (q ∷ R) (suc id) zero l = sym (ap (λ b. is_past_new q.status ||
     by false = refl
 unlinked_more (q ∷ R) (suc id) (suc n) l = unlinked_more R id n (omega arith) ∙ ap (λ b. is_unlinked R n || b) (sym (next_same n id))
 
-get_stale : (first R : List RecordParts) → map stale R ≡ map stale first → (id : ℕ) (p : RecordParts) → slice_get first id ≡ Some p → (r : RecordParts) × (slice_get R id ≡ Some r) × (stale r ≡ stale p)
-get_stale first R e id p f = by R id (ap (λ rs. slice_get rs id) e ∙ get_map stale first id p f)
+get_stale : (first R : List RecordParts) → map before_linking R ≡ map before_linking first → (id : ℕ) (p : RecordParts) → slice_get first id ≡ Some p → (r : RecordParts) × (slice_get R id ≡ Some r) × (before_linking r ≡ before_linking p)
+get_stale first R e id p f = by R id (ap (λ rs. slice_get rs id) e ∙ get_map before_linking first id p f)
   where
-    by : (R : List RecordParts) (id : ℕ) → slice_get (map stale R) id ≡ Some (stale p) → (r : RecordParts) × (slice_get R id ≡ Some r) × (stale r ≡ stale p)
+    by : (R : List RecordParts) (id : ℕ) → slice_get (map before_linking R) id ≡ Some (before_linking p) → (r : RecordParts) × (slice_get R id ≡ Some r) × (before_linking r ≡ before_linking p)
     by [] id e = cc
     by (r ∷ R) zero e = (r, refl, some_is e)
     by (r ∷ R) (suc id) e = by R id e
 
-pub kept_stale : (first R : List RecordParts) (ss : List Slot) → map stale R ≡ map stale first → HaveRecords ss first → HaveRecords ss R
+pub kept_stale : (first R : List RecordParts) (ss : List Slot) → map before_linking R ≡ map before_linking first → HaveRecords ss first → HaveRecords ss R
 kept_stale first R ss e h = record { kept = λ k id m. let x = h.kept k id m in let r = get_stale first R e id x.parts x.is in record { parts = r.0; is = r.1; under = ap (λ (r : RecordParts). r.url) r.2 ∙ x.under } }
 
-pub long_stale : (first R : List RecordParts) → map stale R ≡ map stale first → length R ≡ length first
-long_stale first R e = sym (map_long stale R) ∙ (ap length e ∙ map_long stale first)
+pub long_stale : (first R : List RecordParts) → map before_linking R ≡ map before_linking first → length R ≡ length first
+long_stale first R e = sym (map_long before_linking R) ∙ (ap length e ∙ map_long before_linking first)
 
-pub matching_stale : (first R : List RecordParts) (ss : List Slot) (trees : List (List Item)) → map stale R ≡ map stale first → RecordsMatch ss trees first → RecordsMatch ss trees R
+pub matching_stale : (first R : List RecordParts) (ss : List Slot) (trees : List (List Item)) → map before_linking R ≡ map before_linking first → RecordsMatch ss trees first → RecordsMatch ss trees R
 matching_stale first R ss trees e h = record {
   have = kept_stale first R ss e h.have;
   known = λ id r f. let p = get_stale R first (sym e) id r f in h.known id p.0 p.1;
@@ -109,33 +115,33 @@ matching_stale first R ss trees e h = record {
   entries = λ id r tree f g. let p = get_stale R first (sym e) id r f in sym (ap (λ (r : RecordParts). r.entries) p.2) ∙ h.entries id p.0 tree p.1 g;
 }
 
-urls_stale : (R : List RecordParts) → map url_of (map stale R) ≡ map url_of R
+urls_stale : (R : List RecordParts) → map url_of (map before_linking R) ≡ map url_of R
 urls_stale [] = refl
 urls_stale (r ∷ R) = ap (λ us. r.url ∷ us) (urls_stale R)
 
 abbrev Fits : RecordParts → Type 0
 Fits r = IsSoundRecord r.url r.entries r.targets
 
-to_stale : (R : List RecordParts) → All Fits R → All Fits (map stale R)
+to_stale : (R : List RecordParts) → All Fits R → All Fits (map before_linking R)
 to_stale [] h = h
-to_stale (r ∷ R) h = All-cons Fits (stale r) (map stale R) (All-head Fits r R h) (to_stale R (All-tail Fits r R h))
+to_stale (r ∷ R) h = All-cons Fits (before_linking r) (map before_linking R) (All-head Fits r R h) (to_stale R (All-tail Fits r R h))
 
-from_stale : (R : List RecordParts) → All Fits (map stale R) → All Fits R
+from_stale : (R : List RecordParts) → All Fits (map before_linking R) → All Fits R
 from_stale [] h = h
-from_stale (r ∷ R) h = All-cons Fits r R (All-head Fits (stale r) (map stale R) h) (from_stale R (All-tail Fits (stale r) (map stale R) h))
+from_stale (r ∷ R) h = All-cons Fits r R (All-head Fits (before_linking r) (map before_linking R) h) (from_stale R (All-tail Fits (before_linking r) (map before_linking R) h))
 
 abbrev HasLoaded : ℕ → RecordParts → Type 0
 HasLoaded n r = AreLoaded n r.entries r.loaded
 
-loaded_to_stale : (n : ℕ) (R : List RecordParts) → All (HasLoaded n) R → All (HasLoaded n) (map stale R)
+loaded_to_stale : (n : ℕ) (R : List RecordParts) → All (HasLoaded n) R → All (HasLoaded n) (map before_linking R)
 loaded_to_stale n [] h = h
-loaded_to_stale n (r ∷ R) h = All-cons (HasLoaded n) (stale r) (map stale R) (All-head (HasLoaded n) r R h) (loaded_to_stale n R (All-tail (HasLoaded n) r R h))
+loaded_to_stale n (r ∷ R) h = All-cons (HasLoaded n) (before_linking r) (map before_linking R) (All-head (HasLoaded n) r R h) (loaded_to_stale n R (All-tail (HasLoaded n) r R h))
 
-loaded_from_stale : (n : ℕ) (R : List RecordParts) → All (HasLoaded n) (map stale R) → All (HasLoaded n) R
+loaded_from_stale : (n : ℕ) (R : List RecordParts) → All (HasLoaded n) (map before_linking R) → All (HasLoaded n) R
 loaded_from_stale n [] h = h
-loaded_from_stale n (r ∷ R) h = All-cons (HasLoaded n) r R (All-head (HasLoaded n) (stale r) (map stale R) h) (loaded_from_stale n R (All-tail (HasLoaded n) (stale r) (map stale R) h))
+loaded_from_stale n (r ∷ R) h = All-cons (HasLoaded n) r R (All-head (HasLoaded n) (before_linking r) (map before_linking R) h) (loaded_from_stale n R (All-tail (HasLoaded n) (before_linking r) (map before_linking R) h))
 
-pub sound_stale : (first R : List RecordParts) → map stale R ≡ map stale first → IsSound first → IsSound R
+pub sound_stale : (first R : List RecordParts) → map before_linking R ≡ map before_linking first → IsSound first → IsSound R
 sound_stale first R e h = record {
   few = let f = long_stale first R e in omega (arith, f, h.few);
   differ = subst AreDistinct (sym (urls_stale first) ∙ (ap (map url_of) (sym e) ∙ urls_stale R)) h.differ;
@@ -144,25 +150,25 @@ sound_stale first R e h = record {
 }
 
 module _ (trees : List (List Item)) where
-  entry_stale : (R : List RecordParts) (state : UrlState) → entry_at trees (map stale R) state ≡ entry_at trees R state
+  entry_stale : (R : List RecordParts) (state : UrlState) → entry_at trees (map before_linking R) state ≡ entry_at trees R state
   entry_stale R states.Open = refl
   entry_stale R states.Failed = refl
   entry_stale R (states.Broken error) = refl
   entry_stale R (states.Module id) = by R id.0
     where
-      by : (R : List RecordParts) (n : ℕ) → module_of (tree_at trees id.0) (slice_get (map stale R) n) ≡ module_of (tree_at trees id.0) (slice_get R n)
+      by : (R : List RecordParts) (n : ℕ) → module_of (tree_at trees id.0) (slice_get (map before_linking R) n) ≡ module_of (tree_at trees id.0) (slice_get R n)
       by [] n = refl
       by (r ∷ R) zero = refl
       by (r ∷ R) (suc n) = by R n
 
-  entries_by : (R : List RecordParts) (ss : List Slot) → entries_in trees (map stale R) ss ≡ entries_in trees R ss
+  entries_by : (R : List RecordParts) (ss : List Slot) → entries_in trees (map before_linking R) ss ≡ entries_in trees R ss
   entries_by R ss = λ i u. by (at_url (urls_of ss) ss u) i
     where
-      by : (o : Option Slot) → entry_by trees (map stale R) o ≡ entry_by trees R o
+      by : (o : Option Slot) → entry_by trees (map before_linking R) o ≡ entry_by trees R o
       by None = refl
       by (Some s) = entry_stale R s.state
 
-  pub entries_stale : (first R : List RecordParts) (ss : List Slot) → map stale R ≡ map stale first → entries_in trees R ss ≡ entries_in trees first ss
+  pub entries_stale : (first R : List RecordParts) (ss : List Slot) → map before_linking R ≡ map before_linking first → entries_in trees R ss ≡ entries_in trees first ss
   entries_stale first R ss e = sym (entries_by R ss) ∙ (ap (λ rs. entries_in trees rs ss) e ∙ entries_by first ss)
 
 -- one more of the modules is Unlinked
@@ -217,7 +223,7 @@ pending_are maps R t n s j = any_same (λ u. list_any (asks_of s) (pending_in us
 
 -- ---- the end of a load
 
-pub finish_is : (maps : Maps) (t : Loads) (n : ℕ) (R R' : List RecordParts) (s : ℕ) (l : LoadView) (root : ℕ) → AreJoined t n → slice_get t.loads.items s ≡ Some l → l.stage ≡ stages.Open root → list_any (list_any (is_of s)) t.queues.queues ≡ false → map stale R' ≡ map stale R
+pub finish_is : (maps : Maps) (t : Loads) (n : ℕ) (R R' : List RecordParts) (s : ℕ) (l : LoadView) (root : ℕ) → AreJoined t n → slice_get t.loads.items s ≡ Some l → l.stage ≡ stages.Open root → list_any (list_any (is_of s)) t.queues.queues ≡ false → map before_linking R' ≡ map before_linking R
     → ((id : ℕ) → is_unlinked R' id ≡ (is_unlinked R id || is_in l.visited id)) → loading_of maps (set_load t s (record l { stage = stages.Complete root })) R' ≡ finish (loading_of maps t R) s
 finish_is maps t n R R' s l root j at e none same unlinked =
     let ss = t.urls.slots in

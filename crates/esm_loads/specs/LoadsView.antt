@@ -8,7 +8,7 @@ use Rattle.esm_tree.specs.Syntax.{Item, Parts}
 use Rattle.esm_base.specs.Urls.{Url, same_url}
 use Rattle.esm_realm.specs.Sound.{RecordParts}
 use Rattle.esm_realm.specs.declared.record.ModuleStatus.{ModuleStatus}
-use Rattle.esm_realm.specs.declared.record.ModuleStatus.TheVariants.{New}
+use Rattle.esm_realm.specs.declared.record.ModuleStatus.TheVariants.{New, Unlinked, Linking, Linked}
 use Rattle.esm_loads.specs.UrlTable.{TableEntry, Entries, Failed, Broken, Module, Throw, fetch_error}
 use Rattle.esm_loads.specs.UrlTable as table
 use Rattle.esm_loads.specs.Loading as loading
@@ -131,6 +131,17 @@ is_unlinked_by (Some r) = is_past_new r.status
 
 abbrev pub is_unlinked : List RecordParts → ℕ → Bool
 is_unlinked records id = is_unlinked_by (slice_get records id)
+
+-- New and Unlinked are one status here
+abbrev pub status_before_linking : ModuleStatus → ModuleStatus
+status_before_linking New = New
+status_before_linking Unlinked = New
+status_before_linking Linking = Linking
+status_before_linking Linked = Linked
+
+-- a record, but for whether it is New or Unlinked
+abbrev pub before_linking : RecordParts → RecordParts
+before_linking r = record r { status = status_before_linking r.status }
 
 -- ---- requests and loads
 

@@ -5,10 +5,10 @@ ghost use Rattle.esm_import_map.specs.ImportMap.{Maps};
 ghost use Rattle.esm_loads.specs.Load.{Enters};
 ghost use Rattle.esm_loads.specs.Loading.{Loading, begin as begun, finish as finished};
 ghost use Rattle.esm_loads.specs.UrlTable.{TableEntry};
-ghost use Rattle.esm_loads.specs.LoadsView.{LoadView, urls_of, url_at, is_in, is_unlinked, request_of, is_open};
+ghost use Rattle.esm_loads.specs.LoadsView.{LoadView, urls_of, url_at, is_in, is_unlinked, request_of, is_open, before_linking};
 ghost use Rattle.esm_loads.specs.LoadsAsLoading.{loading_of};
 ghost use Rattle.esm_loads.specs.Fits.{AreBelow, AreJoined, HaveRecords, IsModuleAt};
-ghost use Rattle.esm_loads.specs.Inner.Steps.{IsLoading, Grown, set_load, stale, after_load};
+ghost use Rattle.esm_loads.specs.Inner.Steps.{IsLoading, Grown, set_load, after_load};
 ghost use Rattle.esm_loads.specs.Inner.Flags.{begun_record};
 ghost use Rattle.esm_loads.specs.Inner.Stops.{StopsIn};
 ghost use Rattle.esm_loads.specs.Inner.Answering.{Reaches, IsAnswered, MayGoOn, StopsAnswer, KeepsUrls};
@@ -38,7 +38,8 @@ fn unlink_one(status: &mut ModuleStatus)
 // Those of these modules that are New become Unlinked.
 fn unlink(ids: &[u32], realm: &mut Realm)
     requires { AreBelow (length (records_of realm.old)) ids.now }
-    ensures same { map stale (records_of realm.new) ≡ map stale (records_of realm.old) }
+    ensures same { map before_linking (records_of realm.new)
+        ≡ map before_linking (records_of realm.old) }
     ensures unlinked { (id : ℕ) → is_unlinked (records_of realm.new) id
         ≡ (is_unlinked (records_of realm.old) id || is_in ids.now id) }
 {
@@ -55,7 +56,8 @@ pub fn finish(loads: &mut Loads, realm: &mut Realm, load: usize)
     ensures finishes { (maps : Maps) → loading_of maps loads.new (records_of realm.new)
         ≡ finished (loading_of maps loads.old (records_of realm.old)) load }
     ensures joined { AreJoined loads.new (length (records_of realm.old)) }
-    ensures same { map stale (records_of realm.new) ≡ map stale (records_of realm.old) }
+    ensures same { map before_linking (records_of realm.new)
+        ≡ map before_linking (records_of realm.old) }
     ensures kept { KeepsUrls loads.old loads.new }
 {
     match loads.loads[load].open_root() {
@@ -98,7 +100,8 @@ fn reach(
         (loading_of maps loads.new (records_of realm.new))
         ) }
     ensures joined { OnOk result (AreJoined loads.new (length (records_of realm.old))) }
-    ensures same { map stale (records_of realm.new) ≡ map stale (records_of realm.old) }
+    ensures same { map before_linking (records_of realm.new)
+        ≡ map before_linking (records_of realm.old) }
     ensures kept { OnOk result (KeepsUrls loads.old loads.new) }
     ensures limit { (maps : Maps) → StopsIn result (
         Enters (loading_of maps loads.old (records_of realm.old)) load
@@ -133,7 +136,8 @@ fn begin_and_reach(
         (loading_of maps loads.new (records_of realm.new))
         ) }
     ensures joined { OnOk result (AreJoined loads.new (length (records_of realm.old))) }
-    ensures same { map stale (records_of realm.new) ≡ map stale (records_of realm.old) }
+    ensures same { map before_linking (records_of realm.new)
+        ≡ map before_linking (records_of realm.old) }
     ensures kept { OnOk result (KeepsUrls loads.old loads.new) }
     ensures limit { (maps : Maps) → StopsIn result (
         Enters (begun (loading_of maps loads.old (records_of realm.old)) load
@@ -169,7 +173,8 @@ pub fn answer(
         (loading_of maps loads.new (records_of realm.new))
         ) }
     ensures joined { OnOk result (AreJoined loads.new (length (records_of realm.old))) }
-    ensures same { map stale (records_of realm.new) ≡ map stale (records_of realm.old) }
+    ensures same { map before_linking (records_of realm.new)
+        ≡ map before_linking (records_of realm.old) }
     ensures kept { OnOk result (KeepsUrls loads.old loads.new) }
     ensures limit { (maps : Maps) → StopsAnswer result
         (loading_of maps loads.old (records_of realm.old))

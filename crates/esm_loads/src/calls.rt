@@ -1,11 +1,12 @@
 // The calls of several loads.
-ghost use Rattle.std.specs.Prelude.{◌≡◌, ℕ, [], List, None, Some, Ok, Err, OnOk, true, false};
+ghost use Rattle.std.specs.Prelude.{◌≡◌, ℕ, [], List, map, None, Some, Ok, Err, OnOk, true, false};
 ghost use Rattle.esm_base.specs.declared.limits.Limit.{Limit};
 ghost use Rattle.esm_base.specs.declared.end.End.TheVariants.{Fault};
 ghost use Rattle.esm_base.specs.Urls.{Url, IsUsable};
 ghost use Rattle.esm_import_map.specs.ImportMap.{Maps};
 ghost use Rattle.esm_realm.specs.Sound.{IsSound, RecordParts, records_of};
 ghost use Rattle.esm_loads.specs.Arrival.{AnswersNext, next, open_asks};
+ghost use Rattle.esm_loads.specs.LoadsView.{before_linking};
 ghost use Rattle.esm_loads.specs.LoadsAsLoading.{asks_entry, loading_of, no_loading};
 ghost use Rattle.esm_loads.specs.Fits.{FitRecords, IsFetching};
 ghost use Rattle.esm_loads.specs.Hosted.{host_of, StopsHost};
@@ -17,11 +18,13 @@ use crate::data::Purpose;
 use crate::loads::Loads;
 use crate::queues::Queues;
 use crate::stepping::answer_next;
+use esm_ast::Tree;
 use esm_base::{Memory, Text};
 use esm_promise::Promises;
 use esm_realm::Realm;
 use esm_values::{Errors, PromiseId};
 use std::alloc::Global;
+use std::sync::Arc;
 
 impl Loads {
     /// The loads that have asked for nothing. It takes no memory.
@@ -99,9 +102,18 @@ impl Loads {
             (host_of named promises.old errors.old
             (loading_of maps self.old (records_of realm.old)))) }
         ensures fits { OnOk result (FitRecords self.new (records_of realm.new)) }
+        ensures records { map before_linking (records_of realm.new)
+            ≡ map before_linking (records_of realm.old) }
         ensures sound { IsSound (records_of realm.new) }
     {
         answer_next(self, realm, promises, errors)
+    }
+
+    /// The tree of each module, in order of ids. It takes no memory.
+    pub fn trees(&self) -> &[Arc<Tree>]
+        ensures { result.now ≡ self.now.trees.items }
+    {
+        self.trees.as_slice()
     }
 
     /// The URLs that are asked and not fetched, in order of asking. It takes no memory.

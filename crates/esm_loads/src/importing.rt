@@ -1,8 +1,9 @@
 // The load of an `import()` asks for its root, or is answered at once. ECMA-262, ContinueDynamicImport.
-ghost use Rattle.std.specs.Prelude.{◌≡◌, ℕ, length, None, IfSome, OnOk};
+ghost use Rattle.std.specs.Prelude.{◌≡◌, ℕ, length, map, None, IfSome, OnOk};
 ghost use Rattle.esm_base.specs.Urls.{Url, IsUsable};
 ghost use Rattle.esm_realm.specs.Sound.{IsSound, records_of};
 ghost use Rattle.esm_import_map.specs.ImportMap.{Maps};
+ghost use Rattle.esm_loads.specs.LoadsView.{before_linking};
 ghost use Rattle.esm_loads.specs.LoadsAsLoading.{loading_of};
 ghost use Rattle.esm_loads.specs.Fits.{FitRecords, IsFetching};
 ghost use Rattle.esm_loads.specs.Hosted.{host_of, IsRooted};
@@ -52,6 +53,8 @@ pub fn import_url(
         promise.0 url.now result
         (host_of named promises.new errors.new (loading_of maps loads.new (records_of realm.new))) }
     ensures fits { OnOk result (FitRecords loads.new (records_of realm.new)) }
+    ensures same { map before_linking (records_of realm.new)
+        ≡ map before_linking (records_of realm.old) }
     ensures sound { IsSound (records_of realm.new) }
 {
     let load = match add_load(loads, Purpose::ForImport(promise, None)) {

@@ -11,12 +11,11 @@ ghost use Rattle.esm_loads.specs.Loading.{Root};
 ghost use Rattle.esm_loads.specs.Host as host;
 ghost use Rattle.esm_loads.specs.Host.{Host, Answered};
 ghost use Rattle.esm_loads.specs.Arrival.{AnswersNext, next};
-ghost use Rattle.esm_loads.specs.LoadsView.{urls_of, url_at, request_of, is_open};
+ghost use Rattle.esm_loads.specs.LoadsView.{urls_of, url_at, request_of, is_open, before_linking};
 ghost use Rattle.esm_loads.specs.LoadsAsLoading.{loading_of, trees_of};
 ghost use Rattle.esm_loads.specs.Fits.{AreJoined, FitRecords, HaveRecords};
 ghost use Rattle.esm_loads.specs.declared.data.Slot.{Slot};
 ghost use Rattle.esm_loads.specs.Hosted.{host_of, StopsHost};
-ghost use Rattle.esm_loads.specs.Inner.Steps.{stale};
 ghost use Rattle.esm_loads.specs.Inner.Answering.{MayGoOn};
 ghost use Rattle.esm_loads.specs.Inner.Stepping.{Takes, NothingPending, IsBegun, IsSettled, IsAnsweredIn, BeginsBy};
 
@@ -132,6 +131,8 @@ fn respond_to(
         loads.old promises.old errors.old (records_of realm.old) waiting place
         result loads.new promises.new errors.new (records_of realm.new) }
     ensures fits { OnOk result (FitRecords loads.new (records_of realm.new)) }
+    ensures same { map before_linking (records_of realm.new)
+        ≡ map before_linking (records_of realm.old) }
     ensures sound { IsSound (records_of realm.new) }
 {
     match answer(loads, realm, waiting, place) {
@@ -162,6 +163,8 @@ pub fn respond(
         loads.old promises.old errors.old (records_of realm.old) waiting place
         result loads.new promises.new errors.new (records_of realm.new) }
     ensures fits { OnOk result (FitRecords loads.new (records_of realm.new)) }
+    ensures same { map before_linking (records_of realm.new)
+        ≡ map before_linking (records_of realm.old) }
     ensures sound { IsSound (records_of realm.new) }
 {
     match waiting.requester {
@@ -208,6 +211,8 @@ pub fn answer_next(
     ensures limit { (named : ℕ → Url) (maps : Maps) → StopsHost result (AnswersNext
         (host_of named promises.old errors.old (loading_of maps loads.old (records_of realm.old)))) }
     ensures fits { OnOk result (FitRecords loads.new (records_of realm.new)) }
+    ensures same { map before_linking (records_of realm.new)
+        ≡ map before_linking (records_of realm.old) }
     ensures sound { IsSound (records_of realm.new) }
 {
     let place = loads.delivered;

@@ -2,7 +2,6 @@
 use Rattle.std.specs.Prelude.{◌≡◌, ℕ, suc, zero, ◌++◌, ◌≤◌, Bool, true, false, All, List, [], ◌∷◌, length, slice_get, Option, Some, None}
 use Rattle.std.specs.Vec.{with_item}
 use Rattle.esm_base.specs.Urls.{Url}
-use Rattle.esm_realm.specs.Sound.{RecordParts}
 use Rattle.esm_realm.specs.declared.record.ModuleStatus.{ModuleStatus}
 use Rattle.esm_realm.specs.declared.record.ModuleStatus.TheVariants.{New, Unlinked, Linking, Linked}
 use Rattle.esm_loads.specs.LoadsView.{is_open, is_in, LoadView}
@@ -95,10 +94,6 @@ pub record Grown (records s : ℕ) (old new : Loads) : Type 0 where
   pub bytes : new.urls.bytes ≡ old.urls.bytes
   pub loads : length new.loads.items ≡ length old.loads.items
   pub fresh : freshness records s new ≤ freshness records s old
-
--- all of a record but its status
-abbrev pub stale : RecordParts → RecordParts
-stale r = record r { status = New }
 
 -- a New module becomes Unlinked
 abbrev pub after_load : ModuleStatus → ModuleStatus

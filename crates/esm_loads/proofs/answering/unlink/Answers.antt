@@ -2,8 +2,7 @@
 use Rattle.std.proofs.Common.{◌≡◌, ◌<◌, ◌∙◌, ap, length, map, arith}
 use Rattle.std.specs.Prelude.{◌||◌, slice_index_or, slice_set}
 use Rattle.esm_realm.specs.Sound.{records_of, parts_of}
-use Rattle.esm_loads.specs.LoadsView.{is_in, is_unlinked}
-use Rattle.esm_loads.specs.Inner.Steps.{stale}
+use Rattle.esm_loads.specs.LoadsView.{is_in, is_unlinked, before_linking}
 use Rattle.esm_loads.proofs.Places.{index_get, get_at, map_long}
 use Rattle.esm_loads.proofs.Unlinks as facts
 use Rattle.esm_loads.proofs.answering.unlink.Goals as goal
@@ -27,7 +26,7 @@ loop-i-preserved c =
     let now : map parts_of (slice_set xs id (record r { status = c.unlink_one.new.status })) ≡ facts.unlink_at R id =
     ap (λ s. map parts_of (slice_set xs id (record r { status = s }))) c.unlink_one.ensures ∙ facts.set_unlink xs id r there in
     record {
-      same = ap (map stale) now ∙ (facts.stale_unlink R id ∙ c.loop-i.invariant.same);
+      same = ap (map before_linking) now ∙ (facts.stale_unlink R id ∙ c.loop-i.invariant.same);
       unlinked = λ n. ap (λ rs. is_unlinked rs n) now ∙ facts.one_more (records_of c.args.realm.now) R c.args.ids.now c.loop-i.i id c.loop-i.invariant.unlinked (get_at c.args.ids.now c.loop-i.i 0 c.loop-i-test.true) (omega (arith, below, long)) n;
     }
 
