@@ -7,39 +7,31 @@ use Rattle.esm_realm.proofs.HasWalks.{left, left_less}
 use Rattle.esm_realm.proofs.Urls.{cases, not_both}
 use Rattle.esm_realm.proofs.Lists.{either, in_first, in_later, in_cons}
 use Rattle.esm_eval.specs.Nodes.{Phase, NotEntered, Evaluating, EvaluatingAsync, Evaluated}
-use Rattle.esm_eval.specs.Evaluation.{Evaluation, IsLawful, phase, waits, is_done, is_stamped, root_of}
+use Rattle.esm_eval.specs.Evaluation.{Evaluation, IsLawful, waits, is_done, is_stamped}
 use Rattle.esm_eval.specs.BodyEnd.{IsReady, AreOver, ReadyAmong}
+use Rattle.esm_eval.specs.Inner.Ready.{is_async, no_error}
+use Rattle.esm_eval.specs.Inner.Ready as test
 use Rattle.esm_eval.proofs.HasMarks.{first_has, others_have}
 
-abbrev is_async : Phase → Bool
-is_async EvaluatingAsync = true
-is_async NotEntered = false
-is_async Evaluating = false
-is_async Evaluated = false
-
-async_is : (p : Phase) → is_async p ≡ true → p ≡ EvaluatingAsync
+pub async_is : (p : Phase) → is_async p ≡ true → p ≡ EvaluatingAsync
 async_is EvaluatingAsync h = refl
 async_is NotEntered h = cc
 async_is Evaluating h = cc
 async_is Evaluated h = cc
 
-abbrev no_error : {V : Type 0} → Option V → Bool
-no_error None = true
-no_error (Some v) = false
-
-error_is : {V : Type 0} (e : Option V) → no_error e ≡ true → e ≡ None
+pub error_is : {V : Type 0} (e : Option V) → no_error e ≡ true → e ≡ None
 error_is None h = refl
 error_is (Some v) h = cc
 
-both : (a b : Bool) → (a && b) ≡ true → (a ≡ true) × (b ≡ true)
+pub both : (a b : Bool) → (a && b) ≡ true → (a ≡ true) × (b ≡ true)
 both true b h = (refl, h)
 both false b h = cc
 
-and_true : (a b : Bool) → a ≡ true → b ≡ true → (a && b) ≡ true
+pub and_true : (a b : Bool) → a ≡ true → b ≡ true → (a && b) ≡ true
 and_true true b h k = k
 and_true false b h k = cc
 
-not_is : (a : Bool) → not a ≡ true → a ≡ false
+pub not_is : (a : Bool) → not a ≡ true → a ≡ false
 not_is true h = cc
 not_is false h = refl
 
@@ -47,7 +39,7 @@ is_not : (a : Bool) → a ≡ false → not a ≡ true
 is_not true h = cc
 is_not false h = refl
 
-or_either : (a b : Bool) → (a || b) ≡ true → (a ≡ true) ⊎ (b ≡ true)
+pub or_either : (a b : Bool) → (a || b) ≡ true → (a ≡ true) ⊎ (b ≡ true)
 or_either true b h = inl refl
 or_either false b h = inr h
 
@@ -60,19 +52,16 @@ or_second true b h = refl
 or_second false b h = h
 
 module _ {N V W : Type 0} (E : Evaluation N V W) (L : IsLawful E) (w : W) where
-  abbrev In : List N → N → Type 0
+  abbrev pub In : List N → N → Type 0
   In xs y = is_in E.same xs y ≡ true
 
-  -- each of these is done, or among those that are known to be ready and doesn't await
   abbrev over : List N → List N → Bool
-  over known [] = true
-  over known (y ∷ ys) = (is_done E w y || (not (E.awaits w y) && is_in E.same known y)) && over known ys
+  over known ys = test.over E w known ys
 
-  -- x is ready where these are
   abbrev ready_by : List N → N → Bool
-  ready_by known x = is_stamped E w x && (is_async (phase E w x) && (not (E.begun w x) && (no_error (E.node w (root_of E w x)).error && over known (waits E w x))))
+  ready_by known x = test.ready_by E w known x
 
-  abbrev AreReady : List N → Type 0
+  abbrev pub AreReady : List N → Type 0
   AreReady known = (y : N) → In known y → IsReady E w y
 
   one_over : (known ys : List N) (y : N) → AreReady known → (is_done E w y || (not (E.awaits w y) && is_in E.same known y)) ≡ true → AreOver E w ys → AreOver E w (y ∷ ys)
@@ -83,7 +72,7 @@ module _ {N V W : Type 0} (E : Evaluation N V W) (L : IsLawful E) (w : W) where
   are_over known r [] h = AreOver.none
   are_over known r (y ∷ ys) h = let b = both _ _ h in one_over known ys y r b.0 (are_over known r ys b.1)
 
-  is_ready : (known : List N) → AreReady known → (x : N) → ready_by known x ≡ true → IsReady E w x
+  pub is_ready : (known : List N) → AreReady known → (x : N) → ready_by known x ≡ true → IsReady E w x
   is_ready known r x h =
       let a = both _ _ h in
       let b = both _ _ a.1 in
@@ -92,7 +81,7 @@ module _ {N V W : Type 0} (E : Evaluation N V W) (L : IsLawful E) (w : W) where
       IsReady.ready a.0 (async_is _ b.0) (not_is _ c.0) (error_is _ d.0) (are_over known r (waits E w x) d.1)
 
   -- no module that is ready where these are is missing
-  abbrev IsWhole : List N → Type 0
+  abbrev pub IsWhole : List N → Type 0
   IsWhole known = (x : N) → is_stamped E w x ≡ true → ready_by known x ≡ true → In known x
 
   async_true : (p : Phase) → p ≡ EvaluatingAsync → is_async p ≡ true
@@ -102,7 +91,7 @@ module _ {N V W : Type 0} (E : Evaluation N V W) (L : IsLawful E) (w : W) where
   error_none e h = ap no_error h
 
   mutual
-    ready_in : (known : List N) (h : IsWhole known) {x : N} → IsReady E w x → In known x
+    pub ready_in : (known : List N) (h : IsWhole known) {x : N} → IsReady E w x → In known x
     ready_in known h (IsReady.ready {x = x} s p b e o) =
         h x s (and_true _ _ s (and_true _ _ (async_true _ p) (and_true _ _ (is_not _ b) (and_true _ _ (error_none _ e) (over_in known h o)))))
 

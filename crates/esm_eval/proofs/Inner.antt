@@ -4,3 +4,6 @@ pub mod Root
 pub mod LateSteps
 pub mod Onces
 pub mod Tables
+pub mod Growth
+pub mod Begun
+pub mod Due

@@ -37,7 +37,7 @@ module _ {N V W : Type 0} (E : Evaluation N V W) (L : IsLawful E) where
   pub quiet_alike : (w v : W) → IsAlike E w v → IsQuiet w v
   quiet_alike w v a = record { stamps = a.stamps; begun = a.begun }
 
-  quiet_close : (x : N) (ys : List N) (w : W) → IsQuiet w (close E w x ys)
+  pub quiet_close : (x : N) (ys : List N) (w : W) → IsQuiet w (close E w x ys)
   quiet_close x [] w = quiet_same w
   quiet_close x (y ∷ ys) w =
       let n : Node N V = record (E.node w y) { phase = closed_phase E (is_stamped E w y); cycle_root = Some x } in
@@ -49,7 +49,7 @@ module _ {N V W : Type 0} (E : Evaluation N V W) (L : IsLawful E) where
       let n : Node N V = record (E.node w y) { phase = Evaluated; error = Some v } in
       quiet_on w (E.put w y n) (fail E (E.put w y n) v ys) (quiet_put w y n) (quiet_fail v ys (E.put w y n))
 
-  quiet_wait : (w : W) (x : N) (o : Option N) → IsQuiet w (add_wait E w x o)
+  pub quiet_wait : (w : W) (x : N) (o : Option N) → IsQuiet w (add_wait E w x o)
   quiet_wait w x None = quiet_same w
   quiet_wait w x (Some y) = quiet_on w (put_wait E w x y) (add_wait E w x (Some y)) (quiet_put w x _) (quiet_put (put_wait E w x y) y _)
 

@@ -15,7 +15,7 @@ use Rattle.esm_eval.proofs.WaitsStayOpen.{opens}
 use Rattle.esm_eval.proofs.Once.{IsQuiet, quiet_on, quiet_put, quiet_same, quiet_alike, once_run, once_start, run_of, start_of, CallOf, evaluates_once, evaluates_keeps_unbegun}
 
 module _ {N V W : Type 0} (E : Evaluation N V W) (L : IsLawful E) where
-  quiet_finish : (w : W) (x : N) → IsQuiet E L w (finish E w x)
+  pub quiet_finish : (w : W) (x : N) → IsQuiet E L w (finish E w x)
   quiet_finish w x =
       let v : W = E.put w x (record (E.node w x) { phase = Evaluated; done = true }) in
       quiet_on E L w v (finish E w x) (quiet_put E L w x _) (quiet_alike E L v (finish E w x) (kept_alike E L v (E.node w x).promise))
@@ -26,7 +26,7 @@ module _ {N V W : Type 0} (E : Evaluation N V W) (L : IsLawful E) where
       quiet_on E L w v (refuse E w x u) (quiet_put E L w x _) (quiet_alike E L v (refuse E w x u) (refused_alike E L v (E.node w x).promise u))
 
   mutual
-    quiet_rejects : {w : W} {x : N} {u : V} {v : W} → Rejects E w x u v → IsQuiet E L w v
+    pub quiet_rejects : {w : W} {x : N} {u : V} {v : W} → Rejects E w x u v → IsQuiet E L w v
     quiet_rejects {w} (Rejects.over h) = quiet_same E L w
     quiet_rejects {w} {x} {u} {v} (Rejects.rejects n p) = quiet_on E L w (refuse E w x u) v (quiet_refuse w x u) (quiet_rejects_all p)
 
@@ -109,6 +109,10 @@ module _ {N V W S : Type 0} (E : Evaluation N V W) (acts : BodyCalls N V W S) (L
   unfolding Unbegun
   ready_once w m xs u r =
       (among_distinct E L r (subst (λ zs. EachOnce E.same zs) (sym (quiet_finish E L w m).stamps) u.distinct), λ y h. ready_unbegun E L (among_ready E L r y h))
+
+  pub ready_each : (w : W) (m : N) (xs : List N) → HaveBegunOnce E w → ReadyAmong E (finish E w m) (E.stamps (finish E w m)) xs → EachOnce E.same xs × ((y : N) → In E xs y → E.begun (finish E w m) y ≡ false)
+  unfolding Unbegun
+  ready_each w m xs u r = ready_once w m xs u r
 
   pub fulfills_once : (w after : W) (m : N) (a : Result (Unit {0}) S) → HaveBegunOnce E w → Fulfills E acts w m a after → Fulfills E (First E acts) w m a after
   fulfills_once w after m a u (Fulfills.over h) = Fulfills.over h

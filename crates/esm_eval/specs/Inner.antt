@@ -1,2 +1,3 @@
 pub mod Visit
 pub mod Ends
+pub mod Ready

@@ -1,5 +1,5 @@
 -- What evaluation keeps of modules in the code, as a table of nodes by the numbers of modules.
-use Rattle.std.specs.Prelude.{◌≡◌, ◌<◌, ℕ, zero, suc, nat_eq, List, [], ◌∷◌, map, length, slice_get, Option, Some, None}
+use Rattle.std.specs.Prelude.{◌≡◌, ◌<◌, ℕ, zero, suc, nat_eq, List, [], ◌∷◌, ◌++◌, map, length, slice_get, Option, Some, None}
 use Rattle.std.specs.Option.{option_map}
 use Rattle.esm_base.specs.Lists.{is_in}
 use Rattle.esm_values.specs.Code.{CodeValue, value_of}
@@ -57,6 +57,14 @@ with_node t x n = record t { nodes = put_at t.nodes x n }
 
 abbrev pub size : Table → ℕ
 size t = length t.nodes
+
+-- with one node more, in which nothing is written
+abbrev pub with_one : Table → Table
+with_one t = record t { nodes = t.nodes ++ untouched ∷ [] }
+
+-- the module has the next order
+abbrev pub with_stamp : Table → ℕ → Table
+with_stamp t x = record t { stamps = t.stamps ++ x ∷ [] }
 
 -- the modules that a node names have nodes
 pub record IsBounded (size : ℕ) (n : Node) : Type 0 where

@@ -1,10 +1,12 @@
 // What evaluation keeps of modules.
-ghost use Rattle.std.specs.Prelude.{◌≡◌, ◌<◌, nat_eq, Some, true};
-ghost use Rattle.std.specs.Option.{option_map, option_copied};
+ghost use Rattle.std.specs.Prelude.{◌≡◌, ◌<◌, ◌++◌, [], ◌∷◌, nat_eq, length, slice_get, Some, true, not, IsTrue, OnOk, OnErr};
+ghost use Rattle.std.specs.Option.{option_map, option_copied, unwrap_or};
 ghost use Rattle.esm_base.specs.Lists.{is_in};
 ghost use Rattle.esm_values.specs.Code.{value_of};
 ghost use Rattle.esm_eval.specs.Nodes as spec;
-ghost use Rattle.esm_eval.specs.Table.{node_at, no_nodes, phase_of, size, with_node};
+ghost use Rattle.esm_eval.specs.Inner.Ends.{Says};
+ghost use Rattle.esm_eval.specs.Inner.Ready.{is_async, no_error};
+ghost use Rattle.esm_eval.specs.Table.{node_at, no_nodes, phase_of, size, with_node, with_one, with_stamp};
 
 use esm_base::Memory;
 use esm_values::{PromiseId, Value};
@@ -48,6 +50,8 @@ pub struct Nodes {
 }
 
 impl Model for Nodes {
+    ghost use Rattle.esm_eval.specs.Inner.Ends.{Says};
+    ghost use Rattle.esm_eval.specs.Inner.Ready.{is_async, no_error};
     ghost use Rattle.esm_eval.specs.Table.{AreKept, Table, table_of};
 
     ghost Value = { Table };
@@ -68,6 +72,26 @@ impl Nodes {
         }
     }
 
+    /// The next module has a node. Where memory runs out nothing has changed.
+    pub fn add(&mut self, alloc: Global) -> Result<(), Memory>
+        ensures ok { OnOk result (self.new ≡ with_one self.old) }
+        ensures err { OnErr result (self.new ≡ self.old) }
+    {
+        let waits = Vec::new(alloc);
+        let waiters = Vec::new(alloc);
+        self.nodes.push(Node {
+            phase: Phase::NotEntered,
+            error: None,
+            cycle_root: None,
+            promise: None,
+            done: false,
+            stamped: false,
+            waits,
+            waiters,
+        })?;
+        Ok(())
+    }
+
     /// How far the evaluation of the module has come. A module without a node hasn't been entered.
     pub fn phase(&self, x: u32) -> Phase
         ensures { phase_of result ≡ (node_at self.now x).phase }
@@ -77,6 +101,54 @@ impl Nodes {
             self.nodes[at].phase
         } else {
             Phase::NotEntered
+        }
+    }
+
+    /// Whether an evaluation has entered the module.
+    pub(crate) fn was_entered(&self, x: u32) -> bool
+        ensures { result ≡ spec.was_entered (node_at self.now x).phase }
+    {
+        match self.phase(x) {
+            Phase::NotEntered => false,
+            Phase::Evaluating => true,
+            Phase::EvaluatingAsync => true,
+            Phase::Evaluated => true,
+        }
+    }
+
+    /// Whether the module is evaluated.
+    pub(crate) fn is_evaluated(&self, x: u32) -> bool
+        ensures { Says result ((node_at self.now x).phase ≡ spec.Evaluated) }
+    {
+        match self.phase(x) {
+            Phase::NotEntered => false,
+            Phase::Evaluating => false,
+            Phase::EvaluatingAsync => false,
+            Phase::Evaluated => true,
+        }
+    }
+
+    /// Whether the walk of an evaluation has the module on its stack.
+    pub(crate) fn is_evaluating(&self, x: u32) -> bool
+        ensures { Says result ((node_at self.now x).phase ≡ spec.Evaluating) }
+    {
+        match self.phase(x) {
+            Phase::NotEntered => false,
+            Phase::Evaluating => true,
+            Phase::EvaluatingAsync => false,
+            Phase::Evaluated => false,
+        }
+    }
+
+    /// Whether the module waits, or its body awaits.
+    pub(crate) fn is_async(&self, x: u32) -> bool
+        ensures { result ≡ is_async (node_at self.now x).phase }
+    {
+        match self.phase(x) {
+            Phase::NotEntered => false,
+            Phase::Evaluating => false,
+            Phase::EvaluatingAsync => true,
+            Phase::Evaluated => false,
         }
     }
 
@@ -103,7 +175,8 @@ impl Nodes {
 
     /// Whether the module has an order of asynchronous evaluation.
     pub(crate) fn is_stamped(&self, x: u32) -> bool
-        ensures { result ≡ is_in nat_eq self.now.stamps x }
+        ensures stamped { result ≡ is_in nat_eq self.now.stamps x }
+        ensures has { IsTrue result → x < size self.now }
     {
         let at = x as usize;
         if at < self.nodes.len() {
@@ -137,6 +210,16 @@ impl Nodes {
             }
         } else {
             None
+        }
+    }
+
+    /// Whether the module has an error of its own.
+    pub(crate) fn has_error(&self, x: u32) -> bool
+        ensures { result ≡ not (no_error (node_at self.now x).error) }
+    {
+        match self.error(x) {
+            Some(_error) => true,
+            None => false,
         }
     }
 
@@ -193,5 +276,111 @@ impl Nodes {
         node.phase = Phase::Evaluated;
         node.error = Some(error);
         node.done = true;
+    }
+
+    /// The cycle root of the module, or itself.
+    pub(crate) fn root_of(&self, x: u32) -> u32
+        ensures { result ≡ unwrap_or (node_at self.now x).cycle_root x }
+    {
+        let at = x as usize;
+        if at < self.nodes.len() {
+            match self.nodes[at].cycle_root {
+                Some(root) => root,
+                None => x,
+            }
+        } else {
+            x
+        }
+    }
+
+    /// How many requests the module waits for, or has waited for.
+    pub(crate) fn wait_count(&self, x: u32) -> usize
+        ensures { result ≡ length (node_at self.now x).waits }
+    {
+        let at = x as usize;
+        if at < self.nodes.len() {
+            self.nodes[at].waits.len()
+        } else {
+            0
+        }
+    }
+
+    /// The module waits for another one more time.
+    pub(crate) fn push_wait(&mut self, x: u32, y: u32) -> Result<(), Memory>
+        requires has { x < size self.old }
+        requires other { y < size self.old }
+        ensures { OnOk result (self.new ≡ with_node self.old x
+            (record (node_at self.old x) { waits = (node_at self.old x).waits ++ y ∷ [] })) }
+    {
+        let node = &mut self.nodes[x as usize];
+        node.waits.push(y)?;
+        Ok(())
+    }
+
+    /// Another module waits for this one.
+    pub(crate) fn push_waiter(&mut self, x: u32, y: u32) -> Result<(), Memory>
+        requires has { x < size self.old }
+        requires other { y < size self.old }
+        ensures { OnOk result (self.new ≡ with_node self.old x
+            (record (node_at self.old x) { waiters = (node_at self.old x).waiters ++ y ∷ [] })) }
+    {
+        let node = &mut self.nodes[x as usize];
+        node.waiters.push(y)?;
+        Ok(())
+    }
+
+    /// The module for which one of these requests waits.
+    pub(crate) fn wait(&self, x: u32, i: usize) -> u32
+        requires has { x < size self.now }
+        requires within { i < length (node_at self.now x).waits }
+        ensures { slice_get (node_at self.now x).waits i ≡ Some result }
+    {
+        self.nodes[x as usize].waits[i]
+    }
+
+    /// How many requests wait for the module.
+    pub(crate) fn waiter_count(&self, x: u32) -> usize
+        ensures { result ≡ length (node_at self.now x).waiters }
+    {
+        let at = x as usize;
+        if at < self.nodes.len() {
+            self.nodes[at].waiters.len()
+        } else {
+            0
+        }
+    }
+
+    /// The module of one of these requests.
+    pub(crate) fn waiter(&self, x: u32, i: usize) -> u32
+        requires has { x < size self.now }
+        requires within { i < length (node_at self.now x).waiters }
+        ensures { slice_get (node_at self.now x).waiters i ≡ Some result }
+    {
+        self.nodes[x as usize].waiters[i]
+    }
+
+    /// How many modules have an order of asynchronous evaluation.
+    pub(crate) fn stamp_count(&self) -> usize
+        ensures { result ≡ length self.now.stamps }
+    {
+        self.stamps.len()
+    }
+
+    /// One of these modules, in that order.
+    pub(crate) fn stamp(&self, k: usize) -> u32
+        requires { k < length self.now.stamps }
+        ensures { slice_get self.now.stamps k ≡ Some result }
+    {
+        self.stamps[k]
+    }
+
+    /// The module has the next order of asynchronous evaluation.
+    pub(crate) fn add_stamp(&mut self, x: u32) -> Result<(), Memory>
+        requires { x < size self.old }
+        ensures { OnOk result (self.new ≡ with_stamp self.old x) }
+    {
+        self.stamps.push(x)?;
+        self.nodes[x as usize].stamped = true;
+        Ok(())
     }
 }

@@ -2,7 +2,7 @@
 ghost use Rattle.std.specs.Prelude.{◌≡◌, ◌<◌, ℕ, cond, nat_lt, List, Result, Ok, OnOk};
 ghost use Rattle.esm_eval.specs.Begins.{First, HaveBegunOnce};
 ghost use Rattle.esm_eval.specs.Calls.{EvaluatesAs, numbered};
-ghost use Rattle.esm_eval.specs.Inner.Visit.{AllEntered, IsPlace, IsSteadyStep, IsWhole, Visiting, Within};
+ghost use Rattle.esm_eval.specs.Inner.Visit.{AllEntered, BeginsNew, IsPlace, IsSteadyStep, IsWhole, LeavesFit, Unbegun, Visiting, Within};
 
 use esm_base::{Memory, ModuleId};
 use esm_values::{PromiseId, Value};
@@ -30,16 +30,15 @@ pub enum Cut<S> {
 
 /// What a walk reads and writes, one step each. Modules are named by their ids.
 pub trait Desk: Drop {
-    ghost use Rattle.std.specs.Prelude.{◌≡◌, ◌<◌, ◌≤◌, ℕ, true, false, nat_eq, List, Result, OnOk, IfOk, Option, Some, map, length, slice_get, drop};
+    ghost use Rattle.std.specs.Prelude.{◌≡◌, ◌<◌, ◌≤◌, ℕ, Bool, true, false, List, Result, OnOk, IfOk, Option, Some, map, length, slice_get, drop};
     ghost use Rattle.std.specs.Option.{option_map};
-    ghost use Rattle.esm_base.specs.Lists.{is_in};
-    ghost use Rattle.esm_values.specs.Code.{value_of};
+    ghost use Rattle.esm_values.specs.Code.{CodeValue, value_of};
     ghost use Rattle.esm_eval.specs.Evaluation as evaluation;
     ghost use Rattle.esm_eval.specs.Evaluation.{IsLawful, IsSteady};
     ghost use Rattle.esm_eval.specs.Evaluate as walk;
     ghost use Rattle.esm_eval.specs.Begins.{BeginsOne};
     ghost use Rattle.esm_eval.specs.Calls.{CodeCalls, CodeEvaluation, numbered};
-    ghost use Rattle.esm_eval.specs.Inner.Visit.{AllEntered, IsSteadyStep, Keeps, LeavesBy, Opens, PassesBy, is_entered};
+    ghost use Rattle.esm_eval.specs.Inner.Visit.{AllEntered, IsSteadyStep, Keeps, KnowsError, LeavesBy, LeavesFit, Opens, PassesBy, StillKnows, is_entered};
 
     /// Why a call for a body stops.
     type Stop: Drop;
@@ -55,9 +54,13 @@ pub trait Desk: Drop {
     /// A call for a body begins no other.
     ghost begins_one: { BeginsOne (numbered lens) acts };
     /// The modules that are linked.
-    ghost linked: { Self → List ℕ };
+    ghost linked: { Self → ℕ → Bool };
     /// How many modules there are that no evaluation has entered.
     ghost left: { Self → ℕ };
+    /// What holds between two steps, so that each may be made.
+    ghost fits: { Self → Type 0 };
+    /// The values that are known.
+    ghost knows: { Self → CodeValue → Type 0 };
 
     /// Whether an evaluation has entered the module.
     fn was_entered(&self, x: u32) -> bool
@@ -65,19 +68,21 @@ pub trait Desk: Drop {
 
     /// The module is entered.
     fn enter(&mut self, x: u32)
-        requires linked { is_in nat_eq (linked self.old) x ≡ true }
+        requires linked { linked self.old x ≡ true }
         requires new { is_entered lens self.old x ≡ false }
+        requires fits { fits self.old }
         ensures world { self.new ≡ walk.enter (numbered lens) self.old x }
-        ensures opens { Opens lens linked left self.old x self.new };
+        ensures opens { Opens lens linked left self.old x self.new }
+        ensures fits { fits self.new };
 
     /// How many requests the module has.
     fn count(&self, x: u32) -> usize
-        requires { is_in nat_eq (linked self.now) x ≡ true }
+        requires { linked self.now x ≡ true }
         ensures { result ≡ length (lens.targets self.now x) };
 
     /// The target of a request.
     fn target(&self, x: u32, i: usize) -> u32
-        requires linked { is_in nat_eq (linked self.now) x ≡ true }
+        requires linked { linked self.now x ≡ true }
         requires within { i < length (lens.targets self.now x) }
         ensures { slice_get (lens.targets self.now x) i ≡ Some result };
 
@@ -85,20 +90,28 @@ pub trait Desk: Drop {
     fn pass(&mut self, x: u32, t: u32, opened: &[u32]) -> Result<(), Cut<Self::Stop>>
         requires entered { is_entered lens self.old x ≡ true }
         requires stack { AllEntered lens self.old opened.now }
-        ensures { PassesBy lens linked left acts self.old opened.now x t result self.new };
+        requires fits { fits self.old }
+        ensures passes { PassesBy lens linked left acts self.old opened.now x t result self.new }
+        ensures fits { LeavesFit fits knows result self.new };
 
-    /// All requests of `x` are passed.
+    /// All requests of `x` are passed. Its body hasn't begun, and may begin now.
     fn leave(&mut self, x: u32, opened: &[u32]) -> Result<(), Cut<Self::Stop>>
-        requires linked { is_in nat_eq (linked self.old) x ≡ true }
+        requires linked { linked self.old x ≡ true }
         requires entered { is_entered lens self.old x ≡ true }
         requires stack { AllEntered lens self.old opened.now }
-        ensures { LeavesBy lens linked left acts self.old opened.now x result self.new };
+        requires unbegun { lens.begun self.old x ≡ false }
+        requires fits { fits self.old }
+        ensures leaves { LeavesBy lens linked left acts self.old opened.now x result self.new }
+        ensures fits { LeavesFit fits knows result self.new };
 
     /// The component of `x` closes, which stands from a place of the stack on.
     fn close(&mut self, x: u32, opened: &[u32], place: usize)
+        requires entered { is_entered lens self.old x ≡ true }
         requires stack { AllEntered lens self.old opened.now }
+        requires fits { fits self.old }
         ensures world { self.new ≡ walk.close (numbered lens) self.old x (drop place opened.now) }
-        ensures keeps { Keeps lens linked left self.old self.new };
+        ensures keeps { Keeps lens linked left self.old self.new }
+        ensures fits { fits self.new };
 
     /// The cycle root of the module, or itself.
     fn root_of(&self, m: u32) -> u32
@@ -110,22 +123,32 @@ pub trait Desk: Drop {
 
     /// The module's own error.
     fn error(&self, m: u32) -> Result<Option<Value>, Memory>
-        ensures { IfOk result (λ e. option_map value_of e ≡ (lens.node self.now m).error) };
+        requires { fits self.now }
+        ensures error { IfOk result (λ e. option_map value_of e ≡ (lens.node self.now m).error) }
+        ensures known { IfOk result (KnowsError knows self.now) };
 
     /// The module keeps a new promise.
     fn keep(&mut self, m: u32) -> Result<PromiseId, Memory>
-        requires { is_in nat_eq (linked self.old) m ≡ true }
+        requires linked { linked self.old m ≡ true }
+        requires fits { fits self.old }
         ensures world { OnOk result (self.new ≡ walk.keep (numbered lens) self.old m) }
         ensures number { IfOk result (λ p. p.0 ≡ lens.next_promise self.old) }
-        ensures keeps { OnOk result (Keeps lens linked left self.old self.new) };
+        ensures keeps { OnOk result (Keeps lens linked left self.old self.new) }
+        ensures fits { OnOk result (fits self.new) }
+        ensures knows { OnOk result (StillKnows knows self.old self.new) };
 
     /// A promise is rejected.
     fn reject(&mut self, p: PromiseId, v: Value)
-        ensures { self.new ≡ lens.reject self.old p.0 (value_of v) };
+        requires known { knows self.old (value_of v) }
+        requires fits { fits self.old }
+        ensures world { self.new ≡ lens.reject self.old p.0 (value_of v) }
+        ensures fits { fits self.new };
 
     /// A promise is fulfilled where the module is evaluated.
     fn fulfill_by(&mut self, p: PromiseId, m: u32)
-        ensures { self.new ≡ walk.fulfill_by lens self.old p.0 (evaluation.phase lens self.old m) };
+        requires { fits self.old }
+        ensures world { self.new ≡ walk.fulfill_by lens self.old p.0 (evaluation.phase lens self.old m) }
+        ensures fits { fits self.new };
 }
 
 /// Visits a module. Gives the lowest place among the open modules that it and those above it lead to.
@@ -134,10 +157,14 @@ pub trait Desk: Drop {
 fn visit<D: Desk>(desk: &mut D, opened: &mut Vec<u32>, x: u32) -> Result<usize, Cut<D::Stop>>
     requires within { (modules : List ℕ) × Within D.lens D.linked D.left modules desk.old x }
     requires stack { AllEntered D.lens desk.old opened.old.items }
+    requires unbegun { Unbegun D.lens desk.old }
+    requires fits { D.fits desk.old }
     ensures steady { OnOk result (IsSteadyStep D.lens D.linked D.left desk.old desk.new) }
     ensures stack { OnOk result (AllEntered D.lens desk.new opened.new.items) }
     ensures visits { Visiting D.lens D.linked D.left D.acts desk.old opened.old.items x result
         desk.new opened.new.items }
+    ensures begins { OnOk result (BeginsNew D.lens desk.old desk.new) }
+    ensures fits { LeavesFit D.fits D.knows result desk.new }
 {
     if desk.was_entered(x) {
         return Ok(place_of(opened.as_slice(), x));
@@ -194,8 +221,8 @@ fn lesser(low: usize, found: usize) -> usize
 /// Evaluates a module. Gives the promise that it keeps: the one that it kept already, or a new one, which is fulfilled or
 /// rejected already where the evaluation has ended.
 ///
-/// Each call for a body is of one that hasn't begun (`first`), and what holds between two calls is kept (`between`). After
-/// a stop or want of memory the desk may be dropped only.
+/// Each call for a body is of one that hasn't begun (`first`), and what holds between two calls is kept (`between`, `fits`).
+/// After a stop or want of memory the desk may be dropped only.
 ///
 /// ECMA-262, Evaluate.
 pub fn evaluate<D: Desk>(
@@ -205,10 +232,12 @@ pub fn evaluate<D: Desk>(
 ) -> Result<PromiseId, EvalEnd<D::Stop>>
     requires whole { (modules : List ℕ) × IsWhole D.lens D.linked D.left modules desk.old m.0 }
     requires between { HaveBegunOnce (numbered D.lens) desk.old }
+    requires fits { D.fits desk.old }
     ensures evaluates { EvaluatesAs (numbered D.lens) D.acts desk.old m.0 result desk.new }
     ensures first { EvaluatesAs (numbered D.lens) (First (numbered D.lens) D.acts)
         desk.old m.0 result desk.new }
     ensures between { OnOk result (HaveBegunOnce (numbered D.lens) desk.new) }
+    ensures fits { OnOk result (D.fits desk.new) }
 {
     evaluate_by(alloc, desk, m.0)
 }
@@ -216,7 +245,10 @@ pub fn evaluate<D: Desk>(
 /// Evaluates a module, named by its number.
 fn evaluate_by<D: Desk>(alloc: Global, desk: &mut D, m: u32) -> Result<PromiseId, EvalEnd<D::Stop>>
     requires whole { (modules : List ℕ) × IsWhole D.lens D.linked D.left modules desk.old m }
-    ensures { EvaluatesAs (numbered D.lens) D.acts desk.old m result desk.new }
+    requires unbegun { Unbegun D.lens desk.old }
+    requires fits { D.fits desk.old }
+    ensures evaluates { EvaluatesAs (numbered D.lens) D.acts desk.old m result desk.new }
+    ensures fits { OnOk result (D.fits desk.new) }
 {
     let root = desk.root_of(m);
     match desk.promise(root) {

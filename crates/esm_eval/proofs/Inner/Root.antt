@@ -1,5 +1,5 @@
 -- Evaluation from a root, by the visit of it.
-use Rattle.std.proofs.Common.{◌≡◌, ℕ, List, [], ◌++◌, Some, None, Result, Ok, Err, ap, refl, subst, sym, ◌∙◌, nat_eq, eqb-true}
+use Rattle.std.proofs.Common.{◌≡◌, ℕ, Bool, List, [], ◌++◌, Some, None, Result, Ok, Err, ap, refl, subst, sym, ◌∙◌, nat_eq, eqb-true}
 use Rattle.std.proofs.lemmas.List.{append-nil}
 use Rattle.esm_base.specs.Lists.{is_in}
 use Rattle.esm_realm.specs.Walk.{Mark, Visits}
@@ -15,7 +15,7 @@ use Rattle.esm_eval.specs.declared.walk.Cut.TheVariants as cuts
 use Rattle.esm_eval.specs.Calls.{CodeEvaluation, CodeCalls, numbered}
 use Rattle.esm_eval.specs.Inner.Visit.{is_entered, Keeps, Within, Walking, Amid, VisitingBy, Visiting}
 
-module _ {W S : Type 0} (E : CodeEvaluation W) (linked : W → List ℕ) (left : W → ℕ) (acts : CodeCalls W S) (w : W) (r : ℕ) where
+module _ {W S : Type 0} (E : CodeEvaluation W) (linked : W → ℕ → Bool) (left : W → ℕ) (acts : CodeCalls W S) (w : W) (r : ℕ) where
   module _ (p : ℕ) (number : p ≡ E.next_promise w) (none : (E.node w r).promise ≡ None) (v : W) (ve : v ≡ keep (numbered E) w r) where
     by_number : (f : ℕ → W) (after : W) → after ≡ f p → EvaluatesRoot (numbered E) acts w r (Ok (E.next_promise w)) (f (E.next_promise w)) → EvaluatesRoot (numbered E) acts w r (Ok p) after
     by_number f after e q = subst (λ s. EvaluatesRoot (numbered E) acts w r (Ok p) s) (sym e) (subst (λ n. EvaluatesRoot (numbered E) acts w r (Ok n) (f n)) (sym number) q)

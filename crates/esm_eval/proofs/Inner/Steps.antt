@@ -32,7 +32,7 @@ drop_at [] i t e = cc
 drop_at (u ∷ us) zero t e = let same : u ≡ t = cc in rw same
 drop_at (u ∷ us) (suc i) t e = simp add-one (rw add-one at (drop_at us i t e))
 
-module _ {W S : Type 0} (E : CodeEvaluation W) (linked : W → List ℕ) (left : W → ℕ) (acts : CodeCalls W S) where
+module _ {W S : Type 0} (E : CodeEvaluation W) (linked : W → ℕ → Bool) (left : W → ℕ) (acts : CodeCalls W S) where
   amid_keeps : (to : ℕ → List ℕ) (modules : List ℕ) (seen opened : List ℕ) (w v : W) → Amid E linked left acts to modules seen opened w → Keeps E linked left w v → Amid E linked left acts to modules seen opened v
   amid_keeps to modules seen opened w v a k = record {
     short = λ y h. k.steady.grows y (a.short y h);
@@ -233,7 +233,7 @@ module _ {W S : Type 0} (E : CodeEvaluation W) (linked : W → List ℕ) (left :
     inside = i.whole x t i.inside h;
   }
 
-  pub standing : (w : W) (modules : List ℕ) (x : ℕ) → Within E linked left modules w x → In (linked w) x
+  pub standing : (w : W) (modules : List ℕ) (x : ℕ) → Within E linked left modules w x → linked w x ≡ true
   standing w modules x i = i.short x i.inside
 
   pub same_on : (u v w : W) → IsSteadyStep E linked left u v → IsSteadyStep E linked left v w → IsSteadyStep E linked left u w

@@ -10,7 +10,7 @@ use Rattle.esm_eval.specs.Nodes as nodes
 use Rattle.esm_eval.specs.declared.nodes.Node.{Node}
 use Rattle.esm_eval.specs.Table.{Table, size, AreKept, IsBounded, node_of, node_by, put_at, table_of, node_at, with_node}
 
-put_there : (ns : List Node) (x : ℕ) (old new : Node) → slice_get ns x ≡ Some old → map node_of (slice_set ns x new) ≡ put_at (map node_of ns) x (node_of new)
+pub put_there : (ns : List Node) (x : ℕ) (old new : Node) → slice_get ns x ≡ Some old → map node_of (slice_set ns x new) ≡ put_at (map node_of ns) x (node_of new)
 put_there [] x old new e = cc
 put_there (n ∷ ns) zero old new e = refl
 put_there (n ∷ ns) (suc x) old new e = ap (λ ms. node_of n ∷ ms) (put_there ns x old new e)
@@ -54,6 +54,9 @@ as_long (n ∷ ns) = ap suc (as_long ns)
 
 pub bound : (ns : List Node) (stamps : List ℕ) (t : Table) (x : ℕ) → table_of ns stamps ≡ t → x < size t → x < length ns
 bound ns stamps t x e h = let same : size t ≡ length ns = ap (λ u. size u) (sym e) ∙ as_long ns in omega arith
+
+pub has_node : (ns : List Node) (stamps : List ℕ) (t : Table) (x : ℕ) → table_of ns stamps ≡ t → x < length ns → x < size t
+has_node ns stamps t x e h = let same : size t ≡ length ns = ap (λ u. size u) (sym e) ∙ as_long ns in omega arith
 
 pub some_below : (r n : ℕ) → n < r → (k : ℕ) → Some n ≡ Some k → k < r
 some_below r n lt k e = let same : n ≡ k = cc in subst (λ z. z < r) same lt

@@ -1,9 +1,10 @@
 -- What a visit amid a walk of evaluation does.
-use Rattle.std.specs.Prelude.{◌≡◌, ◌<◌, ◌≤◌, ◌⊎◌, ◌||◌, ℕ, Bool, true, false, nat_eq, List, [], ◌∷◌, ◌++◌, length, slice_get, drop, Some, None, Result, Ok, Err}
+use Rattle.std.specs.Prelude.{◌≡◌, ◌<◌, ◌≤◌, ◌⊎◌, ◌||◌, ℕ, Bool, true, false, nat_eq, List, [], ◌∷◌, ◌++◌, length, slice_get, drop, Option, Some, None, Result, Ok, Err, ⊤}
 use Rattle.esm_base.specs.Lists.{is_in}
 use Rattle.esm_realm.specs.Walk.{Mark, Enter, Visits, Passes}
 use Rattle.esm_realm.specs.Places.{Low, Lowest}
 use Rattle.esm_values.specs.Code.{CodeValue, value_of}
+use Rattle.esm_values.specs.declared.value.Value.{Value}
 use Rattle.esm_eval.specs.Nodes.{was_entered}
 use Rattle.esm_eval.specs.Evaluation.{phase, root_of, error_of, wait_on, add_wait}
 use Rattle.esm_eval.specs.Evaluate.{WalkEnd, Ends, Throws, Stops, Marks, Leaves, fail}
@@ -23,11 +24,39 @@ IsPlace opened x k =
 abbrev pub AllEntered : {W : Type 0} → CodeEvaluation W → W → List ℕ → Type 0
 AllEntered E w xs = (y : ℕ) → is_in nat_eq xs y ≡ true → is_entered E w y ≡ true
 
-module _ {W : Type 0} (E : CodeEvaluation W) (linked : W → List ℕ) (left : W → ℕ) where
+module _ {W : Type 0} (E : CodeEvaluation W) where
+  -- what no evaluation has entered hasn't begun
+  abbrev pub Unbegun : W → Type 0
+  Unbegun w = (y : ℕ) → is_entered E w y ≡ false → E.begun w y ≡ false
+
+  -- from w to v no bodies have begun but those of modules that were entered meanwhile
+  pub record BeginsNew (w v : W) : Type 0 where
+    pub unbegun : Unbegun v
+    pub still : (y : ℕ) → is_entered E w y ≡ true → E.begun w y ≡ false → E.begun v y ≡ false
+
+module _ {W : Type 0} (knows : W → CodeValue → Type 0) where
+  -- what was known is known still
+  abbrev pub StillKnows : W → W → Type 0
+  StillKnows w v = (u : CodeValue) → knows w u → knows v u
+
+  -- an error, where there is one, is known
+  abbrev pub KnowsError : W → Option Value → Type 0
+  KnowsError w None = ⊤
+  KnowsError w (Some e) = knows w (value_of e)
+
+module _ {W : Type 0} (fits : W → Type 0) (knows : W → CodeValue → Type 0) where
+  -- what a part of a walk leaves fits, and what it throws is known. After a stop or want of memory nothing is said
+  abbrev pub LeavesFit : {A S : Type 0} → Result A (Cut S) → W → Type 0
+  LeavesFit (Ok a) v = fits v
+  LeavesFit (Err (cuts.Thrown e)) v = fits v × knows v (value_of e)
+  LeavesFit (Err (cuts.Stopped why)) v = ⊤
+  LeavesFit (Err cuts.Memory) v = ⊤
+
+module _ {W : Type 0} (E : CodeEvaluation W) (linked : W → ℕ → Bool) (left : W → ℕ) where
   -- the modules that are linked stay so, with their targets; what was entered stays so, and no more are left to enter
   pub record IsSteadyStep (w v : W) : Type 0 where
-    pub same : (y : ℕ) → is_in nat_eq (linked w) y ≡ true → E.targets v y ≡ E.targets w y
-    pub grows : (y : ℕ) → is_in nat_eq (linked w) y ≡ true → is_in nat_eq (linked v) y ≡ true
+    pub same : (y : ℕ) → linked w y ≡ true → E.targets v y ≡ E.targets w y
+    pub grows : (y : ℕ) → linked w y ≡ true → linked v y ≡ true
     pub stays : (y : ℕ) → is_entered E w y ≡ true → is_entered E v y ≡ true
     pub less : left v ≤ left w
 
@@ -44,7 +73,7 @@ module _ {W : Type 0} (E : CodeEvaluation W) (linked : W → List ℕ) (left : W
 
   -- these modules are linked and have targets among them alone, and x is one of them
   pub record Within (modules : List ℕ) (w : W) (x : ℕ) : Type 0 where
-    pub short : (y : ℕ) → is_in nat_eq modules y ≡ true → is_in nat_eq (linked w) y ≡ true
+    pub short : (y : ℕ) → is_in nat_eq modules y ≡ true → linked w y ≡ true
     pub whole : (y t : ℕ) → is_in nat_eq modules y ≡ true → is_in nat_eq (E.targets w y) t ≡ true → is_in nat_eq modules t ≡ true
     pub inside : is_in nat_eq modules x ≡ true
 
@@ -77,7 +106,7 @@ module _ {W : Type 0} (E : CodeEvaluation W) (linked : W → List ℕ) (left : W
 
     -- a place amid a walk over these modules
     pub record Amid (to : ℕ → List ℕ) (modules : List ℕ) (seen opened : List ℕ) (w : W) : Type 0 where
-      pub short : (y : ℕ) → is_in nat_eq modules y ≡ true → is_in nat_eq (linked w) y ≡ true
+      pub short : (y : ℕ) → is_in nat_eq modules y ≡ true → linked w y ≡ true
       pub whole : (y t : ℕ) → is_in nat_eq modules y ≡ true → is_in nat_eq (to y) t ≡ true → is_in nat_eq modules t ≡ true
       pub graph : (y : ℕ) → is_in nat_eq modules y ≡ true → E.targets w y ≡ to y
       pub phases : (y : ℕ) → is_in nat_eq seen y ≡ is_entered E w y

@@ -1,5 +1,6 @@
 use Rattle.std.proofs.Common.{sym, ◌∙◌}
 use Rattle.esm_eval.proofs.Inner.LateSteps as steps
+use Rattle.esm_eval.proofs.Inner.Due as due
 use Rattle.esm_eval.proofs.ends.go_on.Goals as goal
 
 pub returns-then-awaits-clause-goes : goal.returns-then-awaits-clause-goes
@@ -10,3 +11,9 @@ returns-in-Ok-clause-goes g c = steps.ran g.D.Late.lens g.D.Late.acts c.args.des
 
 pub returns-in-Err-clause-goes : goal.returns-in-Err-clause-goes
 returns-in-Err-clause-goes g c = steps.stopped g.D.Late.lens g.D.Late.acts c.args.desk.now c.args.x c.requires.unfinished c.in-Err.end c.run.new.self (sym c.awaits.ensures ∙ c.if-awaits.false) c.in-Err.ensures.runs
+
+pub returns-then-awaits-clause-begins : goal.returns-then-awaits-clause-begins
+returns-then-awaits-clause-begins g c = due.began_only g.D.Late.lens g.D.Late.acts g.D.Late.lawful g.D.Late.steady g.D.Late.begins_one c.args.desk.now c.args.x c.start.result c.start.new.self c.start.ensures.begins
+
+pub returns-in-Ok-clause-begins : goal.returns-in-Ok-clause-begins
+returns-in-Ok-clause-begins g c = due.ran_only g.D.Late.lens g.D.Late.acts g.D.Late.lawful g.D.Late.steady g.D.Late.begins_one c.args.desk.now c.args.x c.in-Ok.ran c.run.new.self c.in-Ok.ensures.runs c.ended.result c.ended.new.desk c.ended.ensures.ends

@@ -1,5 +1,6 @@
 use Rattle.std.proofs.Common.{◌≡◌, ◌<◌, true, length}
 use Rattle.esm_eval.specs.Inner.Visit.{AllEntered, IsSteadyStep, Passing, is_entered}
+use Rattle.esm_eval.proofs.Inner.Begun.{Going}
 use Rattle.esm_eval.proofs.walk.+visit.Given as goal
 
 -- how many modules no evaluation has entered
@@ -11,6 +12,8 @@ abbrev pub invariant-loop-i : goal.invariant-loop-i
 invariant-loop-i g l = record {
   steady : IsSteadyStep g.D.Desk.lens g.D.Desk.linked g.D.Desk.left l.fn.desk l.desk;
   fewer : g.D.Desk.left l.desk < g.D.Desk.left l.fn.desk;
+  fits : g.D.Desk.fits l.desk;
+  going : Going g.D.Desk.lens l.fn.desk l.x l.desk;
   entered : is_entered g.D.Desk.lens l.desk l.x ≡ true;
   stack : AllEntered g.D.Desk.lens l.desk l.opened.items;
   count : l.count ≡ length (g.D.Desk.lens.targets l.fn.desk l.x);

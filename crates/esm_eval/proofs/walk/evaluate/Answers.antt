@@ -1,9 +1,13 @@
 use Rattle.esm_eval.specs.Calls.{numbered}
 use Rattle.esm_eval.proofs.Inner.Onces as onces
+use Rattle.esm_eval.proofs.Inner.Begun as begun
 use Rattle.esm_eval.proofs.walk.evaluate.Goals as goal
 
 pub returns-clause-first : goal.returns-clause-first
-returns-clause-first g c = onces.first_evaluates (numbered g.D.Desk.lens) g.D.Desk.acts g.D.Desk.lawful g.D.Desk.steady g.D.Desk.begins_one c.args.desk.now c.args.m.0 c.evaluate_by.result c.evaluate_by.new.desk c.requires.between c.evaluate_by.ensures
+returns-clause-first g c = onces.first_evaluates (numbered g.D.Desk.lens) g.D.Desk.acts g.D.Desk.lawful g.D.Desk.steady g.D.Desk.begins_one c.args.desk.now c.args.m.0 c.evaluate_by.result c.evaluate_by.new.desk c.requires.between c.evaluate_by.ensures.evaluates
 
 pub returns-clause-between : goal.returns-clause-between
-returns-clause-between g c = onces.keeps_evaluates (numbered g.D.Desk.lens) g.D.Desk.acts g.D.Desk.lawful g.D.Desk.steady g.D.Desk.begins_one c.args.desk.now c.args.m.0 c.evaluate_by.result c.evaluate_by.new.desk c.requires.between c.evaluate_by.ensures
+returns-clause-between g c = onces.keeps_evaluates (numbered g.D.Desk.lens) g.D.Desk.acts g.D.Desk.lawful g.D.Desk.steady g.D.Desk.begins_one c.args.desk.now c.args.m.0 c.evaluate_by.result c.evaluate_by.new.desk c.requires.between c.evaluate_by.ensures.evaluates
+
+pub evaluate_by-requires-clause-unbegun : goal.evaluate_by-requires-clause-unbegun
+evaluate_by-requires-clause-unbegun g c = begun.unbegun_of g.D.Desk.lens c.args.desk.now c.requires.between

@@ -2,7 +2,12 @@ use Rattle.std.proofs.Common.{sym, arith}
 use Rattle.esm_eval.proofs.Inner.Tables as tables
 use Rattle.esm_eval.proofs.nodes.Nodes.is_stamped.Goals as goal
 
-pub returns-else-at-len : goal.returns-else-at-len
-returns-else-at-len c =
+pub returns-then-at-len-clause-has : goal.returns-then-at-len-clause-has
+returns-then-at-len-clause-has c h =
+    let ns = c.self.inside.nodes in
+    tables.has_node ns.items c.self.inside.stamps.items c.args.self.now c.args.x c.self.view_is (let lt = c.if-at-len.true in omega (arith, lt, ns.ok.0, c.len.ensures))
+
+pub returns-else-at-len-clause-stamped : goal.returns-else-at-len-clause-stamped
+returns-else-at-len-clause-stamped c =
     let ns = c.self.inside.nodes in
     rw (← c.self.view_is) (sym (tables.unstamped_past ns.items c.self.inside.stamps.items c.args.x c.self.invariant (omega (arith, ns.ok.0, c.len.ensures))))
