@@ -20,3 +20,4 @@ pub mod KeptScopes
 pub mod SpelledNames
 pub mod DeclaredNames
 pub mod OwnExports
+pub mod SameRecords

@@ -1,12 +1,12 @@
 -- Linking is local: it depends on the modules that the root reaches, and on which of these are closed.
-use Rattle.std.specs.Prelude.{◌≡◌, ◌<◌, ◌⊎◌, ℕ, Bool, true, List, ◌++◌, length, nat_eq, Option, Some, Result}
+use Rattle.std.specs.Prelude.{◌≡◌, ◌<◌, ◌⊎◌, ℕ, Bool, true, List, ◌++◌, length, slice_get, nat_eq, Option, Some, option_map, Result}
 use Rattle.esm_base.specs.Lists.{is_in}
 use Rattle.esm_base.specs.declared.end.End.{End}
 use Rattle.esm_tree.specs.Syntax.{Parts}
 use Rattle.esm_realm.specs.declared.record.ModuleStatus.{ModuleStatus}
 use Rattle.esm_realm.specs.declared.record.ModuleStatus.TheVariants as statuses
 use Rattle.esm_realm.specs.Sound.{RecordParts}
-use Rattle.esm_realm.specs.ById.{status_of}
+use Rattle.esm_realm.specs.ById.{status_of, without_status}
 use Rattle.esm_resolve.specs.Renumbered.{Renumbers}
 use Rattle.esm_env.specs.Modules.{Modules, entries, graph}
 use Rattle.esm_env.specs.Bindings.{Target, Binds}
@@ -90,3 +90,10 @@ abbrev pub LinksFromLinked : Type 0
 LinksFromLinked = (trees : List Parts) (rs new : List RecordParts) (there : ℕ → Bool) (linked : List ℕ) (root : ℕ)
     (result : Result (Unit {0}) (End LinkFault)) → AreWhole (modules_of trees rs) there → AreLinkable rs there → there root ≡ true
     → AreTheLinked rs linked → IsLinkedBy trees rs root result new → LinkedAs trees rs linked root result new
+
+-- records that are the same but for their statuses, and their trees, are the same modules
+abbrev pub RecordsAgree : Type 0
+RecordsAgree = (trees others : List Parts) (rs qs : List RecordParts) (there : ℕ → Bool) → AreWhole (modules_of trees rs) there
+    → ((x : ℕ) → there x ≡ true → (slice_get others x ≡ slice_get trees x)
+    × (option_map without_status (slice_get qs x) ≡ option_map without_status (slice_get rs x)))
+    → AgreeOn (modules_of trees rs) (modules_of others qs) there

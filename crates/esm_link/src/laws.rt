@@ -1,6 +1,6 @@
 // Laws of the definitions, as functions without effect.
 ghost use Rattle.esm_link.specs.Laws.{ClosesWhole, HasLinking, LinkedScopesAreFaithful, LinksWhole, OneLinking};
-ghost use Rattle.esm_link.specs.Local.{ClosingIsLocal, LinkingIsLocal, LinksFromLinked};
+ghost use Rattle.esm_link.specs.Local.{ClosingIsLocal, LinkingIsLocal, LinksFromLinked, RecordsAgree};
 ghost use Rattle.esm_link.specs.Naming.{LinkingFollowsNames};
 ghost use Rattle.esm_link.specs.Parsed.{SpelledIsBound};
 ghost use Rattle.esm_link.specs.Scopes.{LinkKeepsScopes, ScopesAreLocal};
@@ -44,6 +44,11 @@ pub fn closing_is_local<N>()
 /// Where the root reaches only what is Unlinked or Linked, linking with the Linked modules closed is what `link` does.
 pub fn links_from_linked()
     ensures { LinksFromLinked }
+{}
+
+/// Records that are the same but for their statuses are the same modules, where they request nothing else.
+pub fn records_agree()
+    ensures { RecordsAgree }
 {}
 
 /// Linking keeps scopes right, whatever it answers: each Linked module has its own, each import of which is bound to what
