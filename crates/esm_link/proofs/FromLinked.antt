@@ -1,5 +1,5 @@
 -- Linking from what is Linked, in place of all that isn't Unlinked.
-use Rattle.std.proofs.Common.{◌≡◌, ◌⊎◌, inl, inr, ℕ, zero, suc, ◌<◌, ◌≤◌, Bool, true, false, cond, nat_eq, List, [], ◌∷◌, ◌++◌, length, Option, Some, None, refl, ap, subst, sym, ◌∙◌, arith, eqb-true}
+use Rattle.std.proofs.Common.{◌≡◌, ◌⊎◌, inl, inr, ℕ, zero, suc, ◌<◌, ◌≤◌, Bool, true, false, nat_eq, List, [], ◌∷◌, ◌++◌, length, Some, None, refl, ap, subst, sym, ◌∙◌, arith, eqb-true}
 use Rattle.std.specs.Prelude.{◌||◌, not, Result, Ok, Err}
 use Rattle.std.proofs.lemmas.Bool.Decides.{nat_tests}
 use Rattle.esm_base.specs.Lists.{is_in}
@@ -12,7 +12,7 @@ use Rattle.esm_realm.specs.Sound.{RecordParts}
 use Rattle.esm_realm.specs.ById.{status_of, is_unlinked}
 use Rattle.esm_realm.proofs.Lists.{either}
 use Rattle.esm_realm.proofs.Numbers.{own, in_append, in_cons}
-use Rattle.esm_link.specs.Realm.{modules_of, fault_of, AreClosed, is_linked, relinked, IsRelinked, IsLinkedBy, LinkedAs}
+use Rattle.esm_link.specs.Realm.{modules_of, fault_of, AreClosed, is_linked, relinked, IsRelinked, LinkedAs}
 use Rattle.esm_link.specs.Local.{AreWhole, AreTheLinked, AreLinkable, HaveSame, LinksFromLinked}
 use Rattle.esm_link.specs.declared.LinkFault.{LinkFault}
 use Rattle.esm_link.proofs.Local.{closing_is_local}

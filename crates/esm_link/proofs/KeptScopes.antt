@@ -1,6 +1,6 @@
 -- Linking keeps scopes right, and so does what leaves the modules that have scopes as they are.
-use Rattle.std.proofs.Common.{◌≡◌, ◌⊎◌, inl, inr, ℕ, zero, suc, ◌+◌, ◌<◌, ◌≤◌, Bool, true, false, nat_eq, List, [], ◌∷◌, ◌++◌, map, length, Option, Some, None, refl, ap, subst, sym, ◌∙◌, arith, eqb-true}
-use Rattle.std.specs.Prelude.{is_some, slice_get, Result, Ok, Err}
+use Rattle.std.proofs.Common.{◌≡◌, ◌⊎◌, inl, inr, ℕ, zero, suc, ◌+◌, ◌<◌, Bool, true, false, nat_eq, List, [], ◌∷◌, length, Option, Some, None, refl, ap, subst, sym, ◌∙◌, arith, eqb-true}
+use Rattle.std.specs.Prelude.{is_some, Result, Ok, Err}
 use Rattle.std.specs.Arc.{arc_value}
 use mathlib.Core.Bool.{true≢false}
 use Rattle.esm_base.specs.Lists.{is_in, IsSameness}
@@ -31,7 +31,7 @@ use Rattle.esm_env.specs.declared.scope.ModuleScope.{ModuleScope}
 use Rattle.esm_env.specs.declared.scope.Target.{Target}
 use Rattle.esm_env.specs.declared.scope.Target.TheVariants as targets
 use Rattle.esm_link.specs.Link as link
-use Rattle.esm_link.specs.Realm.{modules_of, items_by, items_at, fault_of, is_linked, relinked, IsRelinked, IsLinkedBy, LinkedAs, IsLinkedScope, MakesScopes}
+use Rattle.esm_link.specs.Realm.{modules_of, items_by, fault_of, is_linked, relinked, IsRelinked, IsLinkedBy, LinkedAs, IsLinkedScope, MakesScopes}
 use Rattle.esm_link.specs.Local.{AreWhole, AgreeOn, AreTheLinked, AreLinkable}
 use Rattle.esm_link.specs.Scopes.{AreScopesOf, linked_in, IsLinkedRealm, LinkKeepsScopes, ScopesAreLocal}
 use Rattle.esm_link.specs.declared.LinkFault.{LinkFault}

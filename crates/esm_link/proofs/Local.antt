@@ -5,7 +5,6 @@ use Rattle.std.specs.List.{AllByRecursion}
 use Rattle.std.specs.Str.{bytes_eq}
 use Rattle.std.proofs.lemmas.List.{append-nil}
 use Rattle.std.proofs.lemmas.List.Elements.{All-head, All-tail, All-contains}
-use Rattle.esm_base.specs.Lists.{is_in}
 use Rattle.esm_tree.specs.Syntax.{Item}
 use Rattle.esm_tree.specs.declared.node.Wanted.{Wanted}
 use Rattle.esm_tree.specs.declared.node.Wanted.TheVariants as wanted
@@ -14,7 +13,7 @@ use Rattle.esm_ast.specs.declared.entries.ImportEntry.{ImportEntry}
 use Rattle.esm_ast.specs.declared.entries.IndirectExport.{IndirectExport}
 use Rattle.esm_ast.proofs.Requests.{names_requests}
 use Rattle.esm_realm.specs.Walk.{Mark, IsWalkOf}
-use Rattle.esm_realm.specs.Walk.Mark.{Enter, Pass, Leave}
+use Rattle.esm_realm.specs.Walk.Mark.{Leave}
 use Rattle.esm_realm.specs.Components.{opened_before, opened_from, closes}
 use Rattle.esm_resolve.specs.declared.graph.Binding.{Binding}
 use Rattle.esm_resolve.specs.declared.graph.Binding.TheVariants as bindings
@@ -29,7 +28,7 @@ use Rattle.esm_values.specs.Errors.{fault}
 use Rattle.esm_values.specs.declared.errors.FaultKind.TheVariants as kinds
 use Rattle.esm_env.specs.Declarations.{Initial, initial}
 use Rattle.esm_env.specs.Modules.{Modules, entries, graph, Exports}
-use Rattle.esm_env.specs.Bindings.{Target, CellOf, WholeOf, import_as, whole_only, whole_by, own_by, target_of, Binds}
+use Rattle.esm_env.specs.Bindings.{Target, WholeOf, import_as, whole_only, whole_by, own_by, target_of, Binds}
 use Rattle.esm_link.specs.Faults.{FaultAt, export_kind, import_kind, export_fault, import_fault, ExportFault, ImportFault, FirstFault, message, link_error}
 use Rattle.esm_link.specs.Link.{targets_from, targets, LinksMarks, LinksPart, IsLinking, IsCutLinking}
 use Rattle.esm_link.specs.Local.{AreWhole, AgreeOn, HaveSame, LinkAlike, LinkingIsLocal, ClosingIsLocal}
@@ -296,7 +295,7 @@ module _ {N : Type 0} (same : N → N → Bool) (g h : Modules N) (there : N →
         from ++ r.0,
         r.1 ∙ append_assoc closed from r.0,
         LinksMarks.component (first_so x m.0 None e) (closes_so opened x a ∙ c)
-        (subst (λ l. LinksMarks same h (opened_before same opened x) (others ++ from) ms f l) (append_assoc others from r.0) r.2),
+            (subst (λ l. LinksMarks same h (opened_before same opened x) (others ++ from) ms f l) (append_assoc others from r.0) r.2),
       )
 
   parts : {opened closed : List N} {ms : List (Mark N)} {after : List N} → LinksPart same g opened closed ms after → MarksIn ms → AllByRecursion P opened → (others : List N) → PartSo opened closed others ms after
@@ -312,7 +311,7 @@ module _ {N : Type 0} (same : N → N → Bool) (g h : Modules N) (there : N →
         from ++ r.0,
         r.1 ∙ append_assoc closed from r.0,
         LinksPart.component (first_so x m.0 None e) (closes_so opened x a ∙ c)
-        (subst (λ l. LinksPart same h (opened_before same opened x) (others ++ from) ms l) (append_assoc others from r.0) r.2),
+            (subst (λ l. LinksPart same h (opened_before same opened x) (others ++ from) ms l) (append_assoc others from r.0) r.2),
       )
 
   marks_there : {opened closed : List N} {ms : List (Mark N)} {f : FaultAt N} {o : Option (FaultAt N)} {after : List N} → LinksMarks same g opened closed ms o after → o ≡ Some f → MarksIn ms → IsThere f

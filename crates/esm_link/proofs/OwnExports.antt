@@ -1,6 +1,6 @@
 -- What a module text exports as its own is declared once.
-use Rattle.std.proofs.Common.{◌≡◌, ◌<◌, ◌≤◌, ◌⊎◌, inl, inr, ℕ, Bool, true, false, List, [], ◌∷◌, ◌++◌, map, length, Option, Some, None, refl, ap, subst, sym, ◌∙◌, arith}
-use Rattle.std.specs.Prelude.{◌||◌, ◌^◌, not, is_some, ⊤, codes, All}
+use Rattle.std.proofs.Common.{◌≡◌, ◌<◌, ◌≤◌, ℕ, Bool, true, false, List, [], ◌∷◌, ◌++◌, map, length, Option, Some, None, refl, ap, subst, sym, ◌∙◌, arith}
+use Rattle.std.specs.Prelude.{◌^◌, not, is_some, ⊤}
 use Rattle.std.specs.List.{list_any, AllByRecursion}
 use Rattle.std.specs.Str.{bytes_eq}
 use Rattle.std.proofs.lemmas.Slice.Eq.{bytes_eq-Decides}
@@ -8,21 +8,19 @@ use Rattle.std.proofs.lemmas.List.Elements.{All-from_recursion, All-weaker}
 use mathlib.Core.Bool.{true≢false}
 use Rattle.esm_base.specs.DefaultExport.{star_default, or_star_default}
 use Rattle.esm_base.specs.Urls.{Text}
-use Rattle.esm_base.specs.declared.limits.TheConstants.{MAX_FILE_BYTES}
 use Rattle.esm_tree.specs.declared.node.Wanted.{Wanted}
 use Rattle.esm_tree.specs.declared.node.Wanted.TheVariants as wanted
 use Rattle.esm_tree.specs.declared.node.ExportSpecifier.{ExportSpecifier}
-use Rattle.esm_tree.specs.Syntax.{Bindings, no_more, binding, Stmt, Empty, Expression, Assign, Block, If, IfElse, Try, TryCatch, Throw, Return, ReturnValue, Await, PrintAwait, Const, Let, Default, Item, Parts, ImportEffect, ImportFrom, ExportAll, ExportAllAs, ExportFrom, ExportList, ExportStatement, ExportFunction, ExportDefaultFunction, Function, Statement}
+use Rattle.esm_tree.specs.Syntax.{Stmt, Empty, Expression, Assign, Block, If, IfElse, Try, TryCatch, Throw, Return, ReturnValue, Await, PrintAwait, Const, Let, Default, Item, Parts, ImportEffect, ImportFrom, ExportAll, ExportAllAs, ExportFrom, ExportList, ExportStatement, ExportFunction, ExportDefaultFunction, Function, Statement}
 use Rattle.esm_grammar.specs.Names.{has_text, names_of, declared_names}
-use Rattle.esm_grammar.specs.EarlyErrors.{has_repeat, declared_of, module_names, listed_of, listed_in, exports_twice, lists_no_name, lists_undeclared, declares_twice, declares_twice_inside, declares_parameter, exports_then, has_early_error}
-use Rattle.esm_grammar.specs.ModuleText.{Spells}
+use Rattle.esm_grammar.specs.EarlyErrors.{has_repeat, module_names, listed_of, listed_in, exports_twice, lists_no_name, lists_undeclared, declares_twice, has_early_error}
 use Rattle.esm_ast.specs.declared.entries.ImportEntry.{ImportEntry}
 use Rattle.esm_ast.specs.declared.entries.LocalExport.{LocalExport}
 use Rattle.esm_ast.specs.Entries.{Export, Local, Indirect, listed_by, listed_by_wanted, listed, passed_on, own_export, import_named, statement_exports, exports_of, all_exports, locals_of, requests_of, all_imports, entries_with, entries_of}
 use Rattle.esm_ast.proofs.Small.{spelled_few}
 use Rattle.esm_realm.proofs.Lists.{either}
 use Rattle.esm_realm.proofs.Urls.{or_true, or_left, or_cases, or_false}
-use Rattle.esm_env.specs.Declarations.{Initial, initial}
+use Rattle.esm_env.specs.Declarations.{initial}
 use Rattle.esm_link.specs.Realm.{IsOwnBinding, declared, namespace, BindsOwnExports}
 use Rattle.esm_link.specs.Parsed.{AreSpelled, SpelledIsBound}
 use Rattle.esm_link.proofs.SpelledNames.{IsPlain, names_plain}

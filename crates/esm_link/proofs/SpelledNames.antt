@@ -1,12 +1,11 @@
 -- No name that a text declares is `*default*`.
-use Rattle.std.proofs.Common.{◌≡◌, ℕ, zero, suc, Bool, true, false, ◌&&◌, List, [], ◌∷◌, ◌++◌, drop, map, refl, ap, subst, sym, ◌∙◌, arith}
+use Rattle.std.proofs.Common.{◌≡◌, ℕ, zero, suc, Bool, true, List, [], ◌∷◌, ◌++◌, map, refl, ap, subst, sym, ◌∙◌, arith}
 use Rattle.std.specs.Prelude.{codes, slice_index_or, encode_utf8, encode_utf8_all}
 use Rattle.std.specs.List.{AllByRecursion, list_all}
 use Rattle.std.proofs.lemmas.Str.{encode_ascii, encode_same}
 use Rattle.std.proofs.lemmas.Bool.{and_parts}
 use mathlib.Core.Bool.{true≢false}
 use Rattle.esm_base.specs.DefaultExport.{star_default}
-use Rattle.esm_base.specs.Mark.{without_mark}
 use Rattle.esm_base.specs.Urls.{Text}
 use Rattle.esm_tree.specs.declared.lexeme.Terminal.{Terminal}
 use Rattle.esm_tree.specs.declared.token.TokenKind.{TokenKind}

@@ -3,7 +3,6 @@ use Rattle.std.specs.Prelude.{◌≡◌, ◌<◌, ◌⊎◌, ℕ, Bool, true, Li
 use Rattle.esm_base.specs.Lists.{is_in}
 use Rattle.esm_base.specs.declared.end.End.{End}
 use Rattle.esm_tree.specs.Syntax.{Parts}
-use Rattle.esm_realm.specs.declared.record.ModuleStatus.{ModuleStatus}
 use Rattle.esm_realm.specs.declared.record.ModuleStatus.TheVariants as statuses
 use Rattle.esm_realm.specs.Sound.{RecordParts}
 use Rattle.esm_realm.specs.ById.{status_of, without_status}

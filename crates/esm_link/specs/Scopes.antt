@@ -1,5 +1,5 @@
 -- The scopes that linking leaves: those of the modules, with each import of a linked one bound to what has a scope.
-use Rattle.std.specs.Prelude.{◌≡◌, ◌<◌, ℕ, Bool, true, false, List, [], length, slice_get, Option, Some, Result}
+use Rattle.std.specs.Prelude.{◌≡◌, ℕ, Bool, true, List, slice_get, Option, Some, Result}
 use Rattle.std.specs.Arc.{arc_value}
 use Rattle.esm_base.specs.declared.end.End.{End}
 use Rattle.esm_tree.specs.Syntax.{Parts}
