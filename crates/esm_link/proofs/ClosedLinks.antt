@@ -14,7 +14,7 @@ use Rattle.esm_realm.proofs.Lists as names
 use Rattle.esm_realm.proofs.Lists.{either}
 use Rattle.esm_env.specs.Modules.{Modules}
 use Rattle.esm_link.specs.Faults.{FaultAt}
-use Rattle.esm_link.specs.Link.{targets, LinksMarks, IsLinking}
+use Rattle.esm_link.specs.Link.{targets, LinksMarks, LinksPart, IsLinking, IsCutLinking}
 use Rattle.esm_link.specs.Laws.{ClosesWhole, entered}
 use Rattle.esm_link.proofs.LinksWhole.{links_whole}
 use Rattle.esm_link.specs.Link.LinksMarks.{done, enters, passes, fails, stays, component}
@@ -37,8 +37,8 @@ module _ {N : Type 0} (same : N → N → Bool) (own : (x : N) → same x x ≡ 
   -- what holds along these marks
   abbrev Holds : List N → List N → List (Mark N) → Type 0
   Holds seen opened [] = Amid seen opened
-  Holds seen opened (Enter x ∷ ms) = Out seen x × P x × Holds (x ∷ seen) (opened ++ x ∷ []) ms
-  Holds seen opened (Pass x i ∷ ms) = Holds seen opened ms
+  Holds seen opened (Enter x ∷ ms) = Amid seen opened × Out seen x × P x × Holds (x ∷ seen) (opened ++ x ∷ []) ms
+  Holds seen opened (Pass x i ∷ ms) = Amid seen opened × Holds seen opened ms
   Holds seen opened (Leave x ∷ ms) = Amid seen opened × Holds seen (open_behind same (closes same to opened x) opened x) ms
 
   record Visited (seen opened : List N) (x : N) (marks : List (Mark N)) (seen' : List N) : Type 0 where
@@ -116,7 +116,7 @@ module _ {N : Type 0} (same : N → N → Bool) (own : (x : N) → same x x ≡ 
       grows y h = q.grows y (names.in_later same own equal x seen y h)
 
       along : (behind : List (Mark N)) → Holds after (open_behind same (closes same to whole x) whole x) behind → Holds seen opened ((Enter x ∷ (marks ++ Leave x ∷ [])) ++ behind)
-      along behind h = (n, p, subst (λ ms. Holds (x ∷ seen) (opened ++ x ∷ []) ms) (sym (append_assoc marks (Leave x ∷ []) behind)) (q.holds (Leave x ∷ behind) (q.amid, h)))
+      along behind h = (a, n, p, subst (λ ms. Holds (x ∷ seen) (opened ++ x ∷ []) ms) (sym (append_assoc marks (Leave x ∷ []) behind)) (q.holds (Leave x ∷ behind) (q.amid, h)))
 
       by : (b : Bool) → leads_into same to (x ∷ q.members') opened ≡ b → Visited seen opened x (Enter x ∷ (marks ++ Leave x ∷ [])) after
       by true e = record {
@@ -141,7 +141,7 @@ module _ {N : Type 0} (same : N → N → Bool) (own : (x : N) → same x x ≡ 
   both seen between after opened x t i members ts first marks v p = record {
     members' = p.members';
     holds = λ behind h. subst (λ ms. Holds seen (opened ++ x ∷ members) ms) (sym (append_assoc first (Pass x i ∷ marks) behind))
-        (v.holds (Pass x i ∷ (marks ++ behind)) (subst (λ o. Holds between o (marks ++ behind)) (sym (append_assoc opened (x ∷ members) v.added)) (p.holds behind h)));
+        (v.holds (Pass x i ∷ (marks ++ behind)) (v.amid, subst (λ o. Holds between o (marks ++ behind)) (sym (append_assoc opened (x ∷ members) v.added)) (p.holds behind h)));
     amid = p.amid;
     grows = λ y h. p.grows y (v.grows y h);
     passed = λ u h. either (names.in_cons same own equal t ts u h) (λ e. subst (λ z. In after z) (sym e) (p.grows t v.known)) (p.passed u);
@@ -294,15 +294,28 @@ module _ {N : Type 0} (same : N → N → Bool) (d : IsSameness same) (g : Modul
 
   links_closed : {opened shut after : List N} {ms : List (Mark N)} {f : Option (FaultAt N)} → LinksMarks same g opened shut ms f after → (seen : List N) → Along seen opened ms → AreCut seen opened shut → AreClosed after
   links_closed (done {closed = shut}) seen h c = closed_of seen [] shut h c
-  links_closed (enters {opened = opened} {closed = shut} {x = x} p) seen h c = links_closed p (x ∷ seen) h.2 (cut_enter seen opened shut x h.0 h.1 c)
-  links_closed (passes p) seen h c = links_closed p seen h c
+  links_closed (enters {opened = opened} {closed = shut} {x = x} p) seen h c = links_closed p (x ∷ seen) h.3 (cut_enter seen opened shut x h.1 h.2 c)
+  links_closed (passes p) seen h c = links_closed p seen h.1 c
   links_closed (fails {opened = opened} {closed = shut} e) seen h c = closed_of seen opened shut h.0 c
   links_closed (stays {opened = opened} {x = x} {ms = ms} e n p) seen h c = links_closed p seen (subst (λ b. Along seen (open_behind same b opened x) ms) n h.1) c
   links_closed (component {opened = opened} {closed = shut} {x = x} {ms = ms} e n p) seen h c = links_closed p seen (subst (λ b. Along seen (open_behind same b opened x) ms) n h.1) (cut_close seen opened shut x c)
 
-  -- what is closed behind linking
-  pub linking_closed : (root : N) (f : Option (FaultAt N)) (after : List N) → P root → IsLinking same g closed root f after → AreClosed after
-  linking_closed root f after p l = links_closed l.links closed (along_walk same d.own d.equal (targets g) closed P inside root l.marks p l.walk) (record {
+  -- the same where linking is broken off
+  amid_of : (seen opened : List N) (ms : List (Mark N)) → Along seen opened ms → Amid same d.own d.equal (targets g) closed P inside seen opened
+  amid_of seen opened [] h = h
+  amid_of seen opened (Enter x ∷ ms) h = h.0
+  amid_of seen opened (Pass x i ∷ ms) h = h.0
+  amid_of seen opened (Leave x ∷ ms) h = h.0
+
+  parts_closed : {opened shut after : List N} {ms : List (Mark N)} → LinksPart same g opened shut ms after → (seen : List N) → Along seen opened ms → AreCut seen opened shut → AreClosed after
+  parts_closed (LinksPart.cut {opened = opened} {closed = shut} {ms = ms}) seen h c = closed_of seen opened shut (amid_of seen opened ms h) c
+  parts_closed (LinksPart.enters {opened = opened} {closed = shut} {x = x} p) seen h c = parts_closed p (x ∷ seen) h.3 (cut_enter seen opened shut x h.1 h.2 c)
+  parts_closed (LinksPart.passes p) seen h c = parts_closed p seen h.1 c
+  parts_closed (LinksPart.stays {opened = opened} {x = x} {ms = ms} e n p) seen h c = parts_closed p seen (subst (λ b. Along seen (open_behind same b opened x) ms) n h.1) c
+  parts_closed (LinksPart.component {opened = opened} {closed = shut} {x = x} {ms = ms} e n p) seen h c = parts_closed p seen (subst (λ b. Along seen (open_behind same b opened x) ms) n h.1) (cut_close seen opened shut x c)
+
+  nothing_open : AreCut closed [] closed
+  nothing_open = record {
     covers = λ y h. inr h;
     shut_seen = λ y h. h;
     shut_out = λ y h. refl;
@@ -311,7 +324,14 @@ module _ {N : Type 0} (same : N → N → Bool) (d : IsSameness same) (g : Modul
     old = λ y h. h;
     opened_good = λ y h. cc;
     shut_good = old_good;
-  })
+  }
+
+  -- what is closed behind linking
+  pub linking_closed : (root : N) (f : Option (FaultAt N)) (after : List N) → P root → IsLinking same g closed root f after → AreClosed after
+  linking_closed root f after p l = links_closed l.links closed (along_walk same d.own d.equal (targets g) closed P inside root l.marks p l.walk) nothing_open
+
+  pub cut_closed : (root : N) (after : List N) → P root → IsCutLinking same g closed root after → AreClosed after
+  cut_closed root after p l = parts_closed l.part closed (along_walk same d.own d.equal (targets g) closed P inside root l.marks p l.walk) nothing_open
 
 -- ---- the law
 

@@ -1,6 +1,6 @@
 -- The imports of a module, one after the other.
 use Rattle.std.proofs.Common.{◌≡◌, ℕ, ◌+◌, ◌≤◌, Bool, true, false, cond, List, [], ◌∷◌, ◌++◌, length, drop, Option, Some, None, refl, ap, subst, sym, ◌∙◌, append_assoc}
-use Rattle.std.specs.Prelude.{slice_get, Result, Ok, Err, MatchResult}
+use Rattle.std.specs.Prelude.{slice_get, is_some, Result, Ok, Err, MatchResult}
 use Rattle.std.specs.Str.{bytes_eq}
 use Rattle.std.proofs.Math.ListN.{drop_of_length-le}
 use Rattle.std.proofs.lemmas.List.{append-nil}
@@ -94,6 +94,14 @@ module _ (g : Modules ℕ) (x : ℕ) where
       by : (s : Bool) → Found (import_named es name) (import_in bound name) → Found (cond s (Some e) (import_named es name)) (import_by s t (import_in bound name))
       by true f = here b
       by false f = f
+
+  found_alike : {o : Option ImportEntry} {t : Option Target} → Found o t → is_some t ≡ is_some o
+  found_alike nothing = refl
+  found_alike (here b) = refl
+
+  -- each import is bound, and nothing else
+  pub all_are_bound : (bound : List (List ℕ × Target)) → BindEach g x (entries g x).imports bound → (name : List ℕ) → is_some (import_in bound name) ≡ is_some (names.import_as g x name)
+  all_are_bound bound b name = found_alike (found b name)
 
   binds_entry : (name : List ℕ) (o : Option ImportEntry) (t : Option Target) → Found o t → names.import_as g x name ≡ o → Binds g x name (target_in t)
   binds_entry name o t nothing is = Binds.no_import is

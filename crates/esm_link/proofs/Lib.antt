@@ -13,3 +13,11 @@ pub mod Naming
 pub mod Trees
 pub mod FaithfulScopes
 pub mod Named
+pub mod LocalWalks
+pub mod Local
+pub mod FromLinked
+pub mod KeptScopes
+pub mod SpelledNames
+pub mod DeclaredNames
+pub mod OwnExports
+pub mod SameRecords

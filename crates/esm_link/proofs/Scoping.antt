@@ -1,6 +1,6 @@
 -- Scopes amid a walk of linking.
 use Rattle.std.proofs.Common.{◌≡◌, ℕ, Bool, true, false, cond, List, [], ◌∷◌, ◌++◌, refl, ap, subst, sym, ◌∙◌, nat_eq, eqb-true, eq-eqb, inl, inr, append_assoc, length, drop, take}
-use Rattle.std.specs.Prelude.{◌⊎◌}
+use Rattle.std.specs.Prelude.{◌⊎◌, is_some}
 use Rattle.std.proofs.lemmas.List.{append-nil}
 use mathlib.Core.Bool.{true≢false}
 use Rattle.esm_base.specs.Lists.{is_in}
@@ -13,7 +13,7 @@ use Rattle.esm_realm.proofs.Lists.{either}
 use Rattle.esm_realm.proofs.Urls.{cases}
 use Rattle.esm_realm.proofs.Numbers.{In, own, in_split, in_cons, drop_front, take_front}
 use Rattle.esm_base.specs.declared.end.End.{End}
-use Rattle.esm_env.specs.Bindings.{Binds}
+use Rattle.esm_env.specs.Bindings.{Binds, import_as}
 use Rattle.esm_env.specs.Faithful.{target_in}
 use Rattle.esm_env.specs.Scopes.{Scopes, scope_in, import_in}
 use Rattle.esm_env.specs.declared.scope.ModuleScope.{ModuleScope}
@@ -190,7 +190,7 @@ module _ (trees : List Parts) (rs : List RecordParts) where
 
 module _ (trees : List Parts) (xs ys : List RecordParts) (same : modules_of trees xs ≡ modules_of trees ys) where
   scope_on : (y : ℕ) (o : Option ModuleScope) → IsLinkedScope trees xs y o → IsLinkedScope trees ys y o
-  scope_on y o l = record { tree = l.tree; imports = l.imports; tree_is = l.tree_is; made = l.made; bound = λ name. subst (λ g. Binds g y name (target_in (import_in l.imports name))) same (l.bound name) }
+  scope_on y o l = record { tree = l.tree; imports = l.imports; tree_is = l.tree_is; made = l.made; bound = λ name. subst (λ g. Binds g y name (target_in (import_in l.imports name))) same (l.bound name); all = λ name. subst (λ g. is_some (import_in l.imports name) ≡ is_some (import_as g y name)) same (l.all name) }
 
   pub left_on : {x : ℕ} {E E' : Scopes} → IsLeft trees xs x E E' → IsLeft trees ys x E E'
   left_on {x} {E} {E'} l = record { fault = subst (λ g. FirstFault g x None) same l.fault; made = scope_on x (scope_in E' x) l.made; others = l.others }

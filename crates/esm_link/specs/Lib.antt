@@ -5,3 +5,6 @@ pub mod Laws
 pub mod Examples
 pub mod Inner
 pub mod Naming
+pub mod Local
+pub mod Scopes
+pub mod Parsed

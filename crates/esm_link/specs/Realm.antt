@@ -1,5 +1,5 @@
 -- Linking over the records of a realm, the trees of its modules and their scopes.
-use Rattle.std.specs.Prelude.{◌≡◌, ◌<◌, ◌^◌, ◌⊎◌, ℕ, Bool, true, false, not, nat_eq, List, [], map, length, slice_get, All, Option, Some, None, Result, Ok, Err}
+use Rattle.std.specs.Prelude.{◌≡◌, ◌<◌, ◌^◌, ◌⊎◌, ℕ, Bool, true, false, not, nat_eq, List, [], map, length, slice_get, All, Option, Some, None, is_some, Result, Ok, Err}
 use Rattle.esm_base.specs.Lists.{is_in}
 use Rattle.esm_base.specs.declared.end.End.{End}
 use Rattle.esm_base.specs.declared.end.End.TheVariants.{Fault, Memory}
@@ -14,7 +14,7 @@ use Rattle.esm_realm.specs.Sound.{RecordParts}
 use Rattle.esm_realm.specs.ById.{status_of, entries_at, url_at, target_at, is_unlinked, without_status}
 use Rattle.esm_resolve.specs.Resolution.{module_id}
 use Rattle.esm_env.specs.Modules.{Modules}
-use Rattle.esm_env.specs.Bindings.{Binds}
+use Rattle.esm_env.specs.Bindings.{Binds, import_as}
 use Rattle.esm_env.specs.Declarations.{Initial, initial}
 use Rattle.esm_env.specs.Faithful.{target_in}
 use Rattle.esm_env.specs.Makes.{IsMade}
@@ -72,6 +72,10 @@ fault_of f = record { kind = f.kind; module_is = f.«module».0; name = f.name; 
 abbrev pub AreClosed : List RecordParts → List ℕ → Type 0
 AreClosed rs closed = (x : ℕ) → x < length rs → is_in nat_eq closed x ≡ not (is_unlinked (status_of rs x))
 
+abbrev pub is_linked : ModuleStatus → Bool
+is_linked statuses.Linked = true
+is_linked status = false
+
 abbrev pub relinked : Bool → ModuleStatus → ModuleStatus
 relinked true statuses.Unlinked = statuses.Linked
 relinked linked status = status
@@ -104,6 +108,7 @@ module _ (trees : List Parts) (rs : List RecordParts) where
     pub tree_is : slice_get trees x ≡ Some tree
     pub made : IsMade (module_id x) tree imports scope
     pub bound : (name : List ℕ) → Binds (modules_of trees rs) x name (target_in (import_in imports name))
+    pub all : (name : List ℕ) → is_some (import_in imports name) ≡ is_some (import_as (modules_of trees rs) x name)
 
   -- what has become Linked has its scope; one that was entered and is Unlinked again may have it too; all else is as before
   pub record MakesScopes (scopes : Scopes) (new : List RecordParts) (after : Scopes) : Type 0 where

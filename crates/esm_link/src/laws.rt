@@ -1,6 +1,9 @@
 // Laws of the definitions, as functions without effect.
 ghost use Rattle.esm_link.specs.Laws.{ClosesWhole, HasLinking, LinkedScopesAreFaithful, LinksWhole, OneLinking};
+ghost use Rattle.esm_link.specs.Local.{ClosingIsLocal, LinkingIsLocal, LinksFromLinked, RecordsAgree};
 ghost use Rattle.esm_link.specs.Naming.{LinkingFollowsNames};
+ghost use Rattle.esm_link.specs.Parsed.{SpelledIsBound};
+ghost use Rattle.esm_link.specs.Scopes.{LinkKeepsScopes, ScopesAreLocal};
 
 /// Linking a module has one outcome: a fault or none, and the modules that are closed then.
 pub fn one_linking<N>()
@@ -25,6 +28,44 @@ pub fn closes_whole<N>()
 /// The scope that linking makes of a module reads as the module's names do: it fits its tree, and its imports are bound.
 pub fn linked_scopes_are_faithful()
     ensures { LinkedScopesAreFaithful }
+{}
+
+/// Linking is local: where two graphs agree on what a root reaches, their linkings from it are the same, with the same
+/// faults, and so are the bindings of the imports there.
+pub fn linking_is_local<N>()
+    ensures { LinkingIsLocal N }
+{}
+
+/// Of the modules that are closed when linking begins only those that the root reaches matter.
+pub fn closing_is_local<N>()
+    ensures { ClosingIsLocal N }
+{}
+
+/// Where the root reaches only what is Unlinked or Linked, linking with the Linked modules closed is what `link` does.
+pub fn links_from_linked()
+    ensures { LinksFromLinked }
+{}
+
+/// Records that are the same but for their statuses are the same modules, where they request nothing else.
+pub fn records_agree()
+    ensures { RecordsAgree }
+{}
+
+/// Linking keeps scopes right, whatever it answers: each Linked module has its own, each import of which is bound to what
+/// has a scope, and what a Linked module requests is Linked.
+pub fn link_keeps_scopes()
+    ensures { LinkKeepsScopes }
+{}
+
+/// Scopes that are right over some modules are right over others that agree on all that have scopes.
+pub fn scopes_are_local()
+    ensures { ScopesAreLocal }
+{}
+
+/// What was read from texts meets the conditions of linking: each name that a module exports as its own is declared once, and
+/// its items are few.
+pub fn spelled_is_bound()
+    ensures { SpelledIsBound }
 {}
 
 /// Modules with names, by other names.

@@ -36,6 +36,7 @@ returns-in-Ok-make_scope-clause-left c =
         tree_is = trees.tree_at c.args.trees.now (records_of c.args.realm.now) c.requires.whole.trees_are c.args.x c.index-trees-x.result c.requires.within c.index-trees-x.is;
         made = c.in-Ok-make_scope.ensures.made;
         bound = imports.binds (modules_of (map arc_value c.args.trees.now) (records_of c.args.realm.now)) c.args.x c.in-Ok.imports.items b.each;
+        all = imports.all_are_bound (modules_of (map arc_value c.args.trees.now) (records_of c.args.realm.now)) c.args.x c.in-Ok.imports.items b.each;
       };
       others = c.make_scope.ensures.others;
     }
