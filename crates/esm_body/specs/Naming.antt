@@ -89,30 +89,36 @@ module _ {M N : Type 0} (names : Naming M N) where
     abbrev pub renamed_state : State M I → State N J
     renamed_state w = record { engine = renamed_engine w.engine; cells = renamed_cells names w.cells; outer = renamed_outer w.outer }
 
-    -- an import() that begins on the one side begins on the other
-    abbrev pub ImportsFollow : Importing M I → Importing N J → Type 0
-    ImportsFollow begins others = (o x : Outer M I) (m : M) (text : List ℕ) (p : ℕ) (end : Result (Unit {0}) Limit)
-        → begins o m text p end x → others (renamed_outer o) (names.name m) text p end (renamed_outer x)
+    -- an import() that begins on the one side, where what it reads is good, begins on the other, and leaves what is good
+    abbrev pub ImportsFollow : (I → Type 0) → Importing M I → Importing N J → Type 0
+    ImportsFollow Good begins others = (o x : Outer M I) (m : M) (text : List ℕ) (p : ℕ) (end : Result (Unit {0}) Limit)
+        → Good o.imports → begins o m text p end x
+        → others (renamed_outer o) (names.name m) text p end (renamed_outer x) × Good x.imports
 
-    module _ (same : M → M → Bool) (other : N → N → Bool) (modules : I → Modules M) (images : J → Modules N)
+    module _ (Good : I → Type 0) (same : M → M → Bool) (other : N → N → Bool) (modules : I → Modules M) (images : J → Modules N)
         (begins : Importing M I) (others : Importing N J) where
+      -- what import() reads and writes in this state is good
+      abbrev pub IsGood : State M I → Type 0
+      IsGood w = Good w.outer.imports
+
       pub record BodiesFollow : Type 0 where
-        pub segment : (w after : State M I) (m : M) (rest : Rest (Value M)) (callers : List (Active M)) (how : Ended M)
+        pub segment : (w after : State M I) (m : M) (rest : Rest (Value M)) (callers : List (Active M)) (how : Ended M) → IsGood w
             → Segment same modules begins w m rest callers how after
             → Segment other images others (renamed_state w) (names.name m) (renamed_rest rest) (map renamed_active callers)
-            (renamed_ended how) (renamed_state after)
-        pub start : (w after : State M I) (m : M) (done : ℕ) (end : Result (Unit {0}) Limit)
+            (renamed_ended how) (renamed_state after) × IsGood after
+        pub start : (w after : State M I) (m : M) (done : ℕ) (end : Result (Unit {0}) Limit) → IsGood w
             → StartsBody same modules begins w m done end after
-            → StartsBody other images others (renamed_state w) (names.name m) done end (renamed_state after)
-        pub run : (w after : State M I) (m : M) (end : Result (Ran (Value M)) Limit) → RunsBody same modules begins w m end after
+            → StartsBody other images others (renamed_state w) (names.name m) done end (renamed_state after) × IsGood after
+        pub run : (w after : State M I) (m : M) (end : Result (Ran (Value M)) Limit) → IsGood w
+            → RunsBody same modules begins w m end after
             → RunsBody other images others (renamed_state w) (names.name m) (mapped_end (renamed_value names.name) end)
-            (renamed_state after)
-        pub resume : (w after : State M I) (m : M) (how : Settled (Value M)) (end : Result (Unit {0}) Limit)
+            (renamed_state after) × IsGood after
+        pub resume : (w after : State M I) (m : M) (how : Settled (Value M)) (end : Result (Unit {0}) Limit) → IsGood w
             → ResumesBody same modules begins w m how end after
             → ResumesBody other images others (renamed_state w) (names.name m) (renamed_settled names.name how) end
-            (renamed_state after)
+            (renamed_state after) × IsGood after
 
-      -- the modules are the same by their names, and so is each import(): then so is what bodies do
+      -- where it is good, the modules are the same by their names, and so is each import(): then so is what bodies do
       abbrev pub FollowsNames : Type 0
-      FollowsNames = IsSameness same → IsSameness other → ((i : I) → AreNamed names (modules i) (images (image i)))
-          → ImportsFollow begins others → BodiesFollow
+      FollowsNames = IsSameness same → IsSameness other
+          → ((i : I) → Good i → AreNamed names (modules i) (images (image i))) → ImportsFollow Good begins others → BodiesFollow

@@ -68,6 +68,8 @@ pub trait Named {
     ghost names: { Naming Self.Name Self.Other };
     /// What import() reads and writes, as the other side sees it.
     ghost image: { Self.Imports → Self.Images };
+    /// Where the modules are the same by their names, and import() is.
+    ghost good: { Self.Imports → Type 0 };
     /// Two names are the same.
     ghost same: { Self.Name → Self.Name → Bool };
     /// Two of the other names are.
@@ -82,7 +84,9 @@ pub trait Named {
     ghost others: { Importing Self.Other Self.Images };
 }
 
-/// What bodies do follows the names of modules: a segment, and each call for a body.
+/// From a good state, what bodies do follows the names of modules, a segment, and each call for a body, and leaves a good
+/// state, where each `import()` does.
 pub fn follows_names<A: Named>()
-    ensures { FollowsNames A.names A.image A.same A.other A.modules A.images A.begins A.others }
+    ensures { FollowsNames A.names A.image A.good A.same A.other A.modules A.images
+        A.begins A.others }
 {}

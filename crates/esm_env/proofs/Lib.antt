@@ -9,3 +9,4 @@ pub mod WrittenLemmas
 pub mod LocalLemmas
 pub mod FunctionLemmas
 pub mod Named
+pub mod Pulled

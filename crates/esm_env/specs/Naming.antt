@@ -7,7 +7,7 @@ use Rattle.esm_resolve.specs.Renumbered.{Renumbers}
 use Rattle.esm_resolve.specs.Keys.{AreNamespaceKeysOf}
 use Rattle.esm_values.specs.Value as values
 use Rattle.esm_values.specs.Naming.{Naming, renamed_value}
-use Rattle.esm_env.specs.Modules.{Modules, entries, graph}
+use Rattle.esm_env.specs.Modules.{Modules, IsNumbered, entries, graph}
 use Rattle.esm_env.specs.Cells.{Cells, Reading, Value, Unset, Undeclared, write_cell}
 use Rattle.esm_env.specs.Reading.{IsReadingOf, IsMemberOf}
 use Rattle.esm_env.specs.Writing as writing
@@ -24,6 +24,23 @@ module _ {M N : Type 0} (names : Naming M N) where
     pub numbers : (m : M) → number (g.number m) ≡ h.number (names.name m)
     pub renumbers : (m : M) → Renumbers (graph g) (graph h) number (g.number m)
     pub named : (m : M) (x : ℕ) → IsReached (graph g) (g.number m) x → h.named (number x) ≡ names.name (g.named x)
+
+  -- the modules of h, read by other names: each name is of a module
+  module _ (total : (n : N) → (m : M) × (names.of n ≡ Some m)) where
+    abbrev pub pulled : Modules N → Modules M
+    pulled h = record {
+      url = λ m. h.url (names.name m);
+      tree = λ m. h.tree (names.name m);
+      target = λ m i. (total (h.target (names.name m) i)).0;
+      size = h.size;
+      number = λ m. h.number (names.name m);
+      named = λ x. (total (h.named x)).0;
+    }
+
+  -- they are those of h by their names, whichever modules are there
+  pub record PulledAreNamed : Type 0 where
+    pub named : (total : (n : N) → (m : M) × (names.of n ≡ Some m)) (h : Modules N) → AreNamed (pulled total h) h
+    pub numbered : (total : (n : N) → (m : M) × (names.of n ≡ Some m)) (h : Modules N) → IsNumbered h → IsNumbered (pulled total h)
 
   abbrev pub renamed_in : Cells M → List ℕ → Option M → Option (values.Value N)
   renamed_in cells x None = None

@@ -1,6 +1,6 @@
 //! Laws of the definitions, each the contract of a function without effect.
 ghost use Rattle.esm_env.specs.Laws.{ReadsOne, BeginsUnset, ReadsRight, EndsRight, WritesRight, MadeFits};
-ghost use Rattle.esm_env.specs.Naming.{FollowsNames};
+ghost use Rattle.esm_env.specs.Naming.{FollowsNames, PulledAreNamed};
 
 /// An import is bound to one thing at most, and a name, and a member of a namespace, reads as one thing.
 pub fn one_reading()
@@ -55,4 +55,10 @@ pub trait Named {
 /// What names and members read as, which keys a namespace has, and what is written, follows the names of modules.
 pub fn follows_names<A: Named>()
     ensures { FollowsNames A.names A.same A.other }
+{}
+
+/// Modules that are read by other names, each of which is of a module, are the same modules by their names, whichever are
+/// there.
+pub fn pulled_are_named<A: Named>()
+    ensures { PulledAreNamed A.names }
 {}

@@ -14,5 +14,6 @@ pub mod Marked
 pub mod HasMarks
 pub mod HasReady
 pub mod HasEvaluation
+pub mod Due
 pub mod Named
 pub mod Inner

@@ -1,13 +1,19 @@
 -- Evaluation over modules by other names, and values in the place of others: two worlds of which the one is read as the other.
-use Rattle.std.specs.Prelude.{◌≡◌, ℕ, false, map, None, Result, Ok, Err}
+use Rattle.std.specs.Prelude.{◌≡◌, ℕ, Bool, true, false, map, None, Result, Ok, Err}
 use Rattle.std.specs.Option.{option_map}
-use Rattle.esm_base.specs.Lists.{IsSameness}
+use Rattle.esm_base.specs.Lists.{IsSameness, is_in}
 use Rattle.esm_values.specs.Naming.{Naming}
 use Rattle.esm_values.specs.Ran.{Ran, Normal, Thrown}
-use Rattle.esm_eval.specs.Nodes.{Node, Call, CallAnswer, Start, Run, BodyCalls, was_entered}
-use Rattle.esm_eval.specs.Evaluation.{Evaluation, phase}
+use Rattle.esm_eval.specs.Nodes.{Node, Call, CallAnswer, Start, Run, BodyCalls, was_entered, module_of}
+use Rattle.esm_eval.specs.Evaluation.{Evaluation, IsLawful, IsSteady, phase, is_stamped, root_of}
 use Rattle.esm_eval.specs.Evaluate.{Evaluates}
 use Rattle.esm_eval.specs.BodyEnd.{Fulfills, Rejects}
+use Rattle.esm_eval.specs.Begins.{BeginsOne, HaveBegunOnce}
+
+-- the call is for a body that awaits
+abbrev pub is_start : {M : Type 0} → Call M → Bool
+is_start (Start m end) = true
+is_start (Run m) = false
 
 module _ {M N V U : Type 0} (names : Naming M N) (value : V → U) where
   abbrev pub named_node : Node M V → Node N U
@@ -37,39 +43,63 @@ module _ {M N V U : Type 0} (names : Naming M N) (value : V → U) where
   mapped_result c (Ok answer) = Ok (mapped_answer c answer)
   mapped_result c (Err why) = Err why
 
-  module _ {W X : Type 0} (E : Evaluation M V W) (D : Evaluation N U X) (world : W → X) where
-    -- what E reads of a world, D reads of the other by names, and what the one writes, the other does. A name that names no module
-    -- is of none that was entered
+  module _ {W X : Type 0} (Good : W → Type 0) (E : Evaluation M V W) (D : Evaluation N U X) (world : W → X) where
+    -- what E reads of a good world, D reads of the other by names, and what the one writes, the other does. A name that names no
+    -- module is of none that was entered
     pub record Matches : Type 0 where
       pub sameness : IsSameness D.same
       pub alike : (x y : M) → D.same (names.name x) (names.name y) ≡ E.same x y
-      pub targets : (w : W) (x : M) → D.targets (world w) (names.name x) ≡ map names.name (E.targets w x)
-      pub awaits : (w : W) (x : M) → D.awaits (world w) (names.name x) ≡ E.awaits w x
-      pub node : (w : W) (x : M) → D.node (world w) (names.name x) ≡ named_node (E.node w x)
-      pub unnamed : (w : W) (y : N) → names.of y ≡ None → was_entered (phase D (world w) y) ≡ false
-      pub stamps : (w : W) → D.stamps (world w) ≡ map names.name (E.stamps w)
-      pub begun : (w : W) (x : M) → D.begun (world w) (names.name x) ≡ E.begun w x
-      pub next_promise : (w : W) → D.next_promise (world w) ≡ E.next_promise w
-      pub put : (w : W) (x : M) (n : Node M V) → D.put (world w) (names.name x) (named_node n) ≡ world (E.put w x n)
-      pub add_stamp : (w : W) (x : M) → D.add_stamp (world w) (names.name x) ≡ world (E.add_stamp w x)
-      pub make_promise : (w : W) → D.make_promise (world w) ≡ world (E.make_promise w)
-      pub make_body_promise : (w : W) (x : M) → D.make_body_promise (world w) (names.name x) ≡ world (E.make_body_promise w x)
-      pub fulfill : (w : W) (p : ℕ) → D.fulfill (world w) p ≡ world (E.fulfill w p)
-      pub reject : (w : W) (p : ℕ) (v : V) → D.reject (world w) p (value v) ≡ world (E.reject w p v)
+      pub targets : (w : W) → Good w → (x : M) → D.targets (world w) (names.name x) ≡ map names.name (E.targets w x)
+      pub awaits : (w : W) → Good w → (x : M) → D.awaits (world w) (names.name x) ≡ E.awaits w x
+      pub node : (w : W) → Good w → (x : M) → D.node (world w) (names.name x) ≡ named_node (E.node w x)
+      pub unnamed : (w : W) → Good w → (y : N) → names.of y ≡ None → was_entered (phase D (world w) y) ≡ false
+      pub stamps : (w : W) → Good w → D.stamps (world w) ≡ map names.name (E.stamps w)
+      pub begun : (w : W) → Good w → (x : M) → D.begun (world w) (names.name x) ≡ E.begun w x
+      pub next_promise : (w : W) → Good w → D.next_promise (world w) ≡ E.next_promise w
+      pub put : (w : W) → Good w → (x : M) (n : Node M V) → D.put (world w) (names.name x) (named_node n) ≡ world (E.put w x n)
+      pub add_stamp : (w : W) → Good w → (x : M) → D.add_stamp (world w) (names.name x) ≡ world (E.add_stamp w x)
+      pub make_promise : (w : W) → Good w → D.make_promise (world w) ≡ world (E.make_promise w)
+      pub make_body_promise : (w : W) → Good w → (x : M)
+          → D.make_body_promise (world w) (names.name x) ≡ world (E.make_body_promise w x)
+      pub fulfill : (w : W) → Good w → (p : ℕ) → D.fulfill (world w) p ≡ world (E.fulfill w p)
+      pub reject : (w : W) → Good w → (p : ℕ) (v : V) → D.reject (world w) p (value v) ≡ world (E.reject w p v)
 
-    module _ {S : Type 0} (acts : BodyCalls M V W S) (others : BodyCalls N U X S) where
-      -- each call for a body is one by names
+    -- whatever evaluation writes to a good world, it is good still
+    pub record WritesStay : Type 0 where
+      pub put : (w : W) → Good w → (x : M) (n : Node M V) → Good (E.put w x n)
+      pub add_stamp : (w : W) → Good w → (x : M) → Good (E.add_stamp w x)
+      pub make_promise : (w : W) → Good w → Good (E.make_promise w)
+      pub make_body_promise : (w : W) → Good w → (x : M) → Good (E.make_body_promise w x)
+      pub fulfill : (w : W) → Good w → (p : ℕ) → Good (E.fulfill w p)
+      pub reject : (w : W) → Good w → (p : ℕ) (v : V) → Good (E.reject w p v)
+
+    -- a call that evaluation may make, of the body of a module that was entered, is linked and hasn't begun: it is started where it
+    -- awaits, and run where it doesn't
+    pub record IsDue (IsLinked : M → Type 0) (w : W) (c : Call M) : Type 0 where
+      pub linked : IsLinked (module_of c)
+      pub entered : was_entered (phase E w (module_of c)) ≡ true
+      pub awaits : E.awaits w (module_of c) ≡ is_start c
+      pub first : E.begun w (module_of c) ≡ false
+
+    module _ {S : Type 0} (IsLinked : M → Type 0) (acts : BodyCalls M V W S) (others : BodyCalls N U X S) where
+      -- in a good world each such call is one by names, and leaves a good world
       abbrev pub CallsFollow : Type 0
-      CallsFollow = (w after : W) (c : Call M) (r : Result (CallAnswer V c) S) → acts w c r after
-          → others (world w) (named_call c) (mapped_result c r) (world after)
+      CallsFollow = (w after : W) (c : Call M) (r : Result (CallAnswer V c) S) → Good w → IsDue IsLinked w c → acts w c r after
+          → others (world w) (named_call c) (mapped_result c r) (world after) × Good after
 
       pub record EvaluationFollows : Type 0 where
-        pub evaluates : (w after : W) (m : M) (answer : Result ℕ S) → Evaluates E acts w m answer after
-            → Evaluates D others (world w) (names.name m) answer (world after)
-        pub fulfills : (w after : W) (m : M) (end : Result (Unit {0}) S) → Fulfills E acts w m end after
-            → Fulfills D others (world w) (names.name m) end (world after)
-        pub rejects : (w after : W) (m : M) (v : V) → Rejects E w m v after → Rejects D (world w) (names.name m) (value v) (world after)
+        -- what is linked leads to what is linked
+        pub evaluates : (w after : W) (m : M) (answer : Result ℕ S) → Good w → HaveBegunOnce E w → IsLinked (root_of E w m)
+            → ((x t : M) → IsLinked x → is_in E.same (E.targets w x) t ≡ true → IsLinked t) → Evaluates E acts w m answer after
+            → Evaluates D others (world w) (names.name m) answer (world after) × Good after
+        -- each module with an order is linked
+        pub fulfills : (w after : W) (m : M) (end : Result (Unit {0}) S) → Good w → HaveBegunOnce E w
+            → ((x : M) → is_stamped E w x ≡ true → IsLinked x) → Fulfills E acts w m end after
+            → Fulfills D others (world w) (names.name m) end (world after) × Good after
+        pub rejects : (w after : W) (m : M) (v : V) → Good w → Rejects E w m v after
+            → Rejects D (world w) (names.name m) (value v) (world after) × Good after
 
-      -- then evaluating a module, and what follows the end of a body, are so by names
+      -- then evaluating a module, and what follows the end of a body, are so by names from a good world, and leave a good one
       abbrev pub EvaluationFollowsNames : Type 0
-      EvaluationFollowsNames = Matches → CallsFollow → EvaluationFollows
+      EvaluationFollowsNames = IsLawful E → IsSteady E acts → BeginsOne E acts → Matches → WritesStay → CallsFollow
+          → EvaluationFollows

@@ -64,12 +64,17 @@ pub trait NamedWorld: AnyWorld {
     ghost names: { Naming Self.Name Self.Other.Name };
     /// The values in the place of those that bodies throw.
     ghost value: { Self.Value → Self.Other.Value };
+    /// The worlds of which this is so.
+    ghost good: { Self.World → Type 0 };
+    /// The modules that are linked.
+    ghost is_linked: { Self.Name → Type 0 };
     /// The world as the other.
     ghost world: { Self.World → Self.Other.World };
 }
 
-/// Evaluation follows names: evaluating a module, and what follows the end of a body, are so of the other world.
+/// From a good world evaluation follows names: evaluating a module, and what follows the end of a body, are so of the other
+/// world, and leave a good one, where the calls for bodies that evaluation may make do.
 pub fn evaluation_follows_names<A: NamedWorld>()
-    ensures { EvaluationFollowsNames A.names A.value A.evaluation A.Other.evaluation A.world
-        A.acts A.Other.acts }
+    ensures { EvaluationFollowsNames A.names A.value A.good A.evaluation A.Other.evaluation A.world
+        A.is_linked A.acts A.Other.acts }
 {}

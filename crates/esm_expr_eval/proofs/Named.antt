@@ -15,7 +15,7 @@ use Rattle.esm_values.specs.Plans.{Follows as follow}
 use Rattle.esm_values.specs.Operators.{Look, Values, Textual, is_true, compare, sum, operand, made, joined, complete, faults, error_of, new_error, to_text_by, textual}
 use Rattle.esm_values.specs.Operators.{Look as look}
 use Rattle.esm_values.specs.Operators.{Textual as text}
-use Rattle.esm_values.specs.Naming.{mapped_completion, mapped_act, mapped_answer, mapped_rewritten, LooksAlike, ActsFollow}
+use Rattle.esm_values.specs.Naming.{mapped_completion, mapped_act, mapped_answer, mapped_rewritten, LooksAlike}
 use Rattle.esm_expr_eval.specs.Terms.{Term, Terms, LinkTerms}
 use Rattle.esm_expr_eval.specs.Terms.{Term as term}
 use Rattle.esm_expr_eval.specs.Terms.{Terms as terms}
@@ -23,7 +23,7 @@ use Rattle.esm_expr_eval.specs.Terms.{Compared as pairs}
 use Rattle.esm_expr_eval.specs.Terms.{LinkTerms as links}
 use Rattle.esm_expr_eval.specs.Rewriting.{AreValues, or_on, and_on, enters, called, printed, error_made, import_begun, Rewrites, RewritesIn}
 use Rattle.esm_expr_eval.specs.Ends.{TermEnd, Leads}
-use Rattle.esm_expr_eval.specs.Naming.{mapped_term, mapped_terms, mapped_compared, mapped_links, mapped_end, FollowsNames}
+use Rattle.esm_expr_eval.specs.Naming.{mapped_term, mapped_terms, mapped_compared, mapped_links, mapped_end, ActsFollow, FollowsNames}
 
 -- ---- plans
 
@@ -34,12 +34,17 @@ module _ {V U : Type 0} (f : V → U) where
     asks : {a : Act V} {next : AnswerTo a → Plan V S A} {other : AnswerTo (mapped_act f a) → Plan U S B}
         → ((r : AnswerTo a) → PlanFollows rest (next r) (other (mapped_answer f a r))) → PlanFollows rest (plan.Asks a next) (plan.Asks (mapped_act f a) other)
 
-  module _ {W X S : Type 0} (world : W → X) (acts : Acting W V S) (others : Acting X U S) (k : ActsFollow f world acts others) where
-    pub plan_follows : {A B : Type 0} {rest : A → B} {p : Plan V S A} {q : Plan U S B} → PlanFollows rest p q → {w after : W} {c : Rewritten V S A} → Follows acts w p c after
+  module _ {W X S : Type 0} (Good : W → Type 0) (world : W → X) (acts : Acting W V S) (others : Acting X U S) (k : ActsFollow f Good world acts others) where
+    pub plan_follows : {A B : Type 0} {rest : A → B} {p : Plan V S A} {q : Plan U S B} → PlanFollows rest p q → {w after : W} {c : Rewritten V S A} → Good w → Follows acts w p c after
         → Follows others (world w) q (mapped_rewritten f rest c) (world after)
-    plan_follows PlanFollows.ends follow.ends = follow.ends
-    plan_follows (PlanFollows.asks h) (follow.asks {a = a} r p q) = follow.asks (mapped_answer f a r) (k _ _ a (Ok r) p) (plan_follows (h r) q)
-    plan_follows (PlanFollows.asks h) (follow.stops {a = a} {why = why} p) = follow.stops (k _ _ a (Err why) p)
+    plan_follows PlanFollows.ends g follow.ends = follow.ends
+    plan_follows (PlanFollows.asks h) g (follow.asks {a = a} r p q) = let one = k _ _ a (Ok r) g p in follow.asks (mapped_answer f a r) one.0 (plan_follows (h r) one.1 q)
+    plan_follows (PlanFollows.asks h) g (follow.stops {a = a} {why = why} p) = follow.stops ((k _ _ a (Err why) g p).0)
+
+    pub plan_stays : {A : Type 0} {p : Plan V S A} {w after : W} {c : Rewritten V S A} → Good w → Follows acts w p c after → Good after
+    plan_stays g follow.ends = g
+    plan_stays g (follow.asks {a = a} r p q) = plan_stays ((k _ _ a (Ok r) g p).1) q
+    plan_stays g (follow.stops {a = a} {why = why} p) = (k _ _ a (Err why) g p).1
 
   abbrev mapped : Term V → Term U
   mapped t = mapped_term f t
@@ -158,8 +163,8 @@ module _ {V U S : Type 0} (f : V → U) (values : Values V) (others : Values U) 
 
   -- ---- rewritings
 
-  module _ {W X : Type 0} (world : W → X) (url : W → List ℕ) (other_url : X → List ℕ) (acts : Acting W V S) (other_acts : Acting X U S)
-      (urls : (w : W) → other_url (world w) ≡ url w) (k : ActsFollow f world acts other_acts) where
+  module _ {W X : Type 0} (Good : W → Type 0) (world : W → X) (url : W → List ℕ) (other_url : X → List ℕ) (acts : Acting W V S) (other_acts : Acting X U S)
+      (urls : (w : W) → Good w → other_url (world w) ≡ url w) (k : ActsFollow f Good world acts other_acts) where
     abbrev Before : W → Term V → Rewritten V S (Term V) → W → Type 0
     Before w t c after = Rewrites values url acts w t c after
 
@@ -183,61 +188,98 @@ module _ {V U S : Type 0} (f : V → U) (values : Values V) (others : Values U) 
     same_end {w} {after} {t} e p = subst (λ c. After w t c after) (sym e) p
 
     mutual
-      pub rewrites_follow : {w after : W} {t : Term V} {c : Rewritten V S (Term V)} → Before w t c after → After w (mapped_term f t) (Came c) after
-      rewrites_follow Rewrites.fails = Rewrites.fails
-      rewrites_follow (Rewrites.name p) = Rewrites.name (plan_follows f world acts other_acts k (PlanFollows.asks (complete_follows (mapped f) (λ v. term.Val v) (λ v. term.Val v) (λ v. refl))) p)
-      rewrites_follow (Rewrites.or_in {es = es} {c = c} p) = into (λ e. term.Or e es) (λ e. term.Or e (mapped_terms f es)) (λ e. refl) c (Rewrites.or_in (rewrites_follow p))
-      rewrites_follow (Rewrites.or {v = v} {es = es}) = same_end (or_follows v es) Rewrites.or
-      rewrites_follow (Rewrites.and_in {es = es} {c = c} p) = into (λ e. term.And e es) (λ e. term.And e (mapped_terms f es)) (λ e. refl) c (Rewrites.and_in (rewrites_follow p))
-      rewrites_follow (Rewrites.and {v = v} {es = es}) = same_end (and_follows v es) Rewrites.and
-      rewrites_follow (Rewrites.equal_in {cs = cs} {c = c} p) = into (λ e. term.Equal e cs) (λ e. term.Equal e (mapped_compared f cs)) (λ e. refl) c (Rewrites.equal_in (rewrites_follow p))
-      rewrites_follow (Rewrites.equal_right {v = v} {b = b} {cs = cs} {c = c} p) =
-          into (λ e. term.Equal (term.Val v) (pairs.compared b e cs)) (λ e. term.Equal (term.Val (f v)) (pairs.compared b e (mapped_compared f cs))) (λ e. refl) c (Rewrites.equal_right (rewrites_follow p))
-      rewrites_follow (Rewrites.equal {u = u} {v = v} {b = b} {cs = cs}) =
+      pub rewrites_stay : {w after : W} {t : Term V} {c : Rewritten V S (Term V)} → Good w → Before w t c after → Good after
+      rewrites_stay g Rewrites.fails = g
+      rewrites_stay g (Rewrites.name p) = plan_stays f Good world acts other_acts k g p
+      rewrites_stay g (Rewrites.or_in p) = rewrites_stay g p
+      rewrites_stay g Rewrites.or = g
+      rewrites_stay g (Rewrites.and_in p) = rewrites_stay g p
+      rewrites_stay g Rewrites.and = g
+      rewrites_stay g (Rewrites.equal_in p) = rewrites_stay g p
+      rewrites_stay g (Rewrites.equal_right p) = rewrites_stay g p
+      rewrites_stay g Rewrites.equal = g
+      rewrites_stay g Rewrites.equal_end = g
+      rewrites_stay g (Rewrites.sum_in p) = rewrites_stay g p
+      rewrites_stay g (Rewrites.sum_right p) = rewrites_stay g p
+      rewrites_stay g (Rewrites.joins p) = plan_stays f Good world acts other_acts k g p
+      rewrites_stay g Rewrites.sum_end = g
+      rewrites_stay g (Rewrites.not_in p) = rewrites_stay g p
+      rewrites_stay g Rewrites.not_of = g
+      rewrites_stay g (Rewrites.post_in p) = rewrites_stay g p
+      rewrites_stay g (Rewrites.member_of p) = plan_stays f Good world acts other_acts k g p
+      rewrites_stay g (Rewrites.arguments p) = rewrites_in_stay g p
+      rewrites_stay g (Rewrites.call_of h p) = plan_stays f Good world acts other_acts k g p
+      rewrites_stay g Rewrites.post_end = g
+      rewrites_stay g (Rewrites.print_in p) = rewrites_in_stay g p
+      rewrites_stay g (Rewrites.print h p) = plan_stays f Good world acts other_acts k g p
+      rewrites_stay g (Rewrites.error_in p) = rewrites_stay g p
+      rewrites_stay g (Rewrites.error p) = plan_stays f Good world acts other_acts k g p
+      rewrites_stay g (Rewrites.import_in p) = rewrites_stay g p
+      rewrites_stay g (Rewrites.begins p) = plan_stays f Good world acts other_acts k g p
+      rewrites_stay g Rewrites.own_url = g
+
+      rewrites_in_stay : {w after : W} {es : Terms V} {c : Rewritten V S (Terms V)} → Good w → RewritesIn values url acts w es c after → Good after
+      rewrites_in_stay g (RewritesIn.first p) = rewrites_stay g p
+      rewrites_in_stay g (RewritesIn.later p) = rewrites_in_stay g p
+
+    mutual
+      pub rewrites_follow : {w after : W} {t : Term V} {c : Rewritten V S (Term V)} → Good w → Before w t c after → After w (mapped_term f t) (Came c) after
+      rewrites_follow g Rewrites.fails = Rewrites.fails
+      rewrites_follow g (Rewrites.name p) = Rewrites.name (plan_follows f Good world acts other_acts k (PlanFollows.asks (complete_follows (mapped f) (λ v. term.Val v) (λ v. term.Val v) (λ v. refl))) g p)
+      rewrites_follow g (Rewrites.or_in {es = es} {c = c} p) = into (λ e. term.Or e es) (λ e. term.Or e (mapped_terms f es)) (λ e. refl) c (Rewrites.or_in (rewrites_follow g p))
+      rewrites_follow g (Rewrites.or {v = v} {es = es}) = same_end (or_follows v es) Rewrites.or
+      rewrites_follow g (Rewrites.and_in {es = es} {c = c} p) = into (λ e. term.And e es) (λ e. term.And e (mapped_terms f es)) (λ e. refl) c (Rewrites.and_in (rewrites_follow g p))
+      rewrites_follow g (Rewrites.and {v = v} {es = es}) = same_end (and_follows v es) Rewrites.and
+      rewrites_follow g (Rewrites.equal_in {cs = cs} {c = c} p) = into (λ e. term.Equal e cs) (λ e. term.Equal e (mapped_compared f cs)) (λ e. refl) c (Rewrites.equal_in (rewrites_follow g p))
+      rewrites_follow g (Rewrites.equal_right {v = v} {b = b} {cs = cs} {c = c} p) =
+          into (λ e. term.Equal (term.Val v) (pairs.compared b e cs)) (λ e. term.Equal (term.Val (f v)) (pairs.compared b e (mapped_compared f cs))) (λ e. refl) c (Rewrites.equal_right (rewrites_follow g p))
+      rewrites_follow g (Rewrites.equal {u = u} {v = v} {b = b} {cs = cs}) =
           same_end (ap (λ x. comes.Goes (term.Equal (term.Val x) (mapped_compared f cs))) (sym (ap (λ s. others.truth (compare b s)) (l.same u v) ∙ l.truth (compare b (values.same u v))))) Rewrites.equal
-      rewrites_follow Rewrites.equal_end = Rewrites.equal_end
-      rewrites_follow (Rewrites.sum_in {es = es} {c = c} p) = into (λ e. term.Sum e es) (λ e. term.Sum e (mapped_terms f es)) (λ e. refl) c (Rewrites.sum_in (rewrites_follow p))
-      rewrites_follow (Rewrites.sum_right {v = v} {es = es} {c = c} p) =
-          into (λ e. term.Sum (term.Val v) (terms.more e es)) (λ e. term.Sum (term.Val (f v)) (terms.more e (mapped_terms f es))) (λ e. refl) c (Rewrites.sum_right (rewrites_follow p))
-      rewrites_follow (Rewrites.joins {a = a} {b = b} {es = es} p) =
-          Rewrites.joins (plan_follows f world acts other_acts k (sum_follows (mapped f) a b (λ v. term.Sum (term.Val v) es) (λ v. term.Sum (term.Val v) (mapped_terms f es)) (λ v. refl)) p)
-      rewrites_follow Rewrites.sum_end = Rewrites.sum_end
-      rewrites_follow (Rewrites.not_in {c = c} p) = into (λ e. term.Not e) (λ e. term.Not e) (λ e. refl) c (Rewrites.not_in (rewrites_follow p))
-      rewrites_follow (Rewrites.not_of {v = v}) =
+      rewrites_follow g Rewrites.equal_end = Rewrites.equal_end
+      rewrites_follow g (Rewrites.sum_in {es = es} {c = c} p) = into (λ e. term.Sum e es) (λ e. term.Sum e (mapped_terms f es)) (λ e. refl) c (Rewrites.sum_in (rewrites_follow g p))
+      rewrites_follow g (Rewrites.sum_right {v = v} {es = es} {c = c} p) =
+          into (λ e. term.Sum (term.Val v) (terms.more e es)) (λ e. term.Sum (term.Val (f v)) (terms.more e (mapped_terms f es))) (λ e. refl) c (Rewrites.sum_right (rewrites_follow g p))
+      rewrites_follow g (Rewrites.joins {a = a} {b = b} {es = es} p) =
+          Rewrites.joins (plan_follows f Good world acts other_acts k (sum_follows (mapped f) a b (λ v. term.Sum (term.Val v) es) (λ v. term.Sum (term.Val v) (mapped_terms f es)) (λ v. refl)) g p)
+      rewrites_follow g Rewrites.sum_end = Rewrites.sum_end
+      rewrites_follow g (Rewrites.not_in {c = c} p) = into (λ e. term.Not e) (λ e. term.Not e) (λ e. refl) c (Rewrites.not_in (rewrites_follow g p))
+      rewrites_follow g (Rewrites.not_of {v = v}) =
           same_end (ap (λ x. comes.Goes (term.Val x)) (sym (ap (λ m. others.truth (not (is_true m))) (l.look v) ∙ l.truth (not (is_true (values.look v)))))) Rewrites.not_of
-      rewrites_follow (Rewrites.post_in {ls = ls} {c = c} p) = into (λ e. term.Post e ls) (λ e. term.Post e (mapped_links f ls)) (λ e. refl) c (Rewrites.post_in (rewrites_follow p))
-      rewrites_follow (Rewrites.member_of {ls = ls} p) =
-          Rewrites.member_of (plan_follows f world acts other_acts k (PlanFollows.asks (complete_follows (mapped f) (λ u. term.Post (term.Val u) ls) (λ u. term.Post (term.Val u) (mapped_links f ls)) (λ u. refl))) p)
-      rewrites_follow (Rewrites.arguments {f = g} {ls = ls} {c = c} p) =
-          into_all (λ es. term.Post (term.Val g) (links.call es ls)) (λ es. term.Post (term.Val (f g)) (links.call es (mapped_links f ls))) (λ es. refl) c (Rewrites.arguments (rewrites_in_follow p))
-      rewrites_follow (Rewrites.call_of {f = g} {vs = vs} {ls = ls} h p) = Rewrites.call_of (are_values f h) (plan_follows f world acts other_acts k (called_follows g vs ls) p)
-      rewrites_follow Rewrites.post_end = Rewrites.post_end
-      rewrites_follow (Rewrites.print_in {c = c} p) = into_all (λ es. term.Print es) (λ es. term.Print es) (λ es. refl) c (Rewrites.print_in (rewrites_in_follow p))
-      rewrites_follow (Rewrites.print {vs = vs} h p) = Rewrites.print (are_values f h) (plan_follows f world acts other_acts k (printed_follows vs) p)
-      rewrites_follow (Rewrites.error_in {c = c} p) = into (λ e. term.NewError e) (λ e. term.NewError e) (λ e. refl) c (Rewrites.error_in (rewrites_follow p))
-      rewrites_follow (Rewrites.error {v = v} p) = Rewrites.error (plan_follows f world acts other_acts k (error_follows v) p)
-      rewrites_follow (Rewrites.import_in {c = c} p) = into (λ e. term.Import e) (λ e. term.Import e) (λ e. refl) c (Rewrites.import_in (rewrites_follow p))
-      rewrites_follow (Rewrites.begins {v = v} p) = Rewrites.begins (plan_follows f world acts other_acts k (import_follows v) p)
-      rewrites_follow (Rewrites.own_url {w = w}) = same_end (ap (λ x. comes.Goes (term.Val x)) (sym (ap others.text (urls w) ∙ l.text (url w)))) Rewrites.own_url
+      rewrites_follow g (Rewrites.post_in {ls = ls} {c = c} p) = into (λ e. term.Post e ls) (λ e. term.Post e (mapped_links f ls)) (λ e. refl) c (Rewrites.post_in (rewrites_follow g p))
+      rewrites_follow g (Rewrites.member_of {ls = ls} p) =
+          Rewrites.member_of (plan_follows f Good world acts other_acts k (PlanFollows.asks (complete_follows (mapped f) (λ u. term.Post (term.Val u) ls) (λ u. term.Post (term.Val u) (mapped_links f ls)) (λ u. refl))) g p)
+      rewrites_follow g (Rewrites.arguments {f = h} {ls = ls} {c = c} p) =
+          into_all (λ es. term.Post (term.Val h) (links.call es ls)) (λ es. term.Post (term.Val (f h)) (links.call es (mapped_links f ls))) (λ es. refl) c (Rewrites.arguments (rewrites_in_follow g p))
+      rewrites_follow g (Rewrites.call_of {f = callee} {vs = vs} {ls = ls} h p) = Rewrites.call_of (are_values f h) (plan_follows f Good world acts other_acts k (called_follows callee vs ls) g p)
+      rewrites_follow g Rewrites.post_end = Rewrites.post_end
+      rewrites_follow g (Rewrites.print_in {c = c} p) = into_all (λ es. term.Print es) (λ es. term.Print es) (λ es. refl) c (Rewrites.print_in (rewrites_in_follow g p))
+      rewrites_follow g (Rewrites.print {vs = vs} h p) = Rewrites.print (are_values f h) (plan_follows f Good world acts other_acts k (printed_follows vs) g p)
+      rewrites_follow g (Rewrites.error_in {c = c} p) = into (λ e. term.NewError e) (λ e. term.NewError e) (λ e. refl) c (Rewrites.error_in (rewrites_follow g p))
+      rewrites_follow g (Rewrites.error {v = v} p) = Rewrites.error (plan_follows f Good world acts other_acts k (error_follows v) g p)
+      rewrites_follow g (Rewrites.import_in {c = c} p) = into (λ e. term.Import e) (λ e. term.Import e) (λ e. refl) c (Rewrites.import_in (rewrites_follow g p))
+      rewrites_follow g (Rewrites.begins {v = v} p) = Rewrites.begins (plan_follows f Good world acts other_acts k (import_follows v) g p)
+      rewrites_follow g (Rewrites.own_url {w = w}) = same_end (ap (λ x. comes.Goes (term.Val x)) (sym (ap others.text (urls w g) ∙ l.text (url w)))) Rewrites.own_url
 
-      rewrites_in_follow : {w after : W} {es : Terms V} {c : Rewritten V S (Terms V)} → RewritesIn values url acts w es c after → RewritesIn others other_url other_acts (world w) (mapped_terms f es) (All c) (world after)
-      rewrites_in_follow {w} {after} (RewritesIn.first {e = e} {es = es} {c = c} p) =
+      rewrites_in_follow : {w after : W} {es : Terms V} {c : Rewritten V S (Terms V)} → Good w → RewritesIn values url acts w es c after → RewritesIn others other_url other_acts (world w) (mapped_terms f es) (All c) (world after)
+      rewrites_in_follow {w} {after} g (RewritesIn.first {e = e} {es = es} {c = c} p) =
           subst (λ d. RewritesIn others other_url other_acts (world w) (terms.more (mapped_term f e) (mapped_terms f es)) d (world after))
-          (sym (inside_follows f (λ e. terms.more e es) (λ e. terms.more e (mapped_terms f es)) (mapped f) (mapped_terms f) (λ e. refl) c)) (RewritesIn.first (rewrites_follow p))
-      rewrites_in_follow {w} {after} (RewritesIn.later {v = v} {es = es} {c = c} p) =
+          (sym (inside_follows f (λ e. terms.more e es) (λ e. terms.more e (mapped_terms f es)) (mapped f) (mapped_terms f) (λ e. refl) c)) (RewritesIn.first (rewrites_follow g p))
+      rewrites_in_follow {w} {after} g (RewritesIn.later {v = v} {es = es} {c = c} p) =
           subst (λ d. RewritesIn others other_url other_acts (world w) (terms.more (term.Val (f v)) (mapped_terms f es)) d (world after))
-          (sym (inside_follows f (λ es. terms.more (term.Val v) es) (λ es. terms.more (term.Val (f v)) es) (mapped_terms f) (mapped_terms f) (λ es. refl) c)) (RewritesIn.later (rewrites_in_follow p))
+          (sym (inside_follows f (λ es. terms.more (term.Val v) es) (λ es. terms.more (term.Val (f v)) es) (mapped_terms f) (mapped_terms f) (λ es. refl) c)) (RewritesIn.later (rewrites_in_follow g p))
 
-    leads_follow : {w after : W} {t : Term V} {end : TermEnd V S} → Leads values url acts w t end after → Leads others other_url other_acts (world w) (mapped_term f t) (mapped_end f end) (world after)
-    leads_follow Leads.value = Leads.value
-    leads_follow (Leads.goes p q) = Leads.goes (rewrites_follow p) (leads_follow q)
-    leads_follow (Leads.throws p) = Leads.throws (rewrites_follow p)
-    leads_follow (Leads.calls p) = Leads.calls (rewrites_follow p)
-    leads_follow (Leads.stopped p) = Leads.stopped (rewrites_follow p)
+    leads_follow : {w after : W} {t : Term V} {end : TermEnd V S} → Good w → Leads values url acts w t end after
+        → Leads others other_url other_acts (world w) (mapped_term f t) (mapped_end f end) (world after) × Good after
+    leads_follow g Leads.value = (Leads.value, g)
+    leads_follow g (Leads.goes p q) = let rest = leads_follow (rewrites_stay g p) q in (Leads.goes (rewrites_follow g p) rest.0, rest.1)
+    leads_follow g (Leads.throws p) = (Leads.throws (rewrites_follow g p), rewrites_stay g p)
+    leads_follow g (Leads.calls p) = (Leads.calls (rewrites_follow g p), rewrites_stay g p)
+    leads_follow g (Leads.stopped p) = (Leads.stopped (rewrites_follow g p), rewrites_stay g p)
 
-pub follows_names : {V U : Type 0} (f : V → U) {W X S : Type 0} (world : W → X) (values : Values V) (others : Values U) (url : W → List ℕ) (other_url : X → List ℕ)
-    (acts : Acting W V S) (other_acts : Acting X U S) → FollowsNames f world values others url other_url acts other_acts
-follows_names f world values others url other_url acts other_acts l urls k = record {
-  rewrites = λ w after t c p. rewrites_follow f values others l world url other_url acts other_acts urls k p;
-  leads = λ w after t end p. leads_follow f values others l world url other_url acts other_acts urls k p;
+pub follows_names : {V U : Type 0} (f : V → U) {W X S : Type 0} (Good : W → Type 0) (world : W → X) (values : Values V) (others : Values U) (url : W → List ℕ) (other_url : X → List ℕ)
+    (acts : Acting W V S) (other_acts : Acting X U S) → FollowsNames f Good world values others url other_url acts other_acts
+follows_names f Good world values others url other_url acts other_acts l urls k = record {
+  rewrites = λ w after t c g p.
+      (rewrites_follow f values others l Good world url other_url acts other_acts urls k g p, rewrites_stay f values others l Good world url other_url acts other_acts urls k g p);
+  leads = λ w after t end g p. leads_follow f values others l Good world url other_url acts other_acts urls k g p;
 }

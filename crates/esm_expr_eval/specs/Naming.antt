@@ -1,8 +1,9 @@
 -- Expressions whose values stand for others: a rewriting follows.
-use Rattle.std.specs.Prelude.{◌≡◌, ℕ, List, map}
+use Rattle.std.specs.Prelude.{◌≡◌, ℕ, List, map, Result}
+use Rattle.esm_values.specs.Acts.{Act, AnswerTo}
 use Rattle.esm_values.specs.Plans.{Acting, Rewritten}
 use Rattle.esm_values.specs.Operators.{Values}
-use Rattle.esm_values.specs.Naming.{mapped_rewritten, LooksAlike, ActsFollow}
+use Rattle.esm_values.specs.Naming.{mapped_act, mapped_result, mapped_rewritten, LooksAlike}
 use Rattle.esm_expr_eval.specs.Terms.{Term, Terms, Compared, LinkTerms}
 use Rattle.esm_expr_eval.specs.Terms.Term.{Val, Waits, Fails, Name, Or, And, Equal, Sum, Not, Post, Print, NewError, Import, OwnUrl}
 use Rattle.esm_expr_eval.specs.Terms.Terms.{none, more}
@@ -48,16 +49,21 @@ module _ {V U : Type 0} (f : V → U) where
   mapped_end (Call g vs rest) = Call (f g) (map f vs) (mapped_term rest)
   mapped_end (Stopped why) = Stopped why
 
-  -- these values look alike, the worlds have the same URLs, and each call on the one is a call on the other: then what an expression
-  -- is rewritten to, and where it leads, is the same of the other values
-  module _ {W X S : Type 0} (world : W → X) (values : Values V) (others : Values U) (url : W → List ℕ) (other_url : X → List ℕ)
-      (acts : Acting W V S) (other_acts : Acting X U S) where
+  -- each call on the one world, where that is good, is a call on the other, and leaves a good world
+  abbrev pub ActsFollow : {W X S : Type 0} → (W → Type 0) → (W → X) → Acting W V S → Acting X U S → Type 0
+  ActsFollow {W} {X} {S} Good world acts others = (w after : W) (a : Act V) (r : Result (AnswerTo a) S) → Good w → acts w a r after
+      → others (world w) (mapped_act f a) (mapped_result f a r) (world after) × Good after
+
+  -- these values look alike, and in good worlds the URLs are the same, and each call on the one world is a call on the other that leaves
+  -- a good world: then what an expression is rewritten to, and where it leads, is the same of the other values
+  module _ {W X S : Type 0} (Good : W → Type 0) (world : W → X) (values : Values V) (others : Values U) (url : W → List ℕ)
+      (other_url : X → List ℕ) (acts : Acting W V S) (other_acts : Acting X U S) where
     pub record RewritingFollows : Type 0 where
-      pub rewrites : (w after : W) (t : Term V) (c : Rewritten V S (Term V)) → Rewrites values url acts w t c after
-          → Rewrites others other_url other_acts (world w) (mapped_term t) (mapped_rewritten f mapped_term c) (world after)
-      pub leads : (w after : W) (t : Term V) (end : TermEnd V S) → Leads values url acts w t end after
-          → Leads others other_url other_acts (world w) (mapped_term t) (mapped_end end) (world after)
+      pub rewrites : (w after : W) (t : Term V) (c : Rewritten V S (Term V)) → Good w → Rewrites values url acts w t c after
+          → Rewrites others other_url other_acts (world w) (mapped_term t) (mapped_rewritten f mapped_term c) (world after) × Good after
+      pub leads : (w after : W) (t : Term V) (end : TermEnd V S) → Good w → Leads values url acts w t end after
+          → Leads others other_url other_acts (world w) (mapped_term t) (mapped_end end) (world after) × Good after
 
     abbrev pub FollowsNames : Type 0
-    FollowsNames = LooksAlike f values others → ((w : W) → other_url (world w) ≡ url w)
-        → ActsFollow f world acts other_acts → RewritingFollows
+    FollowsNames = LooksAlike f values others → ((w : W) → Good w → other_url (world w) ≡ url w)
+        → ActsFollow Good world acts other_acts → RewritingFollows

@@ -34,6 +34,8 @@ pub trait Named {
 
     /// The value that a value stands for.
     ghost value: { Self.Value → Self.Other };
+    /// The worlds of which this is so.
+    ghost good: { Self.World → Type 0 };
     /// The world that a world stands for.
     ghost world: { Self.World → Self.Image };
     /// What the language asks of the one values.
@@ -50,8 +52,9 @@ pub trait Named {
     ghost other_acts: { Acting Self.Image Self.Other Self.Stop };
 }
 
-/// What an expression is rewritten to, and where it leads, follows the names of modules: where each call on the one world
-/// is a call on the other, so is each rewriting.
+/// What an expression is rewritten to, and where it leads, follows the names of modules: where each call on a good world is
+/// a call on the other world and leaves a good one, so it is of each rewriting.
 pub fn follows_names<A: Named>()
-    ensures { FollowsNames A.value A.world A.values A.others A.url A.other_url A.acts A.other_acts }
+    ensures { FollowsNames A.value A.good A.world A.values A.others A.url A.other_url A.acts
+        A.other_acts }
 {}

@@ -2,3 +2,4 @@ pub mod Follows
 pub mod Joined
 pub mod Equal
 pub mod Texts
+pub mod Numbered

@@ -9,3 +9,5 @@ pub mod Operators
 pub mod Code
 pub mod Laws
 pub mod Naming
+pub mod Numerals
+pub mod Numbering

@@ -4,7 +4,7 @@ use Rattle.esm_values.specs.Value.{Value, Undefined, Truth, Text, Func, Error, N
 use Rattle.esm_values.specs.Completion.{Completion, Normal, Throw}
 use Rattle.esm_values.specs.Acts.{Act, AnswerTo}
 use Rattle.esm_values.specs.Acts.{Act as act}
-use Rattle.esm_values.specs.Plans.{Acting, Rewritten}
+use Rattle.esm_values.specs.Plans.{Rewritten}
 use Rattle.esm_values.specs.Plans.{Rewritten as comes}
 use Rattle.esm_values.specs.Operators.{Values}
 
@@ -14,6 +14,10 @@ pub record Naming (M N : Type 0) : Type 0 where
   pub of : N → Option M
   pub back : (m : M) → of (name m) ≡ Some m
   pub only : (n : N) (m : M) → of n ≡ Some m → name m ≡ n
+
+-- each name is of a module
+abbrev pub IsTotal : {M N : Type 0} → Naming M N → Type 0
+IsTotal {M} {N} names = (n : N) → (m : M) × (names.of n ≡ Some m)
 
 module _ {M N : Type 0} (name : M → N) where
   abbrev pub renamed_value : Value M → Value N
@@ -67,8 +71,3 @@ module _ {V U : Type 0} (f : V → U) where
     pub undefined : others.undefined ≡ f values.undefined
     pub truth : (b : Bool) → others.truth b ≡ f (values.truth b)
     pub text : (t : List ℕ) → others.text t ≡ f (values.text t)
-
-  -- each call on the one world is a call on the other
-  abbrev pub ActsFollow : {W X S : Type 0} → (W → X) → Acting W V S → Acting X U S → Type 0
-  ActsFollow {W} {X} {S} world acts others = (w after : W) (a : Act V) (r : Result (AnswerTo a) S) → acts w a r after
-      → others (world w) (mapped_act a) (mapped_result a r) (world after)
