@@ -1,29 +1,23 @@
 -- A URL is fetched: the loading that the tables are then.
-use mathlib.Core.Bool.{true≢false}
-use Rattle.std.proofs.Common.{◌≡◌, ℕ, suc, zero, ◌+◌, ◌<◌, ◌≤◌, Bool, true, false, cond, List, [], ◌∷◌, ◌++◌, length, map, Option, Some, None, refl, ap, subst, sym, ◌∙◌, arith, inl, inr, length-append}
-use Rattle.std.specs.Prelude.{◌⊎◌, slice_get, slice_set, slice_index_or, All}
-use Rattle.std.proofs.lemmas.List.{length-set}
-use Rattle.std.proofs.lemmas.List.Elements.{All-weaker, All-head, All-tail}
-use Rattle.std.proofs.lemmas.Option.{slice_get_within}
+use Rattle.std.proofs.Common.{◌≡◌, ℕ, ◌<◌, Bool, true, false, cond, List, length, map, Option, Some, None, refl, ap, sym, ◌∙◌}
+use Rattle.std.specs.Prelude.{slice_get, slice_set, All}
+use Rattle.std.proofs.lemmas.List.Elements.{All-weaker}
 use Rattle.esm_tree.specs.Syntax.{Item}
 use Rattle.esm_base.specs.Urls.{Url, same_url}
 use Rattle.esm_realm.specs.Sound.{RecordParts}
 use Rattle.esm_realm.proofs.Urls.{same_text}
-use Rattle.esm_import_map.specs.ImportMap.{Maps}
 use Rattle.esm_loads.specs.UrlTable.{TableEntry, put_at}
 use Rattle.esm_loads.specs.Loading as loading
 use Rattle.esm_loads.specs.Loading.{Loading}
-use Rattle.esm_loads.specs.Arrival.{with_entry}
-use Rattle.esm_loads.specs.LoadsView.{urls_of, url_at, place_in, get_by, at_url, is_open, entries_in, entry_at, entry_by, module_of, tree_at, id_in, id_by, id_under, has_id, modules_in, is_in, is_unlinked, load_state, state_of, throw_of, LoadView}
-use Rattle.esm_loads.specs.LoadsAsLoading.{loading_of, trees_of}
-use Rattle.esm_loads.specs.Fits.{AreJoined, HaveRecords, IsModuleAt, IsLoadWithin, AreBelow}
+use Rattle.esm_loads.specs.LoadsView.{urls_of, url_at, place_in, get_by, at_url, is_open, entries_in, entry_at, entry_by, id_in, id_by, id_under, has_id, modules_in, is_in, is_unlinked, load_state, state_of, throw_of, LoadView}
+use Rattle.esm_loads.specs.Fits.{HaveRecords, IsLoadWithin, AreBelow}
 use Rattle.esm_loads.specs.declared.data.Slot.{Slot}
 use Rattle.esm_loads.specs.declared.data.UrlState.{UrlState}
 use Rattle.esm_loads.specs.declared.data.UrlState.TheVariants as states
 use Rattle.esm_loads.specs.declared.data.Stage.{Stage}
 use Rattle.esm_loads.specs.declared.data.Stage.TheVariants as stages
 use Rattle.esm_loads.specs.declared.loads.Loads.{Loads}
-use Rattle.esm_loads.proofs.Places.{some_is, get_kept, kept_get, map_same}
+use Rattle.esm_loads.proofs.Places.{map_same}
 use Rattle.esm_loads.proofs.PlacesOfUrls.{same_sym}
 use Rattle.esm_loads.proofs.UrlIndices.{urls_set}
 use Rattle.esm_loads.proofs.Lookups.{at_set, found}

@@ -1,7 +1,7 @@
 -- A fetch has ended: the tables with what it has come to.
 use mathlib.Core.Bool.{true≢false}
 use Rattle.std.proofs.Common.{◌≡◌, ℕ, suc, zero, ◌+◌, ◌<◌, ◌≤◌, Bool, true, false, List, [], ◌∷◌, ◌++◌, length, map, Option, Some, None, refl, ap, subst, sym, ◌∙◌, arith, inl, inr, length-append}
-use Rattle.std.specs.Prelude.{◌⊎◌, slice_get, slice_set, All, nat_eq, nat_lt}
+use Rattle.std.specs.Prelude.{◌⊎◌, slice_get, slice_set, All, nat_lt}
 use Rattle.std.proofs.lemmas.List.{length-set, length-map}
 use Rattle.std.proofs.lemmas.List.Elements.{All-weaker, All-head, All-tail}
 use Rattle.std.proofs.lemmas.Option.{slice_get_within}
@@ -26,9 +26,9 @@ use Rattle.esm_base.specs.declared.limits.Limit.TheVariants.{L2}
 use Rattle.esm_loads.specs.Loading.{Loading, PendingRequest}
 use Rattle.esm_loads.specs.Host.{Host, with_loading}
 use Rattle.esm_loads.specs.Arrival.{with_entry, put_found, after_fetch, bytes_of, count_by, store, Next, next, next_among, next_by}
-use Rattle.esm_loads.specs.LoadsView.{every_form, tree_items, url_of_slot, urls_of, place_in, is_open, entry_at, module_of, tree_at, id_in, has_id, is_in, is_unlinked, is_unlinked_by, pending_in, purpose_of, LoadView, get_by, request_of, requests_in}
+use Rattle.esm_loads.specs.LoadsView.{every_form, tree_items, url_of_slot, urls_of, place_in, is_open, entry_at, module_of, tree_at, is_in, is_unlinked, is_unlinked_by, pending_in, purpose_of, get_by, request_of, requests_in}
 use Rattle.esm_loads.specs.LoadsAsLoading.{loading_of, trees_of}
-use Rattle.esm_loads.specs.Fits.{FitRecords, AreJoined, HaveRecords, HasRecord, IsModuleAt, IsLoadWithin, IsWaitingWithin, OnlyLastHasPending, RecordsMatch, AreBelow, records_with}
+use Rattle.esm_loads.specs.Fits.{FitRecords, HaveRecords, HasRecord, IsModuleAt, IsLoadWithin, IsWaitingWithin, RecordsMatch, AreBelow, records_with}
 use Rattle.esm_loads.specs.Hosted.{host_of}
 use Rattle.esm_loads.specs.Inner.Arriving.{Filled, Stores, stores, IsOpenSlot, NonePending, settled}
 use Rattle.esm_loads.specs.Inner.Arriving.Filled.{AsModule, AsBroken, AsFailed}
@@ -37,11 +37,11 @@ use Rattle.esm_loads.specs.declared.data.UrlState.{UrlState}
 use Rattle.esm_loads.specs.declared.data.UrlState.TheVariants as states
 use Rattle.esm_loads.specs.declared.data.Waiting.{Waiting}
 use Rattle.esm_loads.specs.declared.loads.Loads.{Loads}
-use Rattle.esm_loads.proofs.Places.{some_is, get_push, get_kept, kept_get, get_last, at_kept, at_last, set_get, set_other, set_places, same_place, all_get}
+use Rattle.esm_loads.proofs.Places.{some_is, get_push, get_kept, kept_get, get_last, at_kept, at_last, set_get, set_other, set_places, all_get}
 use Rattle.esm_loads.proofs.PlacesOfUrls.{place_at}
 use Rattle.esm_loads.proofs.UrlIndices.{urls_set}
 use Rattle.esm_loads.proofs.Lookups.{slot_url, own_place, other_id}
-use Rattle.esm_loads.proofs.EnterFacts.{at_slot, id_within}
+use Rattle.esm_loads.proofs.EnterFacts.{id_within}
 use Rattle.esm_loads.proofs.NextFacts.{entry_of, has_entry}
 use Rattle.esm_loads.proofs.ArriveFacts.{Grew}
 use Rattle.esm_loads.proofs.ArriveFacts as facts

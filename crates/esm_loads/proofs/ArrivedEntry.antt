@@ -1,6 +1,6 @@
 -- The entry of a fetched URL.
 use Rattle.std.proofs.Common.{◌≡◌, ℕ, suc, ◌+◌, ◌<◌, ◌≤◌, Bool, true, false, refl, inl, inr, List, [], ◌∷◌, ◌++◌, length, Some, ap, subst, sym, ◌∙◌, arith, codes, get_or, drop, append-nil}
-use Rattle.std.specs.Prelude.{◌⊎◌, Ok, Err, Result}
+use Rattle.std.specs.Prelude.{◌⊎◌, Ok, Result}
 use Rattle.std.proofs.lemmas.List.{append_assoc, drop_more, drop_all, length-append}
 use Rattle.std.proofs.lemmas.List.Elements.{All-nil, All-cons, All-append}
 use Rattle.esm_tree.specs.Syntax.{Item}

@@ -74,7 +74,7 @@ fn targets_of(
     ensures { IfOk result (λ targets. MatchResult targets
         (λ urls. AreTargets import_map.now url.now requests.now urls.items)
         (λ message. url_table.targets_of import_map.now url.now requests.now
-          ≡ Err (errors_spec.fault Kind.TypeError message))) }
+        ≡ Err (errors_spec.fault Kind.TypeError message))) }
 {
     let referrer = url.as_str();
     let Some(base) = parse_absolute(alloc, referrer)? else {
@@ -235,7 +235,15 @@ fn store(
     ensures sound { IsSound (records_of realm.new) }
 {
     let place = open_place(loads, url);
-    let state = fill(&mut loads.trees, realm, errors, loads.alloc, map, url, outcome)?;
+    let state = fill(
+        &mut loads.trees,
+        realm,
+        errors,
+        loads.alloc,
+        map,
+        url,
+        outcome,
+    )?;
     settle(loads, place, state);
     Ok(())
 }

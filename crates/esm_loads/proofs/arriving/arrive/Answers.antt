@@ -12,7 +12,6 @@ use Rattle.esm_loads.specs.Hosted.{host_of}
 use Rattle.esm_loads.specs.Inner.Urls.{open_urls}
 use Rattle.esm_loads.specs.Inner.Arriving.{NonePending}
 use Rattle.esm_loads.specs.declared.loads.Loads.{Loads}
-use Rattle.esm_loads.proofs.Places.{not_err}
 use Rattle.esm_loads.proofs.Arrived as arrived
 use Rattle.esm_loads.proofs.arriving.arrive.Goals as goal
 

@@ -1,4 +1,4 @@
-use Rattle.std.proofs.Common.{◌≡◌, sym, subst, ◌∙◌}
+use Rattle.std.proofs.Common.{sym, subst, ◌∙◌}
 use Rattle.esm_loads.specs.Inner.Arriving.{IsOpenSlot}
 use Rattle.esm_loads.proofs.Places.{some_is}
 use Rattle.esm_loads.proofs.ArrivedEntry.{place_of, open_listed}

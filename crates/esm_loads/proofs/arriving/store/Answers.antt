@@ -1,9 +1,8 @@
 -- The outcome stands in the tables.
-use Rattle.std.proofs.Common.{◌≡◌, ap, sym, subst, ◌∙◌, map}
+use Rattle.std.proofs.Common.{ap, sym, subst, ◌∙◌, map}
 use Rattle.esm_realm.specs.Sound.{records_of}
 use Rattle.esm_ast.specs.Outcome.{outcome_view}
 use Rattle.esm_loads.specs.UrlTable.{found}
-use Rattle.esm_loads.specs.Arrival.{put_found}
 use Rattle.esm_loads.specs.LoadsView.{every_form}
 use Rattle.esm_loads.specs.LoadsAsLoading.{loading_of}
 use Rattle.esm_loads.specs.Fits.{FitRecords}
