@@ -1,3 +1,8 @@
+pub mod ArrivedEntry
+pub mod ArriveFacts
+pub mod Arrived
+pub mod LoadedFacts
+pub mod ReadFacts
 pub mod ImportFacts
 pub mod PublicFacts
 pub mod StepFacts

@@ -1,11 +1,12 @@
 -- When loads fit the records of a realm, and their indices are right.
-use Rattle.std.specs.Prelude.{◌≡◌, ℕ, ◌≤◌, ◌<◌, true, false, List, [], length, slice_get, Some, All}
+use Rattle.std.specs.Prelude.{◌≡◌, ℕ, ◌≤◌, ◌<◌, true, false, List, [], ◌∷◌, ◌++◌, length, slice_get, Some, All}
 use Rattle.esm_tree.specs.Syntax.{Item}
 use Rattle.esm_ast.specs.Entries.{entries_of}
 use Rattle.esm_base.specs.declared.limits.TheConstants.{MAX_URLS, MAX_IMPORT_CALLS}
 use Rattle.esm_base.specs.Urls.{Url, IsUsable}
 use Rattle.esm_realm.specs.Laws.{AreDistinct}
-use Rattle.esm_realm.specs.Sound.{RecordParts}
+use Rattle.esm_realm.specs.Sound.{RecordParts, new_record}
+use Rattle.esm_loads.specs.UrlTable.{Found, Nothing, Faulty, Script}
 use Rattle.esm_loads.specs.LoadsView.{urls_of, place_in, is_open, LoadView}
 use Rattle.esm_loads.specs.LoadsAsLoading.{trees_of}
 use Rattle.esm_loads.specs.declared.data.Slot.{Slot}
@@ -97,3 +98,11 @@ pub record FitRecords (l : Loads) (records : List RecordParts) : Type 0 where
 abbrev pub IsFetching : Loads → Url → Type 0
 IsFetching l u = (k : ℕ) (s : Slot) → place_in (urls_of l.urls.slots) u ≡ Some k
     → slice_get l.urls.slots k ≡ Some s → is_open s.state ≡ true
+
+-- ---- what a fetch brings
+
+-- a module text brings one record more, which is New, and anything else none
+abbrev pub records_with : List RecordParts → Url → Found → List RecordParts
+records_with records url Nothing = records
+records_with records url (Faulty f) = records
+records_with records url (Script m) = records ++ new_record url (entries_of m.body) m.targets ∷ []

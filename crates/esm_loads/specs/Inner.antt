@@ -9,3 +9,5 @@ pub mod Answering
 pub mod Settling
 pub mod Stepping
 pub mod Asking
+pub mod Arriving
+pub mod Reading

@@ -12,4 +12,5 @@ pub mod LoadsView
 pub mod LoadsAsLoading
 pub mod Fits
 pub mod Hosted
+pub mod Loaded
 pub mod Inner

@@ -5,11 +5,12 @@ ghost use Rattle.esm_base.specs.declared.limits.Limit.{Limit};
 ghost use Rattle.esm_base.specs.declared.limits.TheConstants.{MAX_URLS, MAX_DELIVERED_BYTES};
 ghost use Rattle.esm_base.specs.declared.end.End.TheVariants.{Fault};
 ghost use Rattle.esm_loads.specs.LoadsView.{urls_of, place_in, is_open};
+ghost use Rattle.esm_loads.specs.Inner.Reading.{module_by};
 ghost use Rattle.esm_loads.specs.Inner.Urls.{no_slots, open_urls, open_slot, Closes, PutsPlace, IsOpenAt};
 
 use crate::LoadEnd;
 use crate::data::{Slot, UrlState};
-use esm_base::{Limit, MAX_DELIVERED_BYTES, MAX_URLS, Memory, Text};
+use esm_base::{Limit, MAX_DELIVERED_BYTES, MAX_URLS, Memory, ModuleId, Text};
 use std::alloc::Global;
 use std::collections::BTreeMap;
 use std::marker::Model;
@@ -145,6 +146,21 @@ impl AskedUrls {
         ensures { (s : Slot) → slice_get self.now.slots place ≡ Some s → result ≡ s.state }
     {
         self.slots[place].state
+    }
+
+    /// The module at a place; none where none stands there.
+    pub fn module_at(&self, place: usize) -> Option<ModuleId>
+        ensures { result ≡ module_by (slice_get self.now.slots place) }
+    {
+        if place >= self.slots.len() {
+            return None;
+        }
+        match self.slots[place].state {
+            UrlState::Open => None,
+            UrlState::Failed => None,
+            UrlState::Broken(_error) => None,
+            UrlState::Module(id) => Some(id),
+        }
     }
 
     /// The URL at a place.

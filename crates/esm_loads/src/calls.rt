@@ -2,24 +2,33 @@
 ghost use Rattle.std.specs.Prelude.{◌≡◌, ℕ, [], List, map, None, Some, Ok, Err, OnOk, true, false};
 ghost use Rattle.esm_base.specs.declared.limits.Limit.{Limit};
 ghost use Rattle.esm_base.specs.declared.end.End.TheVariants.{Fault};
-ghost use Rattle.esm_base.specs.Urls.{Url, IsUsable};
+ghost use Rattle.esm_base.specs.Urls.{Url, has, IsUsable};
+ghost use Rattle.esm_ast.specs.Outcome.{outcome_view};
+ghost use Rattle.esm_promise.specs.Code.{Numbered};
 ghost use Rattle.esm_import_map.specs.ImportMap.{Maps};
 ghost use Rattle.esm_realm.specs.Sound.{IsSound, RecordParts, records_of};
-ghost use Rattle.esm_loads.specs.Arrival.{AnswersNext, next, open_asks};
-ghost use Rattle.esm_loads.specs.LoadsView.{before_linking};
+ghost use Rattle.esm_loads.specs.Arrival.{after_fetch, AnswersNext, next, open_asks};
+ghost use Rattle.esm_loads.specs.UrlTable.{found};
+ghost use Rattle.esm_loads.specs.Loading as loading;
+ghost use Rattle.esm_loads.specs.LoadsView.{before_linking, every_form, promise_id};
 ghost use Rattle.esm_loads.specs.LoadsAsLoading.{asks_entry, loading_of, no_loading};
-ghost use Rattle.esm_loads.specs.Fits.{FitRecords, IsFetching};
-ghost use Rattle.esm_loads.specs.Hosted.{host_of, StopsHost};
+ghost use Rattle.esm_loads.specs.Fits.{FitRecords, IsFetching, records_with};
+ghost use Rattle.esm_loads.specs.Hosted.{host_of, StopsAt, StopsHost};
+ghost use Rattle.esm_loads.specs.Loaded.{HaveLoaded, root_url};
+ghost use Rattle.esm_loads.specs.Whole.{IsWhole};
 
 use crate::LoadEnd;
+use crate::arriving::arrive;
 use crate::asked_urls::AskedUrls;
 use crate::asking::{add_load, ask_root};
 use crate::data::Purpose;
 use crate::loads::Loads;
 use crate::queues::Queues;
+use crate::reading::{import_promise, root_of_load};
 use crate::stepping::answer_next;
-use esm_ast::Tree;
-use esm_base::{Memory, Text};
+use esm_ast::{Outcome, Tree};
+use esm_base::{Memory, ModuleId, Text};
+use esm_import_map::ImportMap;
 use esm_promise::Promises;
 use esm_realm::Realm;
 use esm_values::{Errors, PromiseId};
@@ -107,6 +116,66 @@ impl Loads {
         ensures sound { IsSound (records_of realm.new) }
     {
         answer_next(self, realm, promises, errors)
+    }
+
+    /// Takes what the fetch of a URL has come to, where the URL is asked and not fetched, and no pending request of a
+    /// fetched URL is left. Its bytes are counted first: limit L2 comes exactly where more than `MAX_DELIVERED_BYTES` are
+    /// delivered. Then it stands under its URL: a module text whose requests all resolve gets its record in the realm.
+    ///
+    /// HTML, fetch a single module script and create a JavaScript module script.
+    pub fn arrive(
+        &mut self,
+        realm: &mut Realm,
+        errors: &mut Errors,
+        map: &ImportMap,
+        url: &Text,
+        outcome: &Outcome,
+    ) -> Result<(), LoadEnd>
+        requires fits { FitRecords self.old (records_of realm.old) }
+        requires sound { IsSound (records_of realm.old) }
+        requires open { has (open_asks (loading_of map.now self.old (records_of realm.old)))
+            url.now ≡ true }
+        requires answered { next (loading_of map.now self.old (records_of realm.old)) ≡ None }
+        ensures arrives { (named : ℕ → Url) (promises : Numbered) → OnOk result (
+            host_of named promises errors.new
+            (loading_of map.now self.new (records_of realm.new))
+            ≡ after_fetch (host_of named promises errors.old
+            (loading_of map.now self.old (records_of realm.old))) url.now
+            (outcome_view outcome.now)
+            ) }
+        ensures limit { (named : ℕ → Url) (promises : Numbered) → StopsAt result (
+            after_fetch (host_of named promises errors.old
+            (loading_of map.now self.old (records_of realm.old))) url.now
+            (outcome_view outcome.now)
+            ) }
+        ensures records { OnOk result (
+            records_of realm.new ≡ records_with (records_of realm.old) url.now
+            (found map.now every_form url.now (outcome_view outcome.now))
+            ) }
+        ensures loaded { HaveLoaded (records_of realm.old)
+            → OnOk result (HaveLoaded (records_of realm.new)) }
+        ensures fits { OnOk result (FitRecords self.new (records_of realm.new)) }
+        ensures sound { IsSound (records_of realm.new) }
+    {
+        arrive(self, realm, errors, map, url, outcome)
+    }
+
+    /// The root of a load that has ended with all modules loaded; none of any other load. It takes no memory.
+    pub fn root_of_load(&self, load: usize) -> Option<ModuleId>
+        ensures { (maps : Maps) (records : List RecordParts) → FitRecords self.now records
+            → IsWhole (loading_of maps self.now records)
+            → loading.root_of_load (loading_of maps self.now records) load
+            ≡ root_url records result }
+    {
+        root_of_load(self, load)
+    }
+
+    /// The promise of the `import()` that a load is for; none of the load of an entry. It takes no memory.
+    pub fn import_promise(&self, load: usize) -> Option<PromiseId>
+        ensures { (maps : Maps) (records : List RecordParts)
+            → loading.import_promise (loading_of maps self.now records) load ≡ promise_id result }
+    {
+        import_promise(self, load)
     }
 
     /// The tree of each module, in order of ids. It takes no memory.

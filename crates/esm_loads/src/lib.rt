@@ -2,6 +2,7 @@
 #![tactic(auto)]
 
 mod answering;
+mod arriving;
 mod asked_urls;
 mod asking;
 mod calls;
@@ -14,6 +15,7 @@ pub mod laws;
 mod load_record;
 mod loads;
 mod queues;
+mod reading;
 mod settling;
 mod stepping;
 mod steps;

@@ -1,0 +1,305 @@
+// A fetch ends. HTML, "create a JavaScript module script".
+ghost use Rattle.std.specs.Prelude.{◌≡◌, ◌≤◌, ◌<◌, ◌+◌, ℕ, length, map, false, true, Some, None, Ok, Err, IfOk, OnOk, MatchResult, slice_get};
+ghost use Rattle.esm_base.specs.declared.limits.Limit.{Limit};
+ghost use Rattle.esm_base.specs.declared.limits.TheConstants.{MAX_DELIVERED_BYTES, MAX_URLS};
+ghost use Rattle.esm_base.specs.declared.end.End.TheVariants.{Fault};
+ghost use Rattle.esm_base.specs.Urls.{Url, has, IsUsable};
+ghost use Rattle.esm_ast.specs.Outcome as outcomes;
+ghost use Rattle.esm_ast.specs.Outcome.{outcome_view};
+ghost use Rattle.esm_ast.specs.Script.{spelled_text};
+ghost use Rattle.esm_realm.specs.Laws.{AreDistinct};
+ghost use Rattle.esm_realm.specs.Sound.{IsSound, records_of, url_of};
+ghost use Rattle.esm_values.specs.Errors as errors_spec;
+ghost use Rattle.esm_values.specs.declared.errors.FaultKind.{FaultKind as Kind};
+ghost use Rattle.esm_promise.specs.Code.{Numbered};
+ghost use Rattle.esm_loads.specs.UrlTable as url_table;
+ghost use Rattle.esm_loads.specs.UrlTable.{found};
+ghost use Rattle.esm_loads.specs.Arrival as arrival;
+ghost use Rattle.esm_loads.specs.Arrival.{after_fetch, put_found};
+ghost use Rattle.esm_loads.specs.LoadsView.{every_form, is_open, tree_items, urls_of};
+ghost use Rattle.esm_loads.specs.LoadsAsLoading.{loading_of};
+ghost use Rattle.esm_loads.specs.Fits.{FitRecords, records_with};
+ghost use Rattle.esm_loads.specs.Hosted.{host_of, StopsAt};
+ghost use Rattle.esm_loads.specs.Loaded.{HaveLoaded};
+ghost use Rattle.esm_loads.specs.declared.data.Slot.{Slot};
+ghost use Rattle.esm_loads.specs.Inner.Urls.{open_urls, IsOpenAt};
+ghost use Rattle.esm_loads.specs.Inner.Arriving.{AreTargets, unresolved_message, Filled, IsOpenSlot, NonePending, settled, stores};
+
+use crate::LoadEnd;
+use crate::data::UrlState;
+use crate::loads::Loads;
+use esm_ast::{Outcome, Script, Tree};
+use esm_base::{Limit, MAX_DELIVERED_BYTES, Memory, Text, TextFault, parse_absolute};
+use esm_import_map::ImportMap;
+use esm_realm::Realm;
+use esm_specifier::{SpecEnd, SpecFault, resolve_against};
+use esm_values::{ErrorId, Errors, FaultKind};
+use std::alloc::Global;
+use std::sync::Arc;
+
+// How many bytes came.
+fn bytes_of(outcome: &Outcome) -> usize
+    ensures { result ≡ arrival.bytes_of (outcome_view outcome.now) }
+{
+    match outcome {
+        Outcome::Script(script) => script.bytes().len(),
+        Outcome::Broken(broken) => broken.bytes().len(),
+        Outcome::Absent | Outcome::Failed => 0,
+    }
+}
+
+/// The message of the error of a specifier that resolves to no URL.
+pub fn unresolved(
+    alloc: Global,
+    url: &str,
+    specifier: &str,
+    fault: SpecFault,
+) -> Result<Text, Memory>
+    ensures { IfOk result
+        (λ t. t ≡ unresolved_message url.now specifier.now fault) }
+{
+    let description = fault.description();
+    let text = format!(in alloc; "{url}: specifier {specifier}: {description}")?;
+    Ok(Text::from_string(text))
+}
+
+// The URLs of these requests, or the message of the error of the first that doesn't resolve.
+fn targets_of(
+    alloc: Global,
+    import_map: &ImportMap,
+    url: &Text,
+    requests: &[Text],
+) -> Result<Result<Vec<Text>, Text>, Memory>
+    requires { IsUsable url.now }
+    ensures { IfOk result (λ targets. MatchResult targets
+        (λ urls. AreTargets import_map.now url.now requests.now urls.items)
+        (λ message. url_table.targets_of import_map.now url.now requests.now
+        ≡ Err (errors_spec.fault Kind.TypeError message))) }
+{
+    let referrer = url.as_str();
+    let Some(base) = parse_absolute(alloc, referrer)? else {
+        unreachable!()
+    };
+    let mut targets = Vec::new(alloc);
+    for specifier in requests {
+        match resolve_against(alloc, import_map, &base, referrer, specifier.as_str()) {
+            Ok(target) => targets.push(target)?,
+            Err(SpecEnd::Fault(fault)) => return Ok(Err(unresolved(
+                alloc,
+                referrer,
+                specifier.as_str(),
+                fault,
+            )?)),
+            Err(SpecEnd::Memory) => return Err(Memory),
+        }
+    }
+    Ok(Ok(targets))
+}
+
+// Makes the error of a body that is no module text.
+fn parse_fault(
+    alloc: Global,
+    errors: &mut Errors,
+    url: &str,
+    fault: TextFault,
+) -> Result<ErrorId, Memory>
+    ensures id { IfOk result (λ id. id.0 ≡ errors_spec.next_error errors.old) }
+    ensures ok { OnOk result (errors.new
+        ≡ errors_spec.make_error errors.old (url_table.parse_error url.now fault)) }
+{
+    let description = fault.description();
+    let message = format!(in alloc; "{url}: {description}")?;
+    errors.make(alloc, FaultKind::SyntaxError, message.as_str())
+}
+
+// Adds the record and the tree of a module whose requests all resolve.
+fn fill_script(
+    trees: &mut Vec<Arc<Tree>>,
+    realm: &mut Realm,
+    errors: &mut Errors,
+    alloc: Global,
+    import_map: &ImportMap,
+    url: &Text,
+    script: &Script,
+) -> Result<UrlState, Memory>
+    requires sound { IsSound (records_of realm.old) }
+    requires room { length (records_of realm.old) < MAX_URLS }
+    requires new { has (map url_of (records_of realm.old)) url.now ≡ false }
+    requires usable { IsUsable url.now }
+    ensures filled { IfOk result (
+        Filled import_map.now url.now (outcomes.Script (spelled_text script.now))
+        (stores (map tree_items trees.old.items) (records_of realm.old) errors.old)
+        (stores (map tree_items trees.new.items) (records_of realm.new) errors.new)
+        ) }
+    ensures sound { IsSound (records_of realm.new) }
+{
+    let entries = script.share_entries()?;
+    let found = targets_of(alloc, import_map, url, script.entries().requests())?;
+    match found {
+        Ok(targets) => {
+            trees.push(script.share_tree()?)?;
+            let id = realm.add(url.clone()?, entries, targets)?;
+            Ok(UrlState::Module(id))
+        }
+        Err(message) => {
+            let error = errors.make(alloc, FaultKind::TypeError, message.as_str())?;
+            Ok(UrlState::Broken(error))
+        }
+    }
+}
+
+// The state of a URL whose fetch has come to this outcome.
+fn fill(
+    trees: &mut Vec<Arc<Tree>>,
+    realm: &mut Realm,
+    errors: &mut Errors,
+    alloc: Global,
+    import_map: &ImportMap,
+    url: &Text,
+    outcome: &Outcome,
+) -> Result<UrlState, Memory>
+    requires sound { IsSound (records_of realm.old) }
+    requires room { length (records_of realm.old) < MAX_URLS }
+    requires new { has (map url_of (records_of realm.old)) url.now ≡ false }
+    requires usable { IsUsable url.now }
+    ensures filled { IfOk result (
+        Filled import_map.now url.now (outcome_view outcome.now)
+        (stores (map tree_items trees.old.items) (records_of realm.old) errors.old)
+        (stores (map tree_items trees.new.items) (records_of realm.new) errors.new)
+        ) }
+    ensures sound { IsSound (records_of realm.new) }
+{
+    match outcome {
+        Outcome::Script(script) => {
+            fill_script(trees, realm, errors, alloc, import_map, url, script)
+        }
+        Outcome::Broken(broken) => {
+            let error = parse_fault(alloc, errors, url.as_str(), broken.fault())?;
+            Ok(UrlState::Broken(error))
+        }
+        Outcome::Absent => Ok(UrlState::Failed),
+        Outcome::Failed => Ok(UrlState::Failed),
+    }
+}
+
+// The place of an open ask.
+fn open_place(loads: &Loads, url: &Text) -> usize
+    requires distinct { AreDistinct (urls_of loads.now.urls.slots) }
+    requires open { has (open_urls loads.now.urls.slots) url.now ≡ true }
+    ensures { IsOpenSlot loads.now.urls.slots result url.now }
+{
+    match loads.urls.find(url) {
+        Some(place) => place,
+        None => unreachable!(),
+    }
+}
+
+// The URL at a place is fetched, and has this state.
+fn settle(loads: &mut Loads, place: usize, state: UrlState)
+    requires open { IsOpenAt loads.old.urls.slots place }
+    requires fetched { is_open state ≡ false }
+    ensures { (s : Slot) → slice_get loads.old.urls.slots place ≡ Some s
+        → loads.new ≡ settled loads.old place (record s { state = state }) }
+{
+    loads.urls.settle(place, state);
+    loads.delivered = place;
+}
+
+// What a fetch has come to stands in the tables.
+fn store(
+    loads: &mut Loads,
+    realm: &mut Realm,
+    errors: &mut Errors,
+    map: &ImportMap,
+    url: &Text,
+    outcome: &Outcome,
+) -> Result<(), Memory>
+    requires fits { FitRecords loads.old (records_of realm.old) }
+    requires sound { IsSound (records_of realm.old) }
+    requires open { has (open_urls loads.old.urls.slots) url.now ≡ true }
+    requires answered { NonePending loads.old }
+    ensures stored { (named : ℕ → Url) (promises : Numbered) → OnOk result (
+        host_of named promises errors.new
+        (loading_of map.now loads.new (records_of realm.new))
+        ≡ put_found (host_of named promises errors.old
+        (loading_of map.now loads.old (records_of realm.old))) url.now
+        (found map.now every_form url.now (outcome_view outcome.now))
+        ) }
+    ensures records { OnOk result (
+        records_of realm.new ≡ records_with (records_of realm.old) url.now
+        (found map.now every_form url.now (outcome_view outcome.now))
+        ) }
+    ensures loaded { HaveLoaded (records_of realm.old)
+        → OnOk result (HaveLoaded (records_of realm.new)) }
+    ensures fits { OnOk result (FitRecords loads.new (records_of realm.new)) }
+    ensures sound { IsSound (records_of realm.new) }
+{
+    let place = open_place(loads, url);
+    let state = fill(
+        &mut loads.trees,
+        realm,
+        errors,
+        loads.alloc,
+        map,
+        url,
+        outcome,
+    )?;
+    settle(loads, place, state);
+    Ok(())
+}
+
+// The bytes of an outcome are counted.
+fn count(loads: &mut Loads, bytes: usize) -> Result<(), LoadEnd>
+    ensures ok { OnOk result (loads.new
+        ≡ record loads.old { urls = record loads.old.urls { bytes = loads.old.urls.bytes + bytes } }) }
+    ensures room { OnOk result (loads.old.urls.bytes + bytes ≤ MAX_DELIVERED_BYTES) }
+    ensures limit { (limit : Limit) → result ≡ Err (Fault limit)
+        → (limit ≡ Limit.L2) × (MAX_DELIVERED_BYTES < loads.old.urls.bytes + bytes) }
+{
+    match loads.urls.count(bytes) {
+        Ok(()) => Ok(()),
+        Err(end) => Err(end),
+    }
+}
+
+/// Takes what the fetch of a URL has come to.
+pub fn arrive(
+    loads: &mut Loads,
+    realm: &mut Realm,
+    errors: &mut Errors,
+    map: &ImportMap,
+    url: &Text,
+    outcome: &Outcome,
+) -> Result<(), LoadEnd>
+    requires fits { FitRecords loads.old (records_of realm.old) }
+    requires sound { IsSound (records_of realm.old) }
+    requires open { has (open_urls loads.old.urls.slots) url.now ≡ true }
+    requires answered { NonePending loads.old }
+    ensures arrives { (named : ℕ → Url) (promises : Numbered) → OnOk result (
+        host_of named promises errors.new
+        (loading_of map.now loads.new (records_of realm.new))
+        ≡ after_fetch (host_of named promises errors.old
+        (loading_of map.now loads.old (records_of realm.old))) url.now (outcome_view outcome.now)
+        ) }
+    ensures limit { (named : ℕ → Url) (promises : Numbered) → StopsAt result (
+        after_fetch (host_of named promises errors.old
+        (loading_of map.now loads.old (records_of realm.old))) url.now (outcome_view outcome.now)
+        ) }
+    ensures records { OnOk result (
+        records_of realm.new ≡ records_with (records_of realm.old) url.now
+        (found map.now every_form url.now (outcome_view outcome.now))
+        ) }
+    ensures loaded { HaveLoaded (records_of realm.old)
+        → OnOk result (HaveLoaded (records_of realm.new)) }
+    ensures fits { OnOk result (FitRecords loads.new (records_of realm.new)) }
+    ensures sound { IsSound (records_of realm.new) }
+{
+    match count(loads, bytes_of(outcome)) {
+        Ok(()) => {}
+        Err(end) => return Err(end),
+    }
+    match store(loads, realm, errors, map, url, outcome) {
+        Ok(()) => Ok(()),
+        Err(Memory) => Err(LoadEnd::Memory),
+    }
+}
