@@ -1,0 +1,4 @@
+pub mod Seen
+pub mod Held
+pub mod Represents
+pub mod Following
