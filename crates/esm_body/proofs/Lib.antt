@@ -19,3 +19,8 @@ pub mod SomeMove
 pub mod SomeSegment
 pub mod SomeBody
 pub mod Outcomes
+pub mod Alike
+pub mod Levels
+pub mod Moved
+pub mod Led
+pub mod Follows

@@ -2,3 +2,4 @@ pub mod Contexts
 pub mod Log
 pub mod Stack
 pub mod World
+pub mod Chains

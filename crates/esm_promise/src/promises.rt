@@ -107,54 +107,6 @@ impl Promises {
         Ok(id)
     }
 
-    /// Registers a reaction: behind the others where the promise is pending, and as a job at once where it is settled.
-    /// Room for its job is taken here. An id that wasn't made leaves all as it is. Where memory runs out nothing has
-    /// changed.
-    ///
-    /// ECMA-262, PerformPromiseThen.
-    pub fn then(&mut self, on: PromiseId, reaction: Reaction) -> Result<(), Memory>
-        ensures ok { OnOk result (self.new ≡ spec.register self.old on.0 (reaction_of reaction)) }
-        ensures err { OnErr result (self.new ≡ self.old) }
-    {
-        let at = on.0 as usize;
-        if at >= self.all.len() {
-            return Ok(());
-        }
-        self.jobs.reserve(self.waiting + 1)?;
-        let Promises { all, jobs, waiting } = self;
-        match &mut all[at] {
-            Promise::Pending(reactions) => {
-                reactions.push(reaction)?;
-                *waiting += 1;
-            }
-            Promise::Done(_how) => jobs.push_back_reserved(Job {
-                reaction,
-                promise: on,
-            }),
-        }
-        Ok(())
-    }
-
-    /// Settles a promise, and adds the jobs of its reactions in order of registration. It doesn't allocate. A promise
-    /// that is settled already is settled anew, without jobs; an id that wasn't made leaves all as it is.
-    ///
-    /// ECMA-262, FulfillPromise, RejectPromise and TriggerPromiseReactions.
-    pub fn settle(&mut self, id: PromiseId, with: Settled)
-        ensures { self.new ≡ spec.settle self.old id.0 (settled_of with) }
-    {
-        let at = id.0 as usize;
-        if at < self.all.len() {
-            let Promises { all, jobs, waiting } = self;
-            match mem::replace(&mut all[at], Promise::Done(with)) {
-                Promise::Pending(reactions) => {
-                    *waiting -= reactions.len();
-                    add_jobs(jobs, id, &reactions);
-                }
-                Promise::Done(_how) => {}
-            }
-        }
-    }
-
     /// Takes the oldest job: its reaction, and the settled promise that it belongs to. None exactly where there is
     /// none. It doesn't allocate.
     ///
@@ -199,15 +151,3 @@ impl Promises {
     }
 }
 
-/// Adds the jobs of reactions to a promise, in order. The queue has room for them.
-fn add_jobs(jobs: &mut VecDeque<Job>, promise: PromiseId, reactions: &[Reaction])
-    requires { deque_len jobs.old + length reactions.now ≤ deque_capacity jobs.old }
-    ensures items { jobs.new.items ≡ jobs.old.items ++ jobs_for promise reactions.now }
-    ensures len { deque_len jobs.new ≡ deque_len jobs.old + length reactions.now }
-    ensures capacity { deque_capacity jobs.new ≡ deque_capacity jobs.old }
-{
-    for i in 0..reactions.len() {
-        let reaction = reactions[i];
-        jobs.push_back_reserved(Job { reaction, promise });
-    }
-}
