@@ -12,12 +12,13 @@ use Rattle.esm_body.specs.Rest.{does_bindings, does_init}
 use Rattle.esm_body.specs.Rest.{Use as uses}
 use Rattle.esm_tree.specs.Syntax as x
 use Rattle.esm_tree.specs.Syntax.{Stmt as Statement}
-use Rattle.esm_tree.specs.Flat.{stmt_part, stmt_parts}
+use Rattle.esm_tree.specs.Flat.{stmt_part, stmt_parts, AllStmtsBelow}
+use Rattle.esm_body.proofs.ScopesLemmas.{below_at}
 use Rattle.esm_values.specs.Code.{CodeValue}
 use Rattle.esm_body.specs.Scopes.{Scope}
 use Rattle.esm_body.specs.Rest.{Rest, end, more, whole}
 use Rattle.esm_body.specs.Inner.Contexts.{Context, placed, surrounded}
-use Rattle.esm_body.specs.Inner.Stack.{in_front, part_by, scope_of_level, levels_rest, context_by, contexts_of, innermost, tries, trying, part_of, IsFront, AreNamed, bound_name, name_in}
+use Rattle.esm_body.specs.Inner.Stack.{in_front, part_by, scope_of_level, levels_rest, context_by, contexts_of, innermost, tries, trying, part_of, IsFront, AreNamed, bound_name, name_in, IsWork, AreWork, IsKind, AreLevels, Becomes}
 use Rattle.esm_body.specs.Rest.{Part as parts}
 use Rattle.esm_body.specs.declared.work.Kind.{Kind}
 use Rattle.esm_body.specs.declared.work.Kind.TheVariants as k
@@ -147,3 +148,32 @@ module _ (stmts : List Statement) where
   innermost_push [] m h = absurd (omega (arith, h))
   innermost_push (l ∷ []) m h = refl
   innermost_push (l ∷ o ∷ ls) m h = innermost_push (o ∷ ls) m (omega arith)
+
+-- ---- numbers that name parts
+
+module _ (n : ℕ) where
+  pub work_push : (ws : List Work) (one : Work) → AreWork n ws → IsWork n one → AreWork n (ws ++ one ∷ [])
+  work_push [] one h k = (k, tt)
+  work_push (w ∷ ws) one h k = (h.0, work_push ws one h.1 k)
+
+  pub levels_push : (ls : List Level) (l : Level) → AreLevels n ls → IsKind n l.kind → AreWork n l.work.items → AreLevels n (ls ++ l ∷ [])
+  levels_push [] l h k w = (k, w, tt)
+  levels_push (m ∷ ls) l h k w = (h.0, h.1, levels_push ls l h.2 k w)
+
+  pub levels_added : (ls : List Level) (i : ℕ) (d l : Level) (one : Work) → i < length ls → l.kind ≡ (get_or ls i d).kind → l.work.items ≡ (get_or ls i d).work.items ++ one ∷ [] → IsWork n one → AreLevels n ls → AreLevels n (slice_set ls i l)
+  levels_added [] i d l one lt k w o h = absurd (omega (arith, lt))
+  levels_added (m ∷ ls) zero d l one lt k w o h = (subst (λ k. IsKind n k) (sym k) h.0, subst (λ ws. AreWork n ws) (sym w) (work_push m.work.items one h.1 o), h.2)
+  levels_added (m ∷ ls) (suc i) d l one lt k w o h = (h.0, h.1, levels_added ls i d l one (omega (arith, lt)) k w o h.2)
+
+  -- the statements of a block
+  pub whole_sound : (ids : List StmtId) (i : ℕ) (d : StmtId) (ws : List Work) → AllStmtsBelow n ids → i < length ids → AreWork n ws → AreWork n (ws ++ w.Whole (get_or ids i d) ∷ [])
+  whole_sound ids i d ws b lt h = work_push ws (w.Whole (get_or ids i d)) h (below_at n ids i d b lt)
+
+-- a block is begun
+pub begun : (stmts : List Statement) (ls : List Level) (m : Level) → 0 < length ls → levels_rest stmts (ls ++ m ∷ []) ≡ surrounded (contexts_of stmts ls) (placed (context_by stmts m.kind (scope_of_level m) (innermost stmts ls)) (in_front stmts m.work.items end))
+begun stmts ls m h =
+    sym (levels_surround stmts (ls ++ m ∷ [])) ∙ (λ i. surrounded (contexts_push stmts ls m h i) (innermost_push stmts ls m h i))
+
+-- what becomes of the innermost level becomes of the whole
+pub becomes : (stmts : List Statement) (old new : List Level) (r : Rest CodeValue) → IsFront stmts old new r → Becomes stmts old new r
+becomes stmts old new r f = sym (levels_surround stmts new) ∙ (λ i. surrounded (f.0 i) (f.1 i))

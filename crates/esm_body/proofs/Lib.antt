@@ -24,3 +24,4 @@ pub mod Levels
 pub mod Moved
 pub mod Led
 pub mod Follows
+pub mod ScopesLemmas

@@ -3,3 +3,4 @@ pub mod Log
 pub mod Stack
 pub mod World
 pub mod Chains
+pub mod Slots

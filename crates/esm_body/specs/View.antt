@@ -6,7 +6,7 @@ use Rattle.esm_env.specs.Scopes.{Scopes, cells_of}
 use Rattle.esm_body.specs.State as state
 use Rattle.esm_body.specs.State.{State}
 use Rattle.esm_body.specs.Importers.{outer_with}
-use Rattle.esm_body.specs.Inner.Stack.{active_of}
+use Rattle.esm_body.specs.Inner.Stack.{standing_rest}
 use Rattle.esm_body.specs.declared.engine.Event.{Event}
 use Rattle.esm_body.specs.declared.engine.Event.TheVariants as events
 use Rattle.esm_body.specs.declared.engine.Engine.{Engine}
@@ -18,7 +18,7 @@ event_of (events.Ends m) = state.Ends m.0
 event_of (events.Throws m) = state.Throws m.0
 
 abbrev pub standing_of : Standing → state.Standing ℕ
-standing_of s = record { at = s.body.at.0; done = s.done.0; rest = (active_of s.body).rest }
+standing_of s = record { at = s.body.at.0; done = s.done.0; rest = standing_rest s.body s.purpose }
 
 abbrev pub engine_of : Engine → state.Engine ℕ
 engine_of e = record {

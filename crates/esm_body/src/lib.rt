@@ -1,11 +1,14 @@
 //! Bodies of modules: statements, scopes, calls, awaits, and what starts, runs and resumes a body.
 #![tactic(auto)]
 
+mod blocks;
 mod engine;
 mod importer;
 mod inside;
 pub mod laws;
+
 mod log;
+mod scopes;
 mod work;
 
 pub use engine::{Engine, Event};

@@ -26,17 +26,26 @@ pub enum Use {
     Chooses(StmtId),
 }
 
+/// The expression of a statement under way.
+#[derive(Drop)]
+pub struct Doing {
+    /// What its value is for.
+    pub purpose: Use,
+    /// Whether its value is awaited.
+    pub awaits: bool,
+    /// What remains of it.
+    pub frame: ExprFrame,
+}
+
 /// A part of what remains.
 #[derive(Drop)]
 pub enum Work {
     /// A statement that hasn't begun.
     Whole(StmtId),
-    /// An expression under way, and whether its value is awaited.
-    Does(Use, bool, ExprFrame),
+    /// An expression under way.
+    Does(Doing),
     /// A value that is there.
     Has(Use, Value),
-    /// An await under way.
-    Stands(Use),
 }
 
 /// Why a level was begun.
@@ -81,11 +90,22 @@ pub struct Activation {
     pub levels: Vec<Level>,
 }
 
+/// A function or body that has called a function, whose value isn't there yet.
+#[derive(Drop)]
+pub struct Caller {
+    /// What remains behind the expression with the call.
+    pub body: Activation,
+    /// The expression with the call.
+    pub doing: Doing,
+}
+
 /// A body at its await.
 #[derive(Drop)]
 pub struct Standing {
     /// The promise that its end settles.
     pub done: PromiseId,
-    /// What remains.
+    /// What remains behind the await.
     pub body: Activation,
+    /// What the awaited value is for.
+    pub purpose: Use,
 }

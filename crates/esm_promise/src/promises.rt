@@ -4,7 +4,7 @@ ghost use Rattle.std.specs.VecDeque.{deque_len, deque_capacity};
 ghost use Rattle.esm_values.specs.Code.{value_of};
 ghost use Rattle.esm_promise.specs.Promises as spec;
 ghost use Rattle.esm_promise.specs.Code.{reaction_of, settled_of, told, IsTaken};
-ghost use Rattle.esm_promise.specs.Inner.Queue.{jobs_for};
+ghost use Rattle.esm_promise.specs.Inner.Queue.{jobs_for, AddsReaction};
 
 use crate::reaction::{Reaction, Settled};
 use esm_base::Memory;
@@ -107,6 +107,56 @@ impl Promises {
         Ok(id)
     }
 
+    /// Registers a reaction: behind the others where the promise is pending, and as a job at once where it is settled.
+    /// Room for its job is taken here. An id that wasn't made leaves all as it is. Where memory runs out nothing has
+    /// changed.
+    ///
+    /// ECMA-262, PerformPromiseThen.
+    pub fn then(&mut self, on: PromiseId, reaction: Reaction) -> Result<(), Memory>
+        ensures ok { OnOk result (self.new ≡ spec.register self.old on.0 (reaction_of reaction)) }
+        ensures err { OnErr result (self.new ≡ self.old) }
+    {
+        let at = on.0 as usize;
+        if at >= self.all.len() {
+            return Ok(());
+        }
+        self.jobs.reserve(self.waiting + 1)?;
+        let Promises { all, jobs, waiting } = self;
+        let added = match add_reaction(&mut all[at], reaction) {
+            Ok(added) => added,
+            Err(end) => return Err(end),
+        };
+        if added {
+            *waiting += 1;
+        } else {
+            jobs.push_back_reserved(Job {
+                reaction,
+                promise: on,
+            });
+        }
+        Ok(())
+    }
+
+    /// Settles a promise, and adds the jobs of its reactions in order of registration. It doesn't allocate. A promise
+    /// that is settled already is settled anew, without jobs; an id that wasn't made leaves all as it is.
+    ///
+    /// ECMA-262, FulfillPromise, RejectPromise and TriggerPromiseReactions.
+    pub fn settle(&mut self, id: PromiseId, with: Settled)
+        ensures { self.new ≡ spec.settle self.old id.0 (settled_of with) }
+    {
+        let at = id.0 as usize;
+        if at < self.all.len() {
+            let Promises { all, jobs, waiting } = self;
+            match mem::replace(&mut all[at], Promise::Done(with)) {
+                Promise::Pending(reactions) => {
+                    *waiting -= reactions.len();
+                    add_jobs(jobs, id, &reactions);
+                }
+                Promise::Done(_how) => {}
+            }
+        }
+    }
+
     /// Takes the oldest job: its reaction, and the settled promise that it belongs to. None exactly where there is
     /// none. It doesn't allocate.
     ///
@@ -151,3 +201,28 @@ impl Promises {
     }
 }
 
+/// Adds a reaction to a promise, unless it is settled. Tells whether it was added.
+fn add_reaction(promise: &mut Promise, reaction: Reaction) -> Result<bool, Memory>
+    ensures { AddsReaction promise.old reaction result promise.new }
+{
+    match promise {
+        Promise::Pending(reactions) => {
+            reactions.push(reaction)?;
+            Ok(true)
+        }
+        Promise::Done(_how) => Ok(false),
+    }
+}
+
+/// Adds the jobs of reactions to a promise, in order. The queue has room for them.
+fn add_jobs(jobs: &mut VecDeque<Job>, promise: PromiseId, reactions: &[Reaction])
+    requires { deque_len jobs.old + length reactions.now ≤ deque_capacity jobs.old }
+    ensures items { jobs.new.items ≡ jobs.old.items ++ jobs_for promise reactions.now }
+    ensures len { deque_len jobs.new ≡ deque_len jobs.old + length reactions.now }
+    ensures capacity { deque_capacity jobs.new ≡ deque_capacity jobs.old }
+{
+    for i in 0..reactions.len() {
+        let reaction = reactions[i];
+        jobs.push_back_reserved(Job { reaction, promise });
+    }
+}

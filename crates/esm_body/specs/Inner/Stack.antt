@@ -9,17 +9,15 @@ use Rattle.esm_tree.specs.Flat.{stmt_part}
 use Rattle.esm_values.specs.Code.{CodeValue, value_of}
 use Rattle.esm_expr_eval.specs.Terms.{Term}
 use Rattle.esm_expr_eval.specs.Terms.Term.{Val}
-use Rattle.esm_expr_eval.specs.Machine.{rest_of}
-use Rattle.esm_env.specs.Cells.{Cell}
-use Rattle.esm_env.specs.Slots.{valued_by}
-use Rattle.esm_body.specs.Scopes.{NamedCell, Scope}
+use Rattle.esm_expr_eval.specs.Machine.{rest_of, IsSound, IsGiven}
+use Rattle.esm_body.specs.Scopes.{Scope}
 use Rattle.esm_body.specs.Rest.{Part, Rest, end, more}
 use Rattle.esm_body.specs.Rest.{Use as Purpose}
 use Rattle.esm_body.specs.Rest.{Use as uses}
 use Rattle.esm_body.specs.Rest.{Part as parts}
 use Rattle.esm_body.specs.Segment.{Active}
-use Rattle.esm_body.specs.Inner.Contexts.{Context, Block, Trying}
-use Rattle.esm_body.specs.declared.work.Slot.{Slot}
+use Rattle.esm_body.specs.Inner.Contexts.{Context, Block, Trying, surrounded}
+use Rattle.esm_body.specs.Inner.Slots.{scope_of_slots}
 use Rattle.esm_body.specs.declared.work.Use.{Use}
 use Rattle.esm_body.specs.declared.work.Use.TheVariants as u
 use Rattle.esm_body.specs.declared.work.Work.{Work}
@@ -28,6 +26,7 @@ use Rattle.esm_body.specs.declared.work.Kind.{Kind}
 use Rattle.esm_body.specs.declared.work.Kind.TheVariants as k
 use Rattle.esm_body.specs.declared.work.Level.{Level}
 use Rattle.esm_body.specs.declared.work.Activation.{Activation}
+use Rattle.esm_body.specs.declared.work.Caller.{Caller}
 
 abbrev pub name_in : Bindings → ℕ → List ℕ
 name_in no_more n = []
@@ -48,11 +47,8 @@ chosen (x.If e ss) = uses.Chooses ss nothing
 chosen (x.IfElse e ss others) = uses.Chooses ss others
 chosen _ = uses.Drops
 
-abbrev pub slot_of : Slot → NamedCell CodeValue
-slot_of s = record { name = s.name; cell = record { constant = s.constant; value = valued_by s.value } }
-
 abbrev pub scope_of_level : Level → Scope CodeValue
-scope_of_level l = map slot_of l.slots.items
+scope_of_level l = scope_of_slots l.slots.items
 
 -- the scopes round the code, the innermost first. The outermost level has none
 abbrev pub scopes_round : List Level → List (Scope CodeValue)
@@ -77,9 +73,8 @@ module _ (stmts : List Statement) where
 
   abbrev pub part_of : Work → Part CodeValue
   part_of (w.Whole id) = parts.Whole (stmt_part stmts id)
-  part_of (w.Does purpose awaits frame) = parts.Does (awaited_by awaits (use_of purpose)) (rest_of frame)
+  part_of (w.Does d) = parts.Does (awaited_by d.awaits (use_of d.purpose)) (rest_of d.frame)
   part_of (w.Has purpose v) = parts.Does (use_of purpose) (Val (value_of v))
-  part_of (w.Stands purpose) = parts.Stands (use_of purpose)
 
   -- the last is done first
   abbrev pub in_front : List Work → Rest CodeValue → Rest CodeValue
@@ -132,3 +127,57 @@ IsFront stmts old new r = (contexts_of stmts new ≡ contexts_of stmts old) × (
 -- the statement with this number declares these bindings
 abbrev pub AreNamed : List Statement → StmtId → Bindings → Type 0
 AreNamed stmts id bs = (n : ℕ) → bound_name (stmt_part stmts id) n ≡ name_in bs n
+
+-- what remains of this in front of the innermost level
+abbrev pub in_front_of : Activation → Part CodeValue → Rest CodeValue
+in_front_of a p = surrounded (contexts_of (arc_value a.tree).stmts a.levels.items) (more p (innermost (arc_value a.tree).stmts a.levels.items))
+
+-- a body at its await
+abbrev pub standing_rest : Activation → Use → Rest CodeValue
+standing_rest a purpose = in_front_of a (parts.Stands (use_of (arc_value a.tree).stmts purpose))
+
+-- a caller, whose call has no value yet
+abbrev pub caller_of : Caller → Active ℕ
+caller_of c = record {
+  at = c.body.at.0;
+  rest = in_front_of c.body (parts.Does (awaited_by (arc_value c.body.tree).stmts c.doing.awaits (use_of (arc_value c.body.tree).stmts c.doing.purpose)) (rest_of c.doing.frame));
+}
+
+-- ---- the numbers name parts of the tree, and each expression can go on
+
+abbrev pub IsUse : ℕ → Use → Type 0
+IsUse n u.Drops = Unit {0}
+IsUse n (u.Sets id k) = id.0 < n
+IsUse n u.Defaults = Unit {0}
+IsUse n (u.Writes id) = id.0 < n
+IsUse n u.Throws = Unit {0}
+IsUse n u.Returns = Unit {0}
+IsUse n u.Prints = Unit {0}
+IsUse n (u.Chooses id) = id.0 < n
+
+abbrev pub IsWork : ℕ → Work → Type 0
+IsWork n (w.Whole id) = id.0 < n
+IsWork n (w.Does d) = IsUse n d.purpose × IsSound d.frame × IsGiven None d.frame.focus
+IsWork n (w.Has purpose v) = IsUse n purpose
+
+abbrev pub AreWork : ℕ → List Work → Type 0
+AreWork n [] = Unit {0}
+AreWork n (one ∷ others) = IsWork n one × AreWork n others
+
+abbrev pub IsKind : ℕ → Kind → Type 0
+IsKind n k.Block = Unit {0}
+IsKind n (k.Tries id) = id.0 < n
+
+abbrev pub AreLevels : ℕ → List Level → Type 0
+AreLevels n [] = Unit {0}
+AreLevels n (l ∷ ls) = IsKind n l.kind × AreWork n l.work.items × AreLevels n ls
+
+-- what remains has become this, in what is round the innermost level
+abbrev pub Becomes : List Statement → List Level → List Level → Rest CodeValue → Type 0
+Becomes stmts old new r = levels_rest stmts new ≡ surrounded (contexts_of stmts old) r
+
+-- the next part of the innermost level was taken, if it has one
+abbrev pub IsTaken : List Statement → List Level → Option Work → List Level → Type 0
+IsTaken stmts old None new = (innermost stmts old ≡ end) × (new ≡ old)
+IsTaken stmts old (Some one) new = IsFront stmts old new (innermost stmts new) × (innermost stmts old ≡ more (part_of stmts one) (innermost stmts new))
+    × ((n : ℕ) → AreLevels n old → IsWork n one × AreLevels n new)
