@@ -20,7 +20,7 @@ use Rattle.esm_expr_eval.specs.Ends.{Leads as leads}
 use Rattle.esm_expr_eval.specs.Rewriting.{Rewrites, RewritesIn}
 use Rattle.esm_expr_eval.specs.Rewriting.Rewrites.{fails, name, or_in, or, and_in, and, equal_in, equal_right, equal, equal_end, sum_in, sum_right, joins, sum_end, not_in, not_of, post_in, member_of, arguments, call_of, post_end, print_in, print, error_in, error, import_in, begins as rule_begins, own_url as rule_url}
 use Rattle.esm_expr_eval.specs.Rewriting.RewritesIn.{first as rule_first, later as rule_later}
-use Rattle.esm_expr_eval.proofs.Lands.{Views, Later, Lives, HasAnswer, answers, stopped}
+use Rattle.esm_expr_eval.proofs.Lands.{Views, Later, Lives, HasAnswer, answers, stopped as told_stop}
 use Rattle.esm_expr_eval.proofs.HasRewriting.{Comes', comes, come, Here, Arrives, size}
 use Rattle.esm_expr_eval.proofs.Unique.{no_step}
 use Rattle.esm_expr_eval.proofs.Lands as lands
@@ -131,7 +131,7 @@ module _ {I : Type 0} (modules : I → Modules ℕ) (linked : I → ℕ → Bool
 
   guard : (w : Inner ℕ I) (a : Act V) → Fit w → lands.KnowsAct (K w) a → HasAnswer sight Does w a → HasAnswer sight Guarded w a
   guard w a f k (answers r mid h l q) = answers r mid ((f, k), h) l q
-  guard w a f k (stopped why after h q) = stopped why after ((f, k), h) q
+  guard w a f k (told_stop why after h q) = told_stop why after ((f, k), h) q
 
   guarded : Lives sight Guarded numbered
   guarded = let l = lives nat_eq modules linked fits begins some first.now.at.0 in record {
@@ -177,13 +177,21 @@ module _ {I : Type 0} (modules : I → Modules ℕ) (linked : I → ℕ → Bool
   abbrev One : Inside I → Term V → TermEnd V Stop → Inside I → Type 0
   One = Leads numbered (url_inside modules linked fits begins) (ActsInside modules linked fits begins)
 
-  abbrev pub Two : Inner ℕ I → Term V → TermEnd V Limit → Inner ℕ I → Type 0
-  Two = Leads numbered (own_url nat_eq modules begins first.now.at.0) Does
+  abbrev pub Rewrites' : Inner ℕ I → Term V → Rewritten V Limit (Term V) → Inner ℕ I → Type 0
+  Rewrites' = Rewrites numbered (own_url nat_eq modules begins first.now.at.0) Does
 
-  abbrev Rewrites' : Inner ℕ I → Term V → Rewritten V Limit (Term V) → Inner ℕ I → Type 0
-  Rewrites' = Rewrites numbered (own_url nat_eq modules begins first.now.at.0) Guarded
+  -- rewritings up to an end, none of which changes the scopes
+  pub data Two : Inner ℕ I → Term V → TermEnd V Limit → Inner ℕ I → Type 0 where
+    value : {w : Inner ℕ I} {v : V} → Two w (Val v) (end.Value v) w
+    goes : {w mid after : Inner ℕ I} {t rest : Term V} {e : TermEnd V Limit} → Rewrites' w t (Goes rest) mid → mid.scopes ≡ w.scopes → Two mid rest e after → Two w t e after
+    throws : {w after : Inner ℕ I} {t : Term V} {v : V} → Rewrites' w t (Leaves v) after → after.scopes ≡ w.scopes → Two w t (end.Thrown v) after
+    calls : {w after : Inner ℕ I} {t rest : Term V} {f : V} {vs : List V} → Rewrites' w t (Calls f vs rest) after → after.scopes ≡ w.scopes → Two w t (end.Call f vs rest) after
+    stopped : {w after : Inner ℕ I} {t : Term V} {why : Limit} → Rewrites' w t (Stops why) after → after.scopes ≡ w.scopes → Two w t (end.Stopped why) after
 
-  weak : (w : Inner ℕ I) (t : Term V) (c : Rewritten V Limit (Term V)) (after : Inner ℕ I) → Rewrites' w t c after → Rewrites numbered (own_url nat_eq modules begins first.now.at.0) Does w t c after
+  abbrev Rewrites'' : Inner ℕ I → Term V → Rewritten V Limit (Term V) → Inner ℕ I → Type 0
+  Rewrites'' = Rewrites numbered (own_url nat_eq modules begins first.now.at.0) Guarded
+
+  weak : (w : Inner ℕ I) (t : Term V) (c : Rewritten V Limit (Term V)) (after : Inner ℕ I) → Rewrites'' w t c after → Rewrites numbered (own_url nat_eq modules begins first.now.at.0) Does w t c after
   weak w t c after r = weaker numbered (own_url nat_eq modules begins first.now.at.0) Guarded Does (λ w a r after h. h.1) r
 
   -- the same end, where memory didn't run out
@@ -197,12 +205,12 @@ module _ {I : Type 0} (modules : I → Modules ℕ) (linked : I → ℕ → Bool
   abbrev pub Led : Inner ℕ I → Term V → TermEnd V Stop → Inside I → Type 0
   Led u t e x = Ends e (λ d. Two u t d (inner_of x) × (IsSame first x × HasScopes modules linked fits begins x))
 
-  before : (u mid : Inner ℕ I) (t rest : Term V) (x : Inside I) → Rewrites' u t (Goes rest) mid → (e : TermEnd V Stop) → Led mid rest e x → Led u t e x
-  before u mid t rest x r (end.Value v) h = (leads.goes (weak _ _ _ _ r) h.0, h.1)
-  before u mid t rest x r (end.Thrown v) h = (leads.goes (weak _ _ _ _ r) h.0, h.1)
-  before u mid t rest x r (end.Call f vs s) h = (leads.goes (weak _ _ _ _ r) h.0, h.1)
-  before u mid t rest x r (end.Stopped (stops.Limit l)) h = (leads.goes (weak _ _ _ _ r) h.0, h.1)
-  before u mid t rest x r (end.Stopped stops.Memory) h = tt
+  before : (u mid : Inner ℕ I) (t rest : Term V) (x : Inside I) → Rewrites'' u t (Goes rest) mid → mid.scopes ≡ u.scopes → (e : TermEnd V Stop) → Led mid rest e x → Led u t e x
+  before u mid t rest x r k (end.Value v) h = (goes (weak _ _ _ _ r) k h.0, h.1)
+  before u mid t rest x r k (end.Thrown v) h = (goes (weak _ _ _ _ r) k h.0, h.1)
+  before u mid t rest x r k (end.Call f vs s) h = (goes (weak _ _ _ _ r) k h.0, h.1)
+  before u mid t rest x r k (end.Stopped (stops.Limit l)) h = (goes (weak _ _ _ _ r) k h.0, h.1)
+  before u mid t rest x r k (end.Stopped stops.Memory) h = tt
 
   abbrev Found : Inner ℕ I → Term V → Type 0
   Found u t = Here sight numbered (own_url nat_eq modules begins first.now.at.0) Guarded guarded u t
@@ -212,42 +220,42 @@ module _ {I : Type 0} (modules : I → Modules ℕ) (linked : I → ℕ → Bool
 
   -- what the definitions rewrite to, which the code's rewriting agrees with
   found : {x y : Inside I} {t : Term V} {c : Rewritten V Stop (Term V)} (u : Inner ℕ I) → Stands x u → Rewrites numbered (url_inside modules linked fits begins) (ActsInside modules linked fits begins) x t c y → Found u t
-      → (d : Rewritten V Limit (Term V)) × ((v : Inner ℕ I) × (Rewrites' u t d v × (Arrives sight numbered (own_url nat_eq modules begins first.now.at.0) Guarded guarded u (size t) d v × Agree c y d v)))
+      → (d : Rewritten V Limit (Term V)) × ((v : Inner ℕ I) × (Rewrites'' u t d v × (Arrives sight numbered (own_url nat_eq modules begins first.now.at.0) Guarded guarded u (size t) d v × Agree c y d v)))
   found {x = x} {y = y} {c = c} u s r (inl w) = absurd (no_step numbered (url_inside modules linked fits begins) (ActsInside modules linked fits begins) (subst (λ t. Rewrites numbered (url_inside modules linked fits begins) (ActsInside modules linked fits begins) x t c y) w.1 r))
   found u s r (inr (comes d v q l)) = (d, (v, (q, (l, step_alike Stands (ActsInside modules linked fits begins) Guarded acts_alike numbered (url_inside modules linked fits begins) (own_url nat_eq modules begins first.now.at.0) urls s r q))))
 
   values_alike : {x : Inside I} {u : Inner ℕ I} (v : V) → Stands x u → Led u (Val v) (end.Value v) x
-  values_alike {x} {u} v s = (subst (λ z. Two u (Val v) (end.Value v) z) (sym s.seen) leads.value, (s.same, s.made))
+  values_alike {x} {u} v s = (subst (λ z. Two u (Val v) (end.Value v) z) (sym s.seen) value, (s.same, s.made))
 
-  goes_by : (mid y : Inside I) (u : Inner ℕ I) (t rest : Term V) (e : TermEnd V Stop) → ((u : Inner ℕ I) → Stands mid u → Fit u → Holds (K u) ⊥ rest → Led u rest e y) → (d : Rewritten V Limit (Term V)) (v : Inner ℕ I) → Rewrites' u t d v
+  goes_by : (mid y : Inside I) (u : Inner ℕ I) (t rest : Term V) (e : TermEnd V Stop) → ((u : Inner ℕ I) → Stands mid u → Fit u → Holds (K u) ⊥ rest → Led u rest e y) → (d : Rewritten V Limit (Term V)) (v : Inner ℕ I) → Rewrites'' u t d v
       → Arrives sight numbered (own_url nat_eq modules begins first.now.at.0) Guarded guarded u (size t) d v → Agree (Goes rest) mid d v → Led u t e y
   goes_by mid y u t rest e again (Goes b) v r l a =
-      before u v t rest y (subst (λ b. Rewrites' u t (Goes b) v) a.0 r) e (again v a.1 l.1.0.fits (subst (λ b. Holds (K v) ⊥ b) a.0 l.1.1.0))
+      before u v t rest y (subst (λ b. Rewrites'' u t (Goes b) v) a.0 r) l.1.0.took.scopes e (again v a.1 l.1.0.fits (subst (λ b. Holds (K v) ⊥ b) a.0 l.1.1.0))
   goes_by mid y u t rest e again (Leaves w) v r l a = absurd a
   goes_by mid y u t rest e again (Calls g us b) v r l a = absurd a
   goes_by mid y u t rest e again (Stops why) v r l a = absurd a
 
-  throws_by : (y : Inside I) (u : Inner ℕ I) (t : Term V) (w : V) (d : Rewritten V Limit (Term V)) (v : Inner ℕ I) → Rewrites' u t d v → Agree (Leaves w) y d v → Led u t (end.Thrown w) y
-  throws_by y u t w (Goes b) v r a = absurd a
-  throws_by y u t w (Leaves x) v r a =
-      (subst (λ z. Two u t (end.Thrown w) z) (sym a.1.seen) (leads.throws (weak _ _ _ _ (subst (λ x. Rewrites' u t (Leaves x) v) a.0 r))), (a.1.same, a.1.made))
-  throws_by y u t w (Calls g us b) v r a = absurd a
-  throws_by y u t w (Stops why) v r a = absurd a
+  throws_by : (y : Inside I) (u : Inner ℕ I) (t : Term V) (w : V) (d : Rewritten V Limit (Term V)) (v : Inner ℕ I) → Rewrites'' u t d v → Arrives sight numbered (own_url nat_eq modules begins first.now.at.0) Guarded guarded u (size t) d v → Agree (Leaves w) y d v → Led u t (end.Thrown w) y
+  throws_by y u t w (Goes b) v r h a = absurd a
+  throws_by y u t w (Leaves x) v r h a =
+      (subst (λ z. Two u t (end.Thrown w) z) (sym a.1.seen) (throws (weak _ _ _ _ (subst (λ x. Rewrites'' u t (Leaves x) v) a.0 r)) h.1.0.took.scopes), (a.1.same, a.1.made))
+  throws_by y u t w (Calls g us b) v r h a = absurd a
+  throws_by y u t w (Stops why) v r h a = absurd a
 
-  calls_by : (y : Inside I) (u : Inner ℕ I) (t : Term V) (f : V) (vs : List V) (rest : Term V) (d : Rewritten V Limit (Term V)) (v : Inner ℕ I) → Rewrites' u t d v → Agree (Calls f vs rest) y d v → Led u t (end.Call f vs rest) y
-  calls_by y u t f vs rest (Goes b) v r a = absurd a
-  calls_by y u t f vs rest (Leaves x) v r a = absurd a
-  calls_by y u t f vs rest (Calls g us b) v r a =
-      let r' : Rewrites' u t (Calls f vs rest) v = subst (λ (c : Rewritten V Limit (Term V)). Rewrites' u t c v) (λ i. Calls (a.0 i) (a.1 i) (a.2 i)) r in
-      (subst (λ z. Two u t (end.Call f vs rest) z) (sym a.3.seen) (leads.calls (weak _ _ _ _ r')), (a.3.same, a.3.made))
-  calls_by y u t f vs rest (Stops why) v r a = absurd a
+  calls_by : (y : Inside I) (u : Inner ℕ I) (t : Term V) (f : V) (vs : List V) (rest : Term V) (d : Rewritten V Limit (Term V)) (v : Inner ℕ I) → Rewrites'' u t d v → Arrives sight numbered (own_url nat_eq modules begins first.now.at.0) Guarded guarded u (size t) d v → Agree (Calls f vs rest) y d v → Led u t (end.Call f vs rest) y
+  calls_by y u t f vs rest (Goes b) v r h a = absurd a
+  calls_by y u t f vs rest (Leaves x) v r h a = absurd a
+  calls_by y u t f vs rest (Calls g us b) v r h a =
+      let r' : Rewrites'' u t (Calls f vs rest) v = subst (λ (c : Rewritten V Limit (Term V)). Rewrites'' u t c v) (λ i. Calls (a.0 i) (a.1 i) (a.2 i)) r in
+      (subst (λ z. Two u t (end.Call f vs rest) z) (sym a.3.seen) (calls (weak _ _ _ _ r') h.1.0.took.scopes), (a.3.same, a.3.made))
+  calls_by y u t f vs rest (Stops why) v r h a = absurd a
 
-  stops_by : (y : Inside I) (u : Inner ℕ I) (t : Term V) (l : Limit) (d : Rewritten V Limit (Term V)) (v : Inner ℕ I) → Rewrites' u t d v → Agree (Stops (stops.Limit l)) y d v → Led u t (end.Stopped (stops.Limit l)) y
-  stops_by y u t l (Goes b) v r a = absurd a
-  stops_by y u t l (Leaves x) v r a = absurd a
-  stops_by y u t l (Calls g us b) v r a = absurd a
-  stops_by y u t l (Stops k) v r a =
-      (subst (λ z. Two u t (end.Stopped l) z) (sym a.1.seen) (leads.stopped (weak _ _ _ _ (subst (λ k. Rewrites' u t (Stops k) v) a.0 r))), (a.1.same, a.1.made))
+  stops_by : (y : Inside I) (u : Inner ℕ I) (t : Term V) (l : Limit) (d : Rewritten V Limit (Term V)) (v : Inner ℕ I) → Rewrites'' u t d v → Arrives sight numbered (own_url nat_eq modules begins first.now.at.0) Guarded guarded u (size t) d v → Agree (Stops (stops.Limit l)) y d v → Led u t (end.Stopped (stops.Limit l)) y
+  stops_by y u t l (Goes b) v r h a = absurd a
+  stops_by y u t l (Leaves x) v r h a = absurd a
+  stops_by y u t l (Calls g us b) v r h a = absurd a
+  stops_by y u t l (Stops k) v r h a =
+      (subst (λ z. Two u t (end.Stopped l) z) (sym a.1.seen) (stopped (weak _ _ _ _ (subst (λ k. Rewrites'' u t (Stops k) v) a.0 r)) h.scopes), (a.1.same, a.1.made))
 
   -- where the code's evaluation ends, that of the definitions ends
   pub led : {x y : Inside I} {t : Term V} {e : TermEnd V Stop} → One x t e y → (u : Inner ℕ I) → Stands x u → Fit u → Holds (K u) ⊥ t → Led u t e y
@@ -257,11 +265,11 @@ module _ {I : Type 0} (modules : I → Modules ℕ) (linked : I → ℕ → Bool
       goes_by mid y u t rest e (λ u' s' f' h'. led more u' s' f' h') o.0 o.1.0 o.1.1.0 o.1.1.1.0 o.1.1.1.1
   led {y = y} {t = t} (leads.throws {v = v} r) u s f h =
       let o = found u s r (come sight numbered (own_url nat_eq modules begins first.now.at.0) Guarded guarded u f t h) in
-      throws_by y u t v o.0 o.1.0 o.1.1.0 o.1.1.1.1
+      throws_by y u t v o.0 o.1.0 o.1.1.0 o.1.1.1.0 o.1.1.1.1
   led {y = y} {t = t} (leads.calls {rest = rest} {f = g} {vs = vs} r) u s f h =
       let o = found u s r (come sight numbered (own_url nat_eq modules begins first.now.at.0) Guarded guarded u f t h) in
-      calls_by y u t g vs rest o.0 o.1.0 o.1.1.0 o.1.1.1.1
+      calls_by y u t g vs rest o.0 o.1.0 o.1.1.0 o.1.1.1.0 o.1.1.1.1
   led {y = y} {t = t} (leads.stopped {why = stops.Limit l} r) u s f h =
       let o = found u s r (come sight numbered (own_url nat_eq modules begins first.now.at.0) Guarded guarded u f t h) in
-      stops_by y u t l o.0 o.1.0 o.1.1.0 o.1.1.1.1
+      stops_by y u t l o.0 o.1.0 o.1.1.0 o.1.1.1.0 o.1.1.1.1
   led (leads.stopped {why = stops.Memory} r) u s f h = tt

@@ -8,17 +8,23 @@ use Rattle.std.proofs.Math.ListN.{drop_of_length-le}
 use Rattle.esm_tree.specs.Flat.{bindings_of, init_of, init_need, bindings_need}
 use Rattle.esm_tree.specs.declared.node.LexicalBinding.{LexicalBinding}
 use Rattle.esm_values.specs.Code.{numbered}
-use Rattle.esm_body.specs.Rest.{does_bindings, does_init}
+use Rattle.esm_body.specs.Rest.{does_bindings, does_init, begin as begin_of}
 use Rattle.esm_body.specs.Rest.{Use as uses}
 use Rattle.esm_tree.specs.Syntax as x
 use Rattle.esm_tree.specs.Syntax.{Stmt as Statement}
 use Rattle.esm_tree.specs.Flat.{stmt_part, stmt_parts, AllStmtsBelow}
 use Rattle.esm_body.proofs.ScopesLemmas.{below_at}
 use Rattle.esm_values.specs.Code.{CodeValue}
-use Rattle.esm_body.specs.Scopes.{Scope}
+use Rattle.esm_body.specs.Scopes.{Scope, unset, scope_of}
+use Rattle.std.specs.Prelude.{map, Option, Some, None, Result, Ok, Err, OnOk}
+use Rattle.esm_tree.specs.Syntax.{Stmts}
+use Rattle.esm_env.specs.Declarations.{Declaration, declared_in}
+use Rattle.esm_body.specs.Inner.Slots.{slot_of, scope_of_slots, unset_slots}
+use Rattle.esm_body.specs.declared.work.Slot.{Slot}
+use Rattle.esm_body.specs.declared.log.Stop.{Stop}
 use Rattle.esm_body.specs.Rest.{Rest, end, more, whole}
 use Rattle.esm_body.specs.Inner.Contexts.{Context, placed, surrounded}
-use Rattle.esm_body.specs.Inner.Stack.{in_front, part_by, scope_of_level, levels_rest, context_by, contexts_of, innermost, tries, trying, part_of, IsFront, AreNamed, bound_name, name_in, IsWork, AreWork, IsKind, AreLevels, Becomes}
+use Rattle.esm_body.specs.Inner.Stack.{in_front, part_by, scope_of_level, levels_rest, context_by, contexts_of, innermost, tries, trying, part_of, IsFront, AreNamed, bound_name, name_in, IsWork, AreWork, IsKind, AreLevels, Becomes, IsPopped, IsTaken}
 use Rattle.esm_body.specs.Rest.{Part as parts}
 use Rattle.esm_body.specs.declared.work.Kind.{Kind}
 use Rattle.esm_body.specs.declared.work.Kind.TheVariants as k
@@ -177,3 +183,102 @@ begun stmts ls m h =
 -- what becomes of the innermost level becomes of the whole
 pub becomes : (stmts : List Statement) (old new : List Level) (r : Rest CodeValue) → IsFront stmts old new r → Becomes stmts old new r
 becomes stmts old new r f = sym (levels_surround stmts new) ∙ (λ i. surrounded (f.0 i) (f.1 i))
+
+-- ---- names of a block
+
+slots_append : (a b : List Slot) → scope_of_slots (a ++ b) ≡ scope_of_slots a ++ scope_of_slots b
+slots_append [] b = refl
+slots_append (s ∷ a) b = ap (λ ss. slot_of s ∷ ss) (slots_append a b)
+
+unset_scope : (ds : List Declaration) → scope_of_slots (unset_slots ds) ≡ map unset ds
+unset_scope [] = refl
+unset_scope (d ∷ ds) = ap (λ ss. unset d ∷ ss) (unset_scope ds)
+
+pub slots_scope : (names : List Slot) (ss : Stmts) → scope_of_slots (names ++ unset_slots (declared_in ss)) ≡ scope_of_slots names ++ scope_of ss
+slots_scope names ss = slots_append names (unset_slots (declared_in ss)) ∙ ap (λ s. scope_of_slots names ++ s) (unset_scope (declared_in ss))
+
+pub push_some : (ls : List Level) (m : Level) → 0 < length (ls ++ m ∷ [])
+push_some [] m = omega arith
+push_some (l ∷ ls) m = omega arith
+
+pub below_up : (m n : ℕ) (ids : List StmtId) → m < n → AllStmtsBelow m ids → AllStmtsBelow n ids
+below_up m n [] h b = tt
+below_up m n (id ∷ ids) h b = (let x = b.0 in omega (arith, h, x), below_up m n ids h b.1)
+
+pub becomes_ok : (stmts : List Statement) (old new : List Level) (r : Rest CodeValue) (result : Result (Unit {0}) Stop) → OnOk result (IsFront stmts old new r) → OnOk result (Becomes stmts old new r)
+becomes_ok stmts old new r (Ok u) h = becomes stmts old new r h
+becomes_ok stmts old new r (Err e) h = tt
+
+pub sound_ok : (n : ℕ) (stmts : List Statement) (old new : List Level) (r : Rest CodeValue) (result : Result (Unit {0}) Stop) → OnOk result (IsFront stmts old new r) → OnOk result (AreLevels n new) → OnOk result (AreLevels n new × (0 < length new))
+sound_ok n stmts old new r (Ok u) h s = (s, h.2)
+sound_ok n stmts old new r (Err e) h s = tt
+
+pub name_beyond : (exprs : List x.Expr) (bs : List LexicalBinding) (i : ℕ) → length bs ≤ i → name_in (bindings_of exprs bs) i ≡ []
+name_beyond exprs [] i h = refl
+name_beyond exprs (b ∷ bs) zero h = absurd (omega (arith, h))
+name_beyond exprs (b ∷ bs) (suc i) h = name_beyond exprs bs i (omega (arith, h))
+
+-- ---- the next part
+
+module _ (n : ℕ) where
+  pub work_pop : (ws : List Work) (one : Work) → AreWork n (ws ++ one ∷ []) → IsWork n one × AreWork n ws
+  work_pop [] one h = (h.0, tt)
+  work_pop (w ∷ ws) one h = let r = work_pop ws one h.1 in (r.0, (h.0, r.1))
+
+  pub levels_set : (ls : List Level) (i : ℕ) (d l : Level) → i < length ls → l.kind ≡ (get_or ls i d).kind → AreWork n l.work.items → AreLevels n ls → AreLevels n (slice_set ls i l)
+  levels_set [] i d l lt k w h = absurd (omega (arith, lt))
+  levels_set (m ∷ ls) zero d l lt k w h = (subst (λ k. IsKind n k) (sym k) h.0, w, h.2)
+  levels_set (m ∷ ls) (suc i) d l lt k w h = (h.0, h.1, levels_set ls i d l (omega (arith, lt)) k w h.2)
+
+  pub level_at : (ls : List Level) (i : ℕ) (d : Level) → i < length ls → AreLevels n ls → AreWork n (get_or ls i d).work.items
+  level_at [] i d lt h = absurd (omega (arith, lt))
+  level_at (m ∷ ls) zero d lt h = h.1
+  level_at (m ∷ ls) (suc i) d lt h = level_at ls i d (omega (arith, lt)) h.2
+
+module _ (stmts : List Statement) where
+  pub taken : (ls : List Level) (i : ℕ) (d l : Level) (one : Option Work) → i + 1 ≡ length ls → IsPopped (get_or ls i d) one l → IsTaken stmts ls one (slice_set ls i l)
+  taken ls i d l None h p =
+      let long = length-set ls i l in
+      let inner : innermost stmts (slice_set ls i l) ≡ end = innermost_set stmts ls i l h ∙ ap (λ ws. in_front stmts ws end) p.1 in
+      (innermost_last stmts ls i d h ∙ ap (λ ws. in_front stmts ws end) p.0, (contexts_last stmts ls i d l h p.2 p.3, inner, omega (arith, h, long)), long, λ n all. levels_set n ls i d l (omega (arith, h)) p.2 (rw p.1 tt) all)
+  taken ls i d l (Some one) h p =
+      let long = length-set ls i l in
+      let inner = innermost_set stmts ls i l h in
+      let whole' : innermost stmts ls ≡ more (part_of stmts one) (innermost stmts (slice_set ls i l)) =
+          innermost_last stmts ls i d h ∙ ap (λ ws. in_front stmts ws end) p.0 ∙ front_push stmts l.work.items one end ∙ ap (λ r. more (part_of stmts one) r) (sym inner) in
+      (whole', (contexts_last stmts ls i d l h p.1 p.2, refl, omega (arith, h, long)), long,
+      λ n all. let w = work_pop n l.work.items one (subst (λ ws. AreWork n ws) p.0 (level_at n ls i d (omega (arith, h)) all)) in (w.0, levels_set n ls i d l (omega (arith, h)) p.1 w.1 all))
+
+-- ---- a statement begins
+
+pub begins_ok : (stmts : List Statement) (old new : List Level) (s t : Statement) (result : Result (Unit {0}) Stop) → s ≡ t → OnOk result (IsFront stmts old new (begin_of numbered t (innermost stmts old))) → OnOk result (Becomes stmts old new (begin_of numbered s (innermost stmts old)))
+begins_ok stmts old new s t (Ok u) e h = subst (λ s. Becomes stmts old new (begin_of numbered s (innermost stmts old))) (sym e) (becomes stmts old new _ h)
+begins_ok stmts old new s t (Err why) e h = tt
+
+pub becomes_same : (stmts : List Statement) (old : List Level) (s : Statement) → s ≡ x.Empty → Becomes stmts old old (begin_of numbered s (innermost stmts old))
+becomes_same stmts old s e = subst (λ s. Becomes stmts old old (begin_of numbered s (innermost stmts old))) (sym e) (sym (levels_surround stmts old))
+
+abbrev block_start : List Statement → List Level → Kind → List Slot → List StmtId → Rest CodeValue
+block_start stmts old kind names ids = placed (context_by stmts kind (scope_of_slots names ++ scope_of (stmt_parts stmts ids)) (innermost stmts old)) (whole (stmt_parts stmts ids))
+
+ok_as : (stmts : List Statement) (old new : List Level) (r s : Rest CodeValue) (result : Result (Unit {0}) Stop) → r ≡ s → OnOk result (Becomes stmts old new r) → OnOk result (Becomes stmts old new s)
+ok_as stmts old new r s (Ok u) e h = h ∙ ap (surrounded (contexts_of stmts old)) e
+ok_as stmts old new r s (Err why) e h = tt
+
+start_as : (stmts : List Statement) (old : List Level) (kind : Kind) (names : List Slot) (ids slice : List StmtId) → names ≡ [] → slice ≡ ids → block_start stmts old kind names slice ≡ block_start stmts old kind [] ids
+start_as stmts old kind names ids slice n e = λ i. block_start stmts old kind (n i) (e i)
+
+pub block_ok : (stmts : List Statement) (old new : List Level) (s : Statement) (ids slice : List StmtId) (names : List Slot) (result : Result (Unit {0}) Stop) → s ≡ x.Block (stmt_parts stmts ids) → names ≡ [] → slice ≡ ids
+    → OnOk result (Becomes stmts old new (block_start stmts old k.Block names slice)) → OnOk result (Becomes stmts old new (begin_of numbered s (innermost stmts old)))
+block_ok stmts old new s ids slice names result e n l h =
+    ok_as stmts old new _ _ result (start_as stmts old k.Block names ids slice n l ∙ ap (λ s. begin_of numbered s (innermost stmts old)) (sym e)) h
+
+pub try_ok : (stmts : List Statement) (old new : List Level) (id : StmtId) (ids slice : List StmtId) (names : List Slot) (handler : Stmts) (result : Result (Unit {0}) Stop) → stmt_part stmts id ≡ x.Try (stmt_parts stmts ids) handler → names ≡ [] → slice ≡ ids
+    → OnOk result (Becomes stmts old new (block_start stmts old (k.Tries id) names slice)) → OnOk result (Becomes stmts old new (begin_of numbered (stmt_part stmts id) (innermost stmts old)))
+try_ok stmts old new id ids slice names handler result e n l h =
+    ok_as stmts old new _ _ result (start_as stmts old (k.Tries id) names ids slice n l ∙ rw e refl) h
+
+pub catch_ok : (stmts : List Statement) (old new : List Level) (id : StmtId) (ids slice : List StmtId) (names : List Slot) (name : List ℕ) (handler : Stmts) (result : Result (Unit {0}) Stop) → stmt_part stmts id ≡ x.TryCatch (stmt_parts stmts ids) name handler → names ≡ [] → slice ≡ ids
+    → OnOk result (Becomes stmts old new (block_start stmts old (k.Tries id) names slice)) → OnOk result (Becomes stmts old new (begin_of numbered (stmt_part stmts id) (innermost stmts old)))
+catch_ok stmts old new id ids slice names name handler result e n l h =
+    ok_as stmts old new _ _ result (start_as stmts old (k.Tries id) names ids slice n l ∙ rw e refl) h

@@ -25,3 +25,4 @@ pub mod Moved
 pub mod Led
 pub mod Follows
 pub mod ScopesLemmas
+pub mod Paths

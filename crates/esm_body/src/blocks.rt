@@ -4,15 +4,15 @@ ghost use Rattle.std.specs.Arc.{arc_value};
 ghost use Rattle.esm_tree.specs.Syntax.{Stmt};
 ghost use Rattle.esm_tree.specs.Flat as flat;
 ghost use Rattle.esm_tree.specs.Flat.{part, stmt_parts, init_of, init_need, bindings_of, bindings_need};
-ghost use Rattle.esm_env.specs.Declarations.{declared_in};
+ghost use Rattle.esm_body.specs.Scopes.{scope_of};
 ghost use Rattle.esm_values.specs.Code.{numbered};
 ghost use Rattle.esm_expr_eval.specs.Terms.{term};
 ghost use Rattle.esm_body.specs.Rest as rests;
 ghost use Rattle.esm_body.specs.Rest.{more, end, whole};
 ghost use Rattle.esm_body.specs.Rest.Part.{Does};
-ghost use Rattle.esm_body.specs.Inner.Slots.{scope_of_slots, unset_slots};
-ghost use Rattle.esm_body.specs.Inner.Contexts.{placed, surrounded};
-ghost use Rattle.esm_body.specs.Inner.Stack.{in_front, innermost, contexts_of, context_by, part_of, awaited_by, use_of, IsFront, AreNamed, IsUse, IsWork, AreWork, IsKind, AreLevels, Becomes, IsTaken, bound_name, assigned};
+ghost use Rattle.esm_body.specs.Inner.Slots.{scope_of_slots};
+ghost use Rattle.esm_body.specs.Inner.Contexts.{placed};
+ghost use Rattle.esm_body.specs.Inner.Stack.{in_front, innermost, contexts_of, context_by, part_of, awaited_by, use_of, IsFront, AreNamed, IsUse, IsWork, AreWork, IsKind, AreLevels, Becomes, IsNodeOf, IsPopped, IsTaken, name_in, bound_name, assigned};
 
 use crate::log::Stop;
 use crate::scopes::add_block;
@@ -56,22 +56,22 @@ fn is_begun(levels: &mut Vec<Level>, level: Level) -> bool
 /// Begins a block of these statements, whose first names are these.
 pub(crate) fn begin_block(
     alloc: Global,
-    tree: &Tree,
+    tree: &Arc<Tree>,
     levels: &mut Vec<Level>,
     kind: Kind,
     names: Vec<Slot>,
     ids: &[StmtId],
 ) -> Result<(), Stop>
     requires levels { 0 < length levels.old.items }
-    requires ids { flat.AllStmtsBelow (length tree.now.stmts) ids.now }
-    ensures begun { OnOk result (Becomes tree.now.stmts levels.old.items levels.new.items
-        (placed (context_by tree.now.stmts kind (scope_of_slots (names.items ++ unset_slots
-        (declared_in (stmt_parts tree.now.stmts ids.now))))
-        (innermost tree.now.stmts levels.old.items))
-        (whole (stmt_parts tree.now.stmts ids.now)))) }
-    ensures sound { IsKind (length tree.now.stmts) kind
-        → AreLevels (length tree.now.stmts) levels.old.items
-        → OnOk result (AreLevels (length tree.now.stmts) levels.new.items
+    requires ids { flat.AllStmtsBelow (length (arc_value tree.now).stmts) ids.now }
+    ensures begun { OnOk result (Becomes (arc_value tree.now).stmts levels.old.items levels.new.items
+        (placed (context_by (arc_value tree.now).stmts kind (scope_of_slots names.items
+        ++ scope_of (stmt_parts (arc_value tree.now).stmts ids.now))
+        (innermost (arc_value tree.now).stmts levels.old.items))
+        (whole (stmt_parts (arc_value tree.now).stmts ids.now)))) }
+    ensures sound { IsKind (length (arc_value tree.now).stmts) kind
+        → AreLevels (length (arc_value tree.now).stmts) levels.old.items
+        → OnOk result (AreLevels (length (arc_value tree.now).stmts) levels.new.items
         × (0 < length levels.new.items)) }
 {
     let mut slots = names;
@@ -204,15 +204,17 @@ fn does_bindings(
     Ok(())
 }
 
-/// Begins a statement, behind its step.
+/// Begins a statement of this node, behind its step.
 pub(crate) fn begin(
     alloc: Global,
     tree: &Arc<Tree>,
     levels: &mut Vec<Level>,
     id: StmtId,
+    node: &StmtNode,
 ) -> Result<(), Stop>
     requires levels { 0 < length levels.old.items }
     requires id { id.0 < length (arc_value tree.now).stmts }
+    requires node { IsNodeOf (arc_value tree.now) id node.now }
     ensures begun { OnOk result (Becomes (arc_value tree.now).stmts levels.old.items
         levels.new.items (rests.begin numbered (flat.stmt_part (arc_value tree.now).stmts id)
         (innermost (arc_value tree.now).stmts levels.old.items))) }
@@ -220,39 +222,61 @@ pub(crate) fn begin(
         → OnOk result (AreLevels (length (arc_value tree.now).stmts) levels.new.items
         × (0 < length levels.new.items)) }
 {
-    match tree.stmt(id) {
+    match node {
         StmtNode::Empty => Ok(()),
         StmtNode::Expression(at) => does(alloc, tree, levels, Use::Drops, false, *at),
         StmtNode::Assign(_, value) => does_init(alloc, tree, levels, Use::Writes(id), *value),
-        StmtNode::Block(ids) => {
-            begin_block(alloc, tree, levels, Kind::Block, Vec::new(alloc), ids)
-        }
+        StmtNode::Block(ids) => begin_block(
+            alloc,
+            tree,
+            levels,
+            Kind::Block,
+            Vec::new(alloc),
+            ids.as_slice(),
+        ),
         StmtNode::If(at, _) => does(alloc, tree, levels, Use::Chooses(id), false, *at),
         StmtNode::IfElse(at, _, _) => does(alloc, tree, levels, Use::Chooses(id), false, *at),
-        StmtNode::Try(ids, _) => {
-            begin_block(alloc, tree, levels, Kind::Tries(id), Vec::new(alloc), ids)
-        }
-        StmtNode::TryCatch(ids, _, _) => {
-            begin_block(alloc, tree, levels, Kind::Tries(id), Vec::new(alloc), ids)
-        }
+        StmtNode::Try(ids, _) => begin_block(
+            alloc,
+            tree,
+            levels,
+            Kind::Tries(id),
+            Vec::new(alloc),
+            ids.as_slice(),
+        ),
+        StmtNode::TryCatch(ids, _, _) => begin_block(
+            alloc,
+            tree,
+            levels,
+            Kind::Tries(id),
+            Vec::new(alloc),
+            ids.as_slice(),
+        ),
         StmtNode::Throw(at) => does(alloc, tree, levels, Use::Throws, false, *at),
         StmtNode::Return => add(levels, Work::Has(Use::Returns, Value::Undefined)),
         StmtNode::ReturnValue(at) => does(alloc, tree, levels, Use::Returns, false, *at),
         StmtNode::Await(at) => does(alloc, tree, levels, Use::Drops, true, *at),
         StmtNode::PrintAwait(at) => does(alloc, tree, levels, Use::Prints, true, *at),
-        StmtNode::Const(bindings) => does_bindings(alloc, tree, levels, id, bindings),
-        StmtNode::Let(bindings) => does_bindings(alloc, tree, levels, id, bindings),
+        StmtNode::Const(bindings) => does_bindings(alloc, tree, levels, id, bindings.as_slice()),
+        StmtNode::Let(bindings) => does_bindings(alloc, tree, levels, id, bindings.as_slice()),
         StmtNode::Default(value) => does_init(alloc, tree, levels, Use::Defaults, *value),
     }
+}
+
+/// Takes the next part of a level, if it has one.
+fn pop_work(level: &mut Level) -> Option<Work>
+    ensures { IsPopped level.old result level.new }
+{
+    level.work.pop()
 }
 
 /// Takes the next part of the innermost level, if it has one.
 pub(crate) fn take_next(levels: &mut Vec<Level>) -> Option<Work>
     requires { 0 < length levels.old.items }
-    ensures taken { (stmts : List Stmt) → IsTaken stmts levels.old.items result levels.new.items }
+    ensures { (stmts : List Stmt) → IsTaken stmts levels.old.items result levels.new.items }
 {
     let top = levels.len() - 1;
-    levels[top].work.pop()
+    pop_work(&mut levels[top])
 }
 
 /// The name that a binding of a declaration declares.
@@ -261,14 +285,16 @@ pub(crate) fn bound_name(tree: &Tree, id: StmtId, place: usize) -> &str
     ensures { result.now ≡ bound_name (flat.stmt_part tree.now.stmts id) place }
 {
     match tree.stmt(id) {
-        StmtNode::Const(bindings) => name_at(bindings, place),
-        StmtNode::Let(bindings) => name_at(bindings, place),
+        StmtNode::Const(bindings) => name_at(bindings.as_slice(), place),
+        StmtNode::Let(bindings) => name_at(bindings.as_slice(), place),
         _ => "",
     }
 }
 
 /// The name at a place among bindings, if they are so many.
-fn name_at(bindings: &[LexicalBinding], place: usize) -> &str {
+fn name_at(bindings: &[LexicalBinding], place: usize) -> &str
+    ensures { (exprs : _) → result.now ≡ name_in (bindings_of exprs bindings.now) place }
+{
     if place < bindings.len() {
         bindings[place].name.as_str()
     } else {

@@ -1,11 +1,12 @@
 -- What the levels of an activation stand for.
 use Rattle.esm_tree.specs.declared.node.StmtId.{StmtId}
-use Rattle.std.specs.Prelude.{◌≡◌, ◌<◌, length, ℕ, zero, suc, Bool, true, false, List, [], ◌∷◌, ◌++◌, map, Option, Some, None}
+use Rattle.std.specs.Prelude.{◌≡◌, ◌<◌, ◌≤◌, length, ℕ, zero, suc, Bool, true, false, List, [], ◌∷◌, ◌++◌, map, Option, Some, None}
 use Rattle.std.specs.Arc.{arc_value}
 use Rattle.esm_tree.specs.Syntax as x
 use Rattle.esm_tree.specs.Syntax.{Bindings, no_more, binding, Stmt as Statement, Stmts, nothing}
 use Rattle.esm_base.specs.DefaultExport.{star_default}
-use Rattle.esm_tree.specs.Flat.{stmt_part}
+use Rattle.esm_tree.specs.Flat.{stmt_part, stmt_of, need_of, IsStmtBelow}
+use Rattle.esm_tree.specs.declared.node.StmtNode.{StmtNode}
 use Rattle.esm_values.specs.Code.{CodeValue, value_of}
 use Rattle.esm_expr_eval.specs.Terms.{Term}
 use Rattle.esm_expr_eval.specs.Terms.Term.{Val}
@@ -176,8 +177,19 @@ AreLevels n (l ∷ ls) = IsKind n l.kind × AreWork n l.work.items × AreLevels 
 abbrev pub Becomes : List Statement → List Level → List Level → Rest CodeValue → Type 0
 Becomes stmts old new r = levels_rest stmts new ≡ surrounded (contexts_of stmts old) r
 
+-- the next part of a level was taken, if it has one
+abbrev pub IsPopped : Level → Option Work → Level → Type 0
+IsPopped old None new = (old.work.items ≡ []) × (new.work.items ≡ []) × (new.kind ≡ old.kind) × (new.slots ≡ old.slots)
+IsPopped old (Some one) new = (old.work.items ≡ new.work.items ++ one ∷ []) × (new.kind ≡ old.kind) × (new.slots ≡ old.slots)
+
 -- the next part of the innermost level was taken, if it has one
 abbrev pub IsTaken : List Statement → List Level → Option Work → List Level → Type 0
-IsTaken stmts old None new = (innermost stmts old ≡ end) × (new ≡ old)
-IsTaken stmts old (Some one) new = IsFront stmts old new (innermost stmts new) × (innermost stmts old ≡ more (part_of stmts one) (innermost stmts new))
-    × ((n : ℕ) → AreLevels n old → IsWork n one × AreLevels n new)
+IsTaken stmts old None new = (innermost stmts old ≡ end) × IsFront stmts old new end × (length new ≡ length old) × ((n : ℕ) → AreLevels n old → AreLevels n new)
+IsTaken stmts old (Some one) new = (innermost stmts old ≡ more (part_of stmts one) (innermost stmts new)) × IsFront stmts old new (innermost stmts new)
+    × (length new ≡ length old) × ((n : ℕ) → AreLevels n old → IsWork n one × AreLevels n new)
+
+-- the node of the statement with this number in a tree
+pub record IsNodeOf (tree : x.Parts) (id : StmtId) (node : StmtNode) : Type 0 where
+  pub part : stmt_part tree.stmts id ≡ stmt_of tree.exprs tree.stmts node
+  pub need : need_of node ≤ length tree.exprs
+  pub below : IsStmtBelow id.0 node
