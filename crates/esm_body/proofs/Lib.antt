@@ -26,3 +26,4 @@ pub mod Led
 pub mod Follows
 pub mod ScopesLemmas
 pub mod Paths
+pub mod CaughtLemmas

@@ -2,6 +2,7 @@
 #![tactic(auto)]
 
 mod blocks;
+mod catching;
 mod engine;
 mod importer;
 mod inside;

@@ -1,7 +1,8 @@
 -- What the levels of an activation stand for.
 use Rattle.esm_tree.specs.declared.node.StmtId.{StmtId}
-use Rattle.std.specs.Prelude.{◌≡◌, ◌<◌, ◌≤◌, length, ℕ, zero, suc, Bool, true, false, List, [], ◌∷◌, ◌++◌, map, Option, Some, None}
+use Rattle.std.specs.Prelude.{◌≡◌, ◌<◌, ◌≤◌, length, ℕ, zero, suc, Bool, true, false, List, [], ◌∷◌, ◌++◌, map, Option, Some, None, Result, Ok, Err}
 use Rattle.std.specs.Arc.{arc_value}
+use Rattle.std.specs.Borrow.{Bor}
 use Rattle.esm_tree.specs.Syntax as x
 use Rattle.esm_tree.specs.Syntax.{Bindings, no_more, binding, Stmt as Statement, Stmts, nothing}
 use Rattle.esm_base.specs.DefaultExport.{star_default}
@@ -17,8 +18,13 @@ use Rattle.esm_body.specs.Rest.{Use as Purpose}
 use Rattle.esm_body.specs.Rest.{Use as uses}
 use Rattle.esm_body.specs.Rest.{Part as parts}
 use Rattle.esm_body.specs.Segment.{Active}
-use Rattle.esm_body.specs.Inner.Contexts.{Context, Block, Trying, surrounded}
+use Rattle.esm_body.specs.Inner.Contexts.{Context, Block, Trying, surrounded, caught_in}
 use Rattle.esm_body.specs.Inner.Slots.{scope_of_slots}
+use Rattle.esm_base.specs.declared.limits.Limit.{Limit}
+use Rattle.esm_values.specs.declared.value.Value.{Value}
+use Rattle.esm_values.specs.Plans.Rewritten.{Goes, Leaves}
+use Rattle.esm_body.specs.BodyRewriting.{On}
+use Rattle.esm_body.specs.declared.log.Stop.{Stop}
 use Rattle.esm_body.specs.declared.work.Use.{Use}
 use Rattle.esm_body.specs.declared.work.Use.TheVariants as u
 use Rattle.esm_body.specs.declared.work.Work.{Work}
@@ -193,3 +199,35 @@ pub record IsNodeOf (tree : x.Parts) (id : StmtId) (node : StmtNode) : Type 0 wh
   pub part : stmt_part tree.stmts id ≡ stmt_of tree.exprs tree.stmts node
   pub need : need_of node ≤ length tree.exprs
   pub below : IsStmtBelow id.0 node
+
+-- the innermost level, which was begun for this, was taken off
+pub record IsLeft (stmts : List Statement) (old : List Level) (kind : Kind) (new : List Level) : Type 0 where
+  pub scope : Scope CodeValue
+  pub contexts : contexts_of stmts old ≡ context_by stmts kind scope (innermost stmts new) ∷ contexts_of stmts new
+  pub some : 0 < length new
+
+-- a throw leads to the handler, which has begun, or out with the value
+abbrev pub IsCaught : List Statement → List Level → Value → Result (Option Value) Stop → List Level → Type 0
+IsCaught stmts old v (Ok None) new = caught_in {S = Limit} (contexts_of stmts old) (value_of v) ≡ On (Goes (levels_rest stmts new))
+IsCaught stmts old v (Ok (Some u)) new = (caught_in {S = Limit} (contexts_of stmts old) (value_of v) ≡ On (Leaves (value_of v))) × (u ≡ v)
+IsCaught stmts old v (Err why) new = Unit {0}
+
+-- the handler of a `try`, and the name that it catches
+abbrev pub handler_of : Statement → Stmts
+handler_of (x.Try ss handler) = handler
+handler_of (x.TryCatch ss name handler) = handler
+handler_of _ = nothing
+
+abbrev pub caught_of : Statement → Option (List ℕ)
+caught_of (x.TryCatch ss name handler) = Some name
+caught_of _ = None
+
+abbrev pub told_name : Option (Bor (List ℕ)) → Option (List ℕ)
+told_name None = None
+told_name (Some r) = Some r.now
+
+-- the handler of this statement has begun, as that of a `try` round the innermost level
+abbrev pub IsHandled : List Statement → List Level → Statement → CodeValue → Result (Unit {0}) Stop → List Level → Type 0
+IsHandled stmts old s v (Ok u) new = (scope : Scope CodeValue) → caught_in {S = Limit} (trying stmts s scope (innermost stmts old) ∷ contexts_of stmts old) v
+    ≡ On (Goes (levels_rest stmts new))
+IsHandled stmts old s v (Err why) new = Unit {0}
