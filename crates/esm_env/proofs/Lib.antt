@@ -5,3 +5,7 @@ pub mod FaithfulLemmas
 pub mod MakesLemmas
 pub mod MadeLemmas
 pub mod OneRead
+pub mod WrittenLemmas
+pub mod LocalLemmas
+pub mod FunctionLemmas
+pub mod Named

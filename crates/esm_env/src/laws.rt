@@ -1,5 +1,6 @@
 //! Laws of the definitions, each the contract of a function without effect.
-ghost use Rattle.esm_env.specs.Laws.{ReadsOne, BeginsUnset, ReadsRight, MadeFits};
+ghost use Rattle.esm_env.specs.Laws.{ReadsOne, BeginsUnset, ReadsRight, EndsRight, WritesRight, MadeFits};
+ghost use Rattle.esm_env.specs.Naming.{FollowsNames};
 
 /// An import is bound to one thing at most, and a name, and a member of a namespace, reads as one thing.
 pub fn one_reading()
@@ -20,4 +21,38 @@ pub fn reads_right()
 /// A scope that was made from a tree has the names that the tree declares, each as the tree says that it begins.
 pub fn made_fits()
     ensures { MadeFits }
+{}
+
+/// Over such scopes, what a write comes to is the writing of the name, what a declaration sets is its cell, and the scopes
+/// fit as before.
+pub fn writes_right()
+    ensures { WritesRight }
+{}
+
+/// Over such scopes, what is read where a resolution ends is the member of the namespace that is asked for.
+pub fn ends_right()
+    ensures { EndsRight }
+{}
+
+/// Modules with names, by other names.
+pub trait Named {
+    ghost use Rattle.std.specs.Prelude.{Bool};
+    ghost use Rattle.esm_values.specs.Naming.{Naming};
+
+    /// What names a module.
+    type Name;
+    /// What names it otherwise.
+    type Other;
+
+    /// The other names.
+    ghost names: { Naming Self.Name Self.Other };
+    /// Two names are the same.
+    ghost same: { Self.Name → Self.Name → Bool };
+    /// Two of the other names are.
+    ghost other: { Self.Other → Self.Other → Bool };
+}
+
+/// What names and members read as, which keys a namespace has, and what is written, follows the names of modules.
+pub fn follows_names<A: Named>()
+    ensures { FollowsNames A.names A.same A.other }
 {}

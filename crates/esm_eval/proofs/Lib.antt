@@ -14,3 +14,4 @@ pub mod Marked
 pub mod HasMarks
 pub mod HasReady
 pub mod HasEvaluation
+pub mod Named

@@ -8,3 +8,4 @@ pub mod SmallWorld
 pub mod Examples
 pub mod Begins
 pub mod Keeping
+pub mod Naming

@@ -1,5 +1,6 @@
 // Laws of the definitions, as functions without effect.
 ghost use Rattle.esm_eval.specs.Keeping.{HasEvaluation};
+ghost use Rattle.esm_eval.specs.Naming.{EvaluationFollowsNames};
 ghost use Rattle.esm_eval.specs.Laws.{BeginsOnce, OneEvaluation, WaitsStayOpen};
 
 /// A world of any kind, with a relation for what the calls for bodies do in it. The laws range over all of them.
@@ -50,4 +51,24 @@ pub trait FitWorld: AnyWorld {
 /// Where calls for bodies have outcomes, an evaluation has one, and so has what follows the end of a body.
 pub fn has_evaluation<F: FitWorld>()
     ensures { HasEvaluation F.evaluation F.acts F.fits F.is_module F.is_known }
+{}
+
+/// A world whose modules have other names in another world, as which it is read.
+pub trait NamedWorld: AnyWorld {
+    /// The other world.
+    type Other: AnyWorld<Stop = Self::Stop>;
+
+    ghost use Rattle.esm_values.specs.Naming.{Naming};
+
+    /// The names of modules.
+    ghost names: { Naming Self.Name Self.Other.Name };
+    /// The values in the place of those that bodies throw.
+    ghost value: { Self.Value → Self.Other.Value };
+    /// The world as the other.
+    ghost world: { Self.World → Self.Other.World };
+}
+
+/// Evaluation follows names: evaluating a module, and what follows the end of a body, are so of the other world.
+pub fn evaluation_follows_names<A: NamedWorld>()
+    ensures { EvaluationFollowsNames A.names A.value A.evaluation A.Other.evaluation A.world A.acts A.Other.acts }
 {}

@@ -10,7 +10,8 @@ use Rattle.esm_ast.specs.Outcome.{OutcomeView}
 use Rattle.esm_import_map.specs.ImportMap.{Maps}
 use Rattle.esm_load.specs.Loading.{Loading}
 use Rattle.esm_turn.specs.Laws.{FewDeliveries}
-use Rattle.esm_turn.specs.Run.{Delivery, completed, shown, StandardRun}
+use Rattle.esm_turn.specs.Run.{shown, StandardRun}
+use Rattle.esm_ast.specs.Deliveries.{Delivery, completed}
 use Rattle.esm_turn.specs.Represents.{TurnEnd, State, MayTake, MayTakeBy, asks_of, asks_by_stop, Represents, RepresentsOn, ShownBy}
 use Rattle.esm_examples.specs.Fetches.{Files, ComesFrom, IsRunOver}
 use Rattle.esm_examples.specs.declared.fetches.Ran.{Ran}

@@ -5,7 +5,8 @@ use Rattle.esm_base.specs.Urls.{Url}
 use Rattle.esm_base.specs.TextMap.{TextMapView, at}
 use Rattle.esm_ast.specs.Outcome.{OutcomeView, Absent, OutcomeOf}
 use Rattle.esm_import_map.specs.ImportMap.{Maps}
-use Rattle.esm_turn.specs.Run.{Delivery, Shown, StandardRun}
+use Rattle.esm_turn.specs.Run.{Shown, StandardRun}
+use Rattle.esm_ast.specs.Deliveries.{Delivery}
 use Rattle.esm_examples.specs.declared.fetches.Ran.{Ran}
 
 abbrev pub Files : Type 0

@@ -8,3 +8,4 @@ pub mod OneEnd
 pub mod Lands
 pub mod HasRewriting
 pub mod SomeRewriting
+pub mod Named

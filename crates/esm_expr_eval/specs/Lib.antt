@@ -2,6 +2,7 @@ pub mod Terms
 pub mod Ready
 pub mod Rewriting
 pub mod Ends
+pub mod Naming
 pub mod Parts
 pub mod Instance
 pub mod Frames

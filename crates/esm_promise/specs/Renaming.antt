@@ -1,22 +1,13 @@
 -- Modules by other names: what the numbers of modules name, in values, reactions and promises.
 use Rattle.std.specs.Prelude.{◌≡◌, ℕ, List, map}
 use Rattle.std.specs.Option.{option_map}
-use Rattle.esm_values.specs.Value as value
 use Rattle.esm_values.specs.Value.{Value}
+pub use Rattle.esm_values.specs.Naming.{renamed_value}
 use Rattle.esm_promise.specs.Reactions as reaction
 use Rattle.esm_promise.specs.Reactions.{Reaction}
 use Rattle.esm_promise.specs.Promises.{Promises, Promise, Pending, Done, Settled, Fulfilled, Rejected, Job, job, no_promises, next_promise, make, make_fulfilled, register, settle, next_job, settled, is_pending}
 
 module _ {M N : Type 0} (name : M → N) where
-  abbrev pub renamed_value : Value M → Value N
-  renamed_value value.Undefined = value.Undefined
-  renamed_value (value.Truth b) = value.Truth b
-  renamed_value (value.Text t) = value.Text t
-  renamed_value (value.Func m i) = value.Func (name m) i
-  renamed_value (value.Error e) = value.Error e
-  renamed_value (value.Namespace m) = value.Namespace (name m)
-  renamed_value (value.Promise p) = value.Promise p
-
   abbrev pub renamed_reaction : Reaction M → Reaction N
   renamed_reaction (reaction.Await m) = reaction.Await (name m)
   renamed_reaction (reaction.BodyEnd m) = reaction.BodyEnd (name m)
@@ -26,8 +17,8 @@ module _ {M N : Type 0} (name : M → N) where
   renamed_reaction reaction.EntryDone = reaction.EntryDone
 
   abbrev pub renamed_settled : Settled (Value M) → Settled (Value N)
-  renamed_settled (Fulfilled v) = Fulfilled (renamed_value v)
-  renamed_settled (Rejected v) = Rejected (renamed_value v)
+  renamed_settled (Fulfilled v) = Fulfilled (renamed_value name v)
+  renamed_settled (Rejected v) = Rejected (renamed_value name v)
 
   abbrev pub renamed_promise : Promise (Reaction M) (Value M) → Promise (Reaction N) (Value N)
   renamed_promise (Pending rs) = Pending (map renamed_reaction rs)
@@ -49,7 +40,7 @@ module _ {M N : Type 0} (name : M → N) where
     pub makes : (ps : Promises (Reaction M) (Value M)) (rs : List (Reaction M))
         → renamed (make ps rs) ≡ make (renamed ps) (map renamed_reaction rs)
     pub makes_fulfilled : (ps : Promises (Reaction M) (Value M)) (v : Value M)
-        → renamed (make_fulfilled ps v) ≡ make_fulfilled (renamed ps) (renamed_value v)
+        → renamed (make_fulfilled ps v) ≡ make_fulfilled (renamed ps) (renamed_value name v)
     pub registers : (ps : Promises (Reaction M) (Value M)) (p : ℕ) (r : Reaction M)
         → renamed (register ps p r) ≡ register (renamed ps) p (renamed_reaction r)
     pub settles : (ps : Promises (Reaction M) (Value M)) (p : ℕ) (how : Settled (Value M))

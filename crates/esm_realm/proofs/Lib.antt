@@ -12,3 +12,9 @@ pub mod PlainRecords
 pub mod Lists
 pub mod Components
 pub mod OneWalk
+pub mod Numbers
+pub mod Lowest
+pub mod WalkParts
+pub mod NumberWalks
+pub mod ByIds
+pub mod Named

@@ -4,3 +4,6 @@ pub mod Records
 pub mod Laws
 pub mod Sound
 pub mod Components
+pub mod ById
+pub mod Places
+pub mod Naming

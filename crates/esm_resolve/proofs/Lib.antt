@@ -3,3 +3,4 @@ mod AllSound
 mod Search
 mod SharedSet
 mod NameLists
+pub mod Renumbered

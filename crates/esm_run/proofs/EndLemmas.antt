@@ -8,7 +8,8 @@ use Rattle.esm_load.specs.Loading.{Loading, LoadState}
 use Rattle.esm_load.specs.Loading as loads
 use Rattle.esm_base.specs.declared.end.End.TheVariants as ends
 use Rattle.esm_turn.specs.LastLine.{Ending, ending_by, status_of, Stopped, Uncaught, Done, Pending}
-use Rattle.esm_turn.specs.Run.{Delivery, Shown, ending, StandardRun}
+use Rattle.esm_turn.specs.Run.{Shown, ending, StandardRun}
+use Rattle.esm_ast.specs.Deliveries.{Delivery}
 use Rattle.esm_turn.specs.World.{World}
 use Rattle.esm_turn.specs.Represents.{TurnEnd, State, ShowsBy, MayTake, MayTakeBy, asks_of, asks_by_stop, ending_of, ending_by_stop, Represents}
 use Rattle.esm_import_map.specs.ImportMap.{Maps}

@@ -12,7 +12,8 @@ use Rattle.esm_base.specs.Urls.{Url, has, same_url}
 use Rattle.esm_realm.proofs.Urls.{or_left, or_true, own_text}
 use Rattle.esm_ast.specs.Outcome.{OutcomeView, outcome_view}
 use Rattle.esm_import_map.specs.ImportMap.{Maps}
-use Rattle.esm_turn.specs.Run.{Delivery, completed, shown, Shown, StandardRun}
+use Rattle.esm_turn.specs.Run.{shown, Shown, StandardRun}
+use Rattle.esm_ast.specs.Deliveries.{Delivery, completed}
 use Rattle.esm_turn.specs.World.{opening}
 use Rattle.esm_turn.specs.Laws.{AsksStay, OpenAsks}
 use Rattle.esm_turn.specs.Represents.{State, Represents, RepresentsOn, ShownBy, asks_of}

@@ -24,7 +24,8 @@ use Rattle.esm_module_map.specs.Laws.{UrlsStay, PostsStay, PostsAreAnswers, Take
 use Rattle.esm_fetch.specs.declared.posted.Posted.{Posted}
 use Rattle.esm_fetch.specs.Answered.{Contents, kind_of, IsRead, IsToldOutcome}
 use Rattle.esm_fetch.specs.Serving.{weight, url_in, outcome_in, ask_for, IsTrueAnswer, IsServed, IsCut, Serves, Served, ServedIf}
-use Rattle.esm_turn.specs.Run.{Delivery, Shown, shown, StandardRun}
+use Rattle.esm_turn.specs.Run.{Shown, shown, StandardRun}
+use Rattle.esm_ast.specs.Deliveries.{Delivery}
 use Rattle.esm_turn.specs.Represents.{State}
 use Rattle.esm_run.specs.Taken.{ask_of, IsTold, WasDelivered}
 use Rattle.esm_run.specs.Inner.Leading.{WasPosted, IsDriven, IsCutShort, EndsDriven, IsStandardAsk, AreServed, IsShared, IsNew, Leads}

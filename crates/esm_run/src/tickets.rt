@@ -8,7 +8,7 @@ ghost use Rattle.esm_module_map.specs.Saying.{Begins, Stays};
 ghost use Rattle.esm_module_map.specs.Histories.{takes_by, answers_by};
 ghost use Rattle.esm_module_map.specs.Replies.{number_in};
 ghost use Rattle.esm_fetch.specs.Serving.{weight};
-ghost use Rattle.esm_turn.specs.Run.{Delivery};
+ghost use Rattle.esm_ast.specs.Deliveries.{Delivery};
 ghost use Rattle.esm_run.specs.Inner.Leading as spec;
 ghost use Rattle.esm_run.specs.Inner.Leading.{AsksOn, HasTicket, IsFirstPosted, IsOpenAsk, IsStandardAsk, KeepsServing};
 

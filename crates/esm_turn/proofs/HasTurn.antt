@@ -15,7 +15,8 @@ use Rattle.esm_turn.specs.Bodies.{run_bodies}
 use Rattle.esm_turn.specs.World.{World, Evaluates, Follows, Jobs, Tasks, Turn, stopped, opening, with_jobs}
 use Rattle.esm_turn.specs.World.Evaluates.{evaluates}
 use Rattle.esm_turn.specs.World.Follows.{loaded, failed}
-use Rattle.esm_turn.specs.Run.{Delivery, Runs, asks}
+use Rattle.esm_turn.specs.Run.{Runs, asks}
+use Rattle.esm_ast.specs.Deliveries.{Delivery}
 use Rattle.esm_turn.proofs.Keeps.{jobs_only}
 use Rattle.esm_turn.proofs.Ends.{next_is}
 use Rattle.esm_turn.proofs.Single.{Answered, goes, threw, whole}

@@ -18,7 +18,8 @@ use Rattle.esm_load.proofs.Grows.{Has}
 use Rattle.esm_load.proofs.Grows.Has.{here}
 use Rattle.esm_turn.specs.Bodies.{Bodies, run_bodies}
 use Rattle.esm_turn.specs.World.{World, Jobs, Tasks, Turn, stopped, opening, with_jobs}
-use Rattle.esm_turn.specs.Run.{Delivery, Runs, asks}
+use Rattle.esm_turn.specs.Run.{Runs, asks}
+use Rattle.esm_ast.specs.Deliveries.{Delivery}
 use Rattle.esm_turn.proofs.Asks.{asks_live}
 use Rattle.esm_turn.proofs.Ends.{follows_whole, follows_thrown, evaluates_is, jobs_none, open_has, next_is, IsNext, get_new, get_old, has_cons}
 use Rattle.esm_turn.proofs.Single.{IsWanted, wanted_steps, IsSingle, Answered, goes, threw, whole, answers_single}

@@ -8,3 +8,4 @@ pub mod Plans
 pub mod Operators
 pub mod Code
 pub mod Laws
+pub mod Naming

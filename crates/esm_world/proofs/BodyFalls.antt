@@ -1,6 +1,6 @@
 -- A segment takes a step, or leaves promises as they are and less of the body remains at its await.
-use Rattle.std.proofs.Common.{◌≡◌, ℕ, suc, ◌+◌, ◌<◌, ◌≤◌, Bool, true, false, List, [], ◌∷◌, Option, Some, None, refl, ap, subst, sym, ◌∙◌, arith}
-use Rattle.std.specs.Prelude.{Result, Ok, Err, nat_lt, length, ◌++◌, ⊤}
+use Rattle.std.proofs.Common.{◌≡◌, ℕ, suc, ◌+◌, ◌<◌, ◌≤◌, Bool, true, false, List, [], ◌∷◌, Option, Some, None, refl, ap, subst, ◌∙◌, arith}
+use Rattle.std.specs.Prelude.{Result, Ok, Err, nat_lt, length}
 use Rattle.esm_base.specs.declared.limits.Limit.{Limit}
 use Rattle.esm_base.specs.declared.limits.TheConstants.{MAX_STEPS, MAX_LOG_BYTES, MAX_CALL_DEPTH}
 use Rattle.esm_tree.specs.Syntax.{Stmts}
@@ -14,9 +14,8 @@ use Rattle.esm_values.specs.Operators.{values, text_of, is_true, look_of}
 use Rattle.esm_expr_eval.specs.Terms.{Term, fill}
 use Rattle.esm_expr_eval.specs.Terms.Term.{Val, Fails}
 use Rattle.esm_expr_eval.proofs.HasRewriting.{size}
-use Rattle.esm_promise.specs.Promises.{Promises, next_promise}
+use Rattle.esm_promise.specs.Promises.{Promises}
 use Rattle.esm_promise.specs.Reactions.{Reaction}
-use Rattle.esm_promise.specs.Outer.{Outer}
 use Rattle.esm_env.specs.Modules.{Modules}
 use Rattle.esm_env.specs.Cells.{Cell, Reading}
 use Rattle.esm_env.specs.Cells.{Reading as reading}
@@ -26,14 +25,14 @@ use Rattle.esm_body.specs.Scopes.{Scope, in_scopes}
 use Rattle.esm_body.specs.Rest.{Use, Part, Rest, end, more, whole, branch, fill_rest, fill_part}
 use Rattle.esm_body.specs.Rest.{Part as part}
 use Rattle.esm_body.specs.Rest.{Use as use_of}
-use Rattle.esm_body.specs.State.{State, Standing, Importing, Answered, take_steps, steps_by, add_line, line_by}
-use Rattle.esm_body.specs.Acts.{Inner, Performs, AnswersAct, ReadsMemberOf, BeginsBy, read_answer, over_scopes, set_at, write_in, scope_write, module_write, modules_of, import_answer}
+use Rattle.esm_body.specs.State.{State, Standing, Importing, Answered, steps_by, line_by}
+use Rattle.esm_body.specs.Acts.{Inner, Performs, AnswersAct, ReadsMemberOf, BeginsBy, read_answer, over_scopes, set_at, write_in, scope_write, module_write, modules_of}
 use Rattle.esm_body.specs.BodyRewriting.{RewrittenBody, On, Gives, Waits, RewritesBody, own_url, within, caught, wrote}
 use Rattle.esm_body.specs.BodyRewriting.RewritesBody.{begins_at, does, drops, sets, writes, throws, returns, prints, chooses, awaits, inner, inner_end, tries, tries_end}
 use Rattle.esm_body.specs.Segment.{Active, Ended, Normal, Thrown, Awaiting, Stopped, Next, Goes, Over, Segment, next_by, call_by, called}
 use Rattle.esm_body.specs.Segment.{Segment as segment}
 use Rattle.esm_body.proofs.Grown.{count, same_rest}
-use Rattle.esm_world.proofs.ExprFalls.{Counts, Calm, Falls, IsOther, Light, calm_on, follows_falls, inside_falls, rewrites_falls}
+use Rattle.esm_world.proofs.ExprFalls.{Counts, Calm, Falls, IsOther, Light, follows_falls, inside_falls, rewrites_falls}
 
 -- ---- how much of a body remains
 

@@ -1,12 +1,12 @@
 -- How many reactions are still to run: those of the jobs, and those of pending promises.
-use Rattle.std.proofs.Common.{◌≡◌, ℕ, zero, suc, ◌+◌, ◌≤◌, Bool, true, false, List, [], ◌∷◌, ◌++◌, Option, Some, None, refl, ap, sym, ◌∙◌, arith}
+use Rattle.std.proofs.Common.{◌≡◌, ℕ, zero, suc, ◌+◌, ◌≤◌, Bool, true, false, List, [], ◌∷◌, ◌++◌, Option, Some, None, refl, ap, ◌∙◌, arith}
 use Rattle.std.specs.Prelude.{map, slice_get, slice_set}
 use Rattle.esm_base.specs.Urls.{Url, same_url}
 use Rattle.esm_values.specs.Value.{Value}
 use Rattle.esm_promise.specs.Promises.{Promise, Pending, Done, Promises, Settled, Job, job, settle, triggered, register, register_by, make, make_fulfilled, next_job, first_job}
-use Rattle.esm_promise.specs.Reactions.{Reaction, Await, BodyEnd, Loaded, Evaluated, EntryLoaded, EntryDone}
+use Rattle.esm_promise.specs.Reactions.{Reaction, Loaded, EntryLoaded}
 use Rattle.esm_body.specs.State.{Standing}
-use Rattle.esm_body.specs.Bodies.{Taken, behind, take_by, take_standing}
+use Rattle.esm_body.specs.Bodies.{Taken, take_by, take_standing}
 use Rattle.esm_world.proofs.BodyFalls.{weight_rest}
 
 -- what follows a load has two reactions

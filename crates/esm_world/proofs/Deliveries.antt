@@ -1,6 +1,6 @@
 -- Each delivery is of another URL, each was asked, and there are at most as many as asks.
 use mathlib.Core.Bool.{true≢false}
-use Rattle.std.proofs.Common.{◌≡◌, ◌<◌, ◌≤◌, ℕ, suc, ◌+◌, Bool, true, false, List, [], ◌∷◌, ◌++◌, length, Some, None, Option, refl, ap, subst, sym, ◌∙◌, arith, inl, inr}
+use Rattle.std.proofs.Common.{◌≡◌, ◌<◌, ◌≤◌, suc, ◌+◌, Bool, true, false, List, [], ◌∷◌, ◌++◌, length, Some, None, Option, refl, ap, subst, sym, ◌∙◌, arith, inl, inr}
 use Rattle.std.specs.Prelude.{◌⊎◌, ◌≢◌, nat_lt, option_map}
 use Rattle.std.specs.Option.{option_or}
 use Rattle.esm_tree.specs.Syntax.{Item}
@@ -12,8 +12,8 @@ use Rattle.esm_base.specs.Urls.{Url, has, same_url}
 use Rattle.esm_realm.specs.Laws.{AreDistinct}
 use Rattle.esm_realm.proofs.Urls.{cases, same_text, own_text, or_true, or_left, or_cases, has_append, not_both, not_true}
 use Rattle.esm_ast.specs.Outcome.{OutcomeView}
-use Rattle.esm_loads.specs.UrlTable.{TableEntry, Entries, Found, Nothing, Faulty, Script, found}
-use Rattle.esm_loads.specs.Loading.{Loading, is_fetching}
+use Rattle.esm_loads.specs.UrlTable.{Entries, Found, Nothing, Faulty, Script, found}
+use Rattle.esm_loads.specs.Loading.{is_fetching}
 use Rattle.esm_loads.specs.Host.{Host, with_loading}
 use Rattle.esm_loads.specs.Arrival.{bytes_of, count_by, put_found, store, store_by, after_fetch, open_asks}
 use Rattle.esm_loads.specs.Laws.{IsOrderly}
@@ -21,7 +21,8 @@ use Rattle.esm_loads.proofs.Orderly.{put_own, put_other, stays_orderly}
 use Rattle.esm_world.specs.World.{World, host_of, opening, stopped}
 use Rattle.esm_world.specs.Turn.{Turn, fetched}
 use Rattle.esm_world.specs.LastLine.{ending_by, status_of}
-use Rattle.esm_world.specs.Run.{Delivery, Runs, asks, asks_by, ending, Shown, StandardRun}
+use Rattle.esm_world.specs.Run.{Runs, asks, ending, Shown, StandardRun}
+use Rattle.esm_ast.specs.Deliveries.{Delivery, asks_by}
 use Rattle.esm_world.specs.Laws.{urls_of}
 use Rattle.esm_world.proofs.Grows.{fetch_stays}
 use Rattle.esm_world.proofs.WorldGrows.{tasks_progress}
@@ -31,7 +32,7 @@ use Rattle.esm_world.proofs.Members.{has_filter, filter_in, within}
 abbrev IsFetched : World → Url → Type 0
 IsFetched w u = is_fetching (w.loading.entries u) ≡ false
 
-asks_live : (stop : Option Limit) (us : List Url) (u : Url) → has (asks_by stop us) u ≡ true → (stop ≡ None) × (has us u ≡ true)
+pub asks_live : (stop : Option Limit) (us : List Url) (u : Url) → has (asks_by stop us) u ≡ true → (stop ≡ None) × (has us u ≡ true)
 asks_live None us u h = (refl, h)
 asks_live (Some limit) us u h = absurd (true≢false (sym h))
 

@@ -1,6 +1,6 @@
 -- A rewriting of an expression takes a step, or leaves promises as they are and makes smaller what remains.
-use Rattle.std.proofs.Common.{◌≡◌, ℕ, suc, ◌+◌, ◌<◌, ◌≤◌, List, [], Bool, true, false, Option, Some, None, refl, ap, sym, ◌∙◌, arith}
-use Rattle.std.specs.Prelude.{Result, Ok, Err, nat_lt, length, ◌/◌, if◌then◌else◌, ⊤}
+use Rattle.std.proofs.Common.{◌≡◌, ℕ, suc, ◌+◌, ◌<◌, ◌≤◌, List, Bool, true, false, Option, Some, None, arith}
+use Rattle.std.specs.Prelude.{Ok, nat_lt, length, if◌then◌else◌, ⊤}
 use Rattle.esm_base.specs.declared.limits.TheConstants.{MAX_TEXT_BYTES}
 use Rattle.esm_values.specs.Acts.{Act, AnswerTo}
 use Rattle.esm_values.specs.Acts.{Act as act}
@@ -9,13 +9,13 @@ use Rattle.esm_values.specs.Plans.{Acting, Rewritten, Plan, Follows, inside}
 use Rattle.esm_values.specs.Plans.{Follows as follow}
 use Rattle.esm_values.specs.Plans.Rewritten.{Goes, Leaves, Calls, Stops}
 use Rattle.esm_values.specs.Plans.Plan.{Ends, Asks}
-use Rattle.esm_values.specs.Operators.{Look, Textual, Known, Displayed, Refused, Values, textual, joined, made, operand, sum, complete, to_text_by, error_of, new_error, is_true}
+use Rattle.esm_values.specs.Operators.{Look, Values, joined, made, operand, sum, complete, is_true}
 use Rattle.esm_values.specs.Operators.{Look as look}
-use Rattle.esm_expr_eval.specs.Terms.{Term, Terms, Compared, LinkTerms}
-use Rattle.esm_expr_eval.specs.Terms.Term.{Val, Waits, Fails, Name, Or, And, Equal, Sum, Not, Post, Print, NewError, Import, OwnUrl}
+use Rattle.esm_expr_eval.specs.Terms.{Term, Terms}
+use Rattle.esm_expr_eval.specs.Terms.Term.{Val, Or, And, Equal, Sum, Not, Post, Print, NewError, Import}
 use Rattle.esm_expr_eval.specs.Terms.LinkTerms.{call, member}
 use Rattle.esm_expr_eval.specs.Terms.Compared.{compared}
-use Rattle.esm_expr_eval.specs.Rewriting.{Rewrites, RewritesIn, or_on, and_on, enters, called, error_made}
+use Rattle.esm_expr_eval.specs.Rewriting.{Rewrites, RewritesIn, or_on, and_on}
 use Rattle.esm_expr_eval.specs.Rewriting.Rewrites.{fails, name, or_in, or, and_in, and, equal_in, equal_right, equal, equal_end, sum_in, sum_right, joins, sum_end, not_in, not_of, post_in, member_of, arguments, call_of, post_end, print_in, print, error_in, error, import_in, begins, own_url}
 use Rattle.esm_expr_eval.specs.Rewriting.RewritesIn.{first, later}
 use Rattle.esm_expr_eval.proofs.HasRewriting.{size, size_all, size_compared, size_links}

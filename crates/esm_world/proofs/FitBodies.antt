@@ -1,6 +1,6 @@
 -- Over a world that fits, what bodies ask of promises, errors and modules is kept, and import() has an outcome.
-use Rattle.std.proofs.Common.{◌≡◌, ℕ, ◌<◌, Bool, true, false, List, [], ◌∷◌, ◌++◌, Option, Some, None, refl, ap, subst, sym, ◌∙◌, length}
-use Rattle.std.specs.Prelude.{Result, ⊤, slice_get}
+use Rattle.std.proofs.Common.{◌≡◌, ℕ, ◌<◌, Bool, true, false, List, [], ◌∷◌, Option, Some, None, refl, ap, subst, sym, ◌∙◌, length}
+use Rattle.std.specs.Prelude.{Result, slice_get}
 use Rattle.esm_base.specs.declared.limits.Limit.{Limit}
 use Rattle.esm_base.specs.Urls.{Url, has}
 use Rattle.esm_ast.specs.Entries.{requests_of, entries_of, entries_with}
@@ -14,7 +14,7 @@ use Rattle.esm_env.specs.Modules as mods
 use Rattle.esm_loads.specs.UrlTable.{Entries, TableEntry, Throw, New, Kept, targets_in, body_in, thrown_by}
 use Rattle.esm_loads.specs.Whole.{is_module}
 use Rattle.esm_loads.specs.Loading.{Loading, LoadState, Asked, Open, LoadComplete, Thrown, PendingRequest, Root, Request, Purpose, ForEntry, ForImport, is_fetching}
-use Rattle.esm_loads.specs.Host.{Host, settle_by, settle_load, begin_by, begin_load, with_loading, own_load, reject, Answered}
+use Rattle.esm_loads.specs.Host.{Host, settle_by, begin_by, begin_load, with_loading, reject, Answered}
 use Rattle.esm_loads.specs.Host.Answered.{late, answered}
 use Rattle.esm_loads.specs.ImportCall.{Imports, BeginsImport}
 use Rattle.esm_loads.specs.ImportCall.Imports.{limit, unresolved, asks, answers}

@@ -1,12 +1,11 @@
 -- Over worlds that fit, evaluation has outcomes, which fit.
-use Rattle.std.proofs.Common.{◌≡◌, ℕ, zero, suc, ◌+◌, ◌<◌, Bool, true, false, ◌||◌, ◌&&◌, cond, List, [], ◌∷◌, ◌++◌, Option, Some, None, All, refl, ap, subst, sym, ◌∙◌, arith, length}
-use Rattle.std.specs.Prelude.{Result, Ok, Err, ⊤, IfSome, filter}
-use Rattle.std.specs.List.{list_any}
+use Rattle.std.proofs.Common.{◌≡◌, ℕ, suc, ◌+◌, ◌<◌, Bool, true, false, ◌||◌, ◌&&◌, cond, List, [], ◌∷◌, Some, refl, ap, subst, sym, ◌∙◌, arith, length}
+use Rattle.std.specs.Prelude.{Result, Ok, Err, filter}
 use Rattle.std.proofs.lemmas.List.Elements.{All-push}
 use Rattle.std.proofs.lemmas.Slice.Eq.{bytes_eq-Decides}
 use Rattle.esm_base.specs.declared.limits.Limit.{Limit}
 use Rattle.esm_base.specs.Lists.{is_in}
-use Rattle.esm_base.specs.Urls.{Url, has, same_url}
+use Rattle.esm_base.specs.Urls.{Url, same_url}
 use Rattle.esm_values.specs.Value.{Value, Undefined}
 use Rattle.esm_values.specs.Ran.{Ran}
 use Rattle.esm_values.specs.Ran.{Ran as ran}
@@ -19,14 +18,14 @@ use Rattle.esm_link.specs.Link.{targets, targets_from}
 use Rattle.esm_loads.specs.UrlTable.{Entries, put_at}
 use Rattle.esm_loads.specs.Loading.{Loading}
 use Rattle.esm_loads.specs.ImportCall.{BeginsImport}
-use Rattle.esm_eval.specs.Nodes.{Node, Phase, was_entered, Start, Run}
-use Rattle.esm_eval.specs.Evaluation.{Evaluation, phase, IsLawful}
+use Rattle.esm_eval.specs.Nodes.{Node, was_entered, Start, Run}
+use Rattle.esm_eval.specs.Evaluation.{phase, IsLawful}
 use Rattle.esm_eval.specs.Keeping.{IsNodeOf, CanEvaluate, HasOutcomes, throws_known}
 use Rattle.esm_eval.proofs.HasEvaluation.{has_evaluation}
 use Rattle.esm_body.specs.State.{State}
 use Rattle.esm_body.specs.Bodies.{Taken, take_standing, given_by, ResumesBody}
 use Rattle.esm_body.specs.Fits.{FitsState, StaysFit}
-use Rattle.esm_body.proofs.SomeBody.{some_start, some_run, some_resume, RanKnown, Starts, Runs, Resumes}
+use Rattle.esm_body.proofs.SomeBody.{some_start, some_run, some_resume, RanKnown}
 use Rattle.esm_world.specs.World.{World, modules_in, state_of, with_state}
 use Rattle.esm_world.specs.Layers.{Executes, evaluation, with_promises}
 use Rattle.esm_world.specs.Fits.{IsLinkedModule, AreModules, IsKnownValue, FitSettled, FitPromises, FitsHost, FitsWorld}

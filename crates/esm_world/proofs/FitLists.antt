@@ -1,9 +1,9 @@
 -- Places in lists of URLs, and promises that fit.
-use Rattle.std.proofs.Common.{◌≡◌, ℕ, zero, suc, ◌+◌, ◌<◌, Bool, true, false, ◌&&◌, ◌||◌, cond, List, [], ◌∷◌, ◌++◌, map, Option, Some, None, refl, ap, subst, sym, ◌∙◌, arith, length}
-use Rattle.std.specs.Prelude.{not, filter, slice_get, slice_set, slice_index_or, bytes_eq, ⊤, ◌⊎◌}
-use Rattle.std.specs.List.{list_any, position_or_len, AllByRecursion}
+use Rattle.std.proofs.Common.{◌≡◌, ℕ, zero, suc, ◌+◌, ◌<◌, Bool, true, false, ◌||◌, cond, List, [], ◌∷◌, ◌++◌, map, Option, Some, None, refl, subst, sym, arith, length}
+use Rattle.std.specs.Prelude.{not, slice_get, bytes_eq, ⊤}
+use Rattle.std.specs.List.{AllByRecursion}
 use Rattle.std.proofs.lemmas.Slice.Eq.{bytes_eq-Decides}
-use Rattle.esm_base.specs.Urls.{Url, has, same_url}
+use Rattle.esm_base.specs.Urls.{Url, has}
 use Rattle.esm_ast.specs.Entries.{place_of}
 use Rattle.esm_values.specs.Value.{Value, Undefined, Truth, Text, Func, Error, Namespace, Promise}
 use Rattle.esm_promise.specs.Promises as p
@@ -13,6 +13,7 @@ use Rattle.esm_loads.specs.UrlTable.{Entries}
 use Rattle.esm_body.specs.Bodies.{await_on}
 use Rattle.esm_world.specs.World.{url_at}
 use Rattle.esm_world.specs.Fits.{IsLinkedModule, IsKnownValue, FitReaction, FitSettled, FitPromise, FitPromises}
+use Rattle.esm_world.proofs.Each.{pushed, joined, put}
 
 -- ---- places
 
@@ -55,19 +56,6 @@ module _ (linked : List Url) (entries : Entries) where
 
   abbrev Reactions : List (Reaction Url) → Type 0
   Reactions rs = AllByRecursion (FitReaction linked entries) rs
-
-  pub pushed : {A : Type 0} (P : A → Type 0) (xs : List A) (x : A) → AllByRecursion P xs → P x → AllByRecursion P (xs ++ x ∷ [])
-  pushed P [] x h k = (k, tt)
-  pushed P (y ∷ ys) x h k = (h.0, pushed P ys x h.1 k)
-
-  joined : {A : Type 0} (P : A → Type 0) (xs ys : List A) → AllByRecursion P xs → AllByRecursion P ys → AllByRecursion P (xs ++ ys)
-  joined P [] ys h k = k
-  joined P (x ∷ xs) ys h k = (h.0, joined P xs ys h.1 k)
-
-  put : {A : Type 0} (P : A → Type 0) (xs : List A) (i : ℕ) (x : A) → AllByRecursion P xs → P x → AllByRecursion P (slice_set xs i x)
-  put P [] i x h k = tt
-  put P (y ∷ ys) zero x h k = (k, h.1)
-  put P (y ∷ ys) (suc i) x h k = (h.0, put P ys i x h.1 k)
 
   abbrev At : Option (p.Promise (Reaction Url) (Value Url)) → Type 0
   At None = ⊤

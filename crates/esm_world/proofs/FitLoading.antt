@@ -1,5 +1,5 @@
 -- The opening world fits, and what loading brings keeps that a world fits, as does that more modules are linked.
-use Rattle.std.proofs.Common.{◌≡◌, ℕ, ◌+◌, ◌<◌, Bool, true, false, List, [], ◌∷◌, Option, Some, None, All, refl, ap, subst, sym, ◌∙◌, length}
+use Rattle.std.proofs.Common.{◌≡◌, ℕ, ◌+◌, ◌<◌, Bool, true, false, List, [], ◌∷◌, Option, Some, None, refl, ap, subst, sym, ◌∙◌, length}
 use Rattle.std.specs.Prelude.{⊤, IfSome, nat_lt}
 use Rattle.std.specs.List.{AllByRecursion}
 use Rattle.std.proofs.lemmas.List.Elements.{All-nil, All-weaker}
@@ -16,7 +16,7 @@ use Rattle.esm_promise.specs.Promises as p
 use Rattle.esm_promise.specs.Promises.{Settled, Fulfilled, Rejected, Pending, Done, Promises, Job}
 use Rattle.esm_promise.specs.Reactions.{Reaction, Await, BodyEnd, Loaded, Evaluated, EntryLoaded, EntryDone}
 use Rattle.esm_env.specs.Declarations.{function_at}
-use Rattle.esm_loads.specs.UrlTable.{Entries, TableEntry, Found, Nothing, Faulty, Script, found, targets_in, body_in}
+use Rattle.esm_loads.specs.UrlTable.{Entries, Found, Nothing, Faulty, Script, found, targets_in, body_in}
 use Rattle.esm_loads.specs.Loading.{Loading}
 use Rattle.esm_loads.specs.Host.{Host}
 use Rattle.esm_loads.specs.Arrival.{after_fetch, store_by, put_found, count, count_by, bytes_of, AnswersNext}
@@ -195,7 +195,7 @@ put_promises o u Nothing = refl
 put_promises o u (Script r) = refl
 put_promises o u (Faulty f) = refl
 
-stored_promises : (l : Option Limit) (o : Host) (u : Url) (c : OutcomeView) → (store_by l o u c).promises ≡ o.promises
+pub stored_promises : (l : Option Limit) (o : Host) (u : Url) (c : OutcomeView) → (store_by l o u c).promises ≡ o.promises
 stored_promises None o u c = put_promises o u (found o.imports.maps o.imports.built u c)
 stored_promises (Some limit) o u c = refl
 

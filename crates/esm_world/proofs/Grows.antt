@@ -1,5 +1,5 @@
 -- What loading keeps, as its laws say it, and that this goes on from step to step.
-use Rattle.std.proofs.Common.{◌≡◌, ℕ, ◌+◌, Bool, true, false, List, [], ◌∷◌, ◌++◌, Option, Some, None, refl, ap, sym, ◌∙◌}
+use Rattle.std.proofs.Common.{◌≡◌, ℕ, ◌+◌, Bool, true, false, List, [], ◌++◌, Option, Some, None, refl, ap, sym, ◌∙◌}
 use Rattle.std.specs.Prelude.{nat_lt, Result}
 use Rattle.std.proofs.lemmas.List.{append-nil, append_assoc}
 use Rattle.esm_base.specs.declared.limits.Limit.{Limit}

@@ -1,12 +1,11 @@
 -- What loading has brought are modules that can be linked and run.
-use Rattle.std.proofs.Common.{◌≡◌, ◌⊎◌, inl, inr, ℕ, zero, suc, ◌+◌, ◌<◌, Bool, true, false, cond, List, [], ◌∷◌, ◌++◌, length, Option, Some, None, Result, Ok, Err, refl, ap, subst, sym, ◌∙◌, arith}
+use Rattle.std.proofs.Common.{◌≡◌, ◌⊎◌, inl, inr, ℕ, zero, suc, ◌+◌, ◌<◌, Bool, true, false, cond, List, [], ◌∷◌, length, Option, Some, None, Result, Ok, Err, refl, ap, subst, sym, ◌∙◌, arith}
 use Rattle.std.specs.Prelude.{filter, slice_index_or, not, nat_lt, ◌||◌}
-use Rattle.std.specs.List.{position_or_len}
 use Rattle.esm_tree.specs.Syntax.{Item}
 use Rattle.esm_import_map.specs.ImportMap.{Maps}
 use Rattle.esm_base.specs.declared.limits.Limit.{Limit}
 use Rattle.esm_base.specs.Urls.{Text, Url, same_url, has}
-use Rattle.esm_base.specs.Lists.{IsSameness, is_in}
+use Rattle.esm_base.specs.Lists.{IsSameness}
 use Rattle.esm_ast.specs.Entries.{requests_of, entries_of, entries_with, place_of}
 use Rattle.esm_ast.specs.ModuleTree.{IsModuleTree}
 use Rattle.esm_ast.specs.Outcome as outcomes
@@ -19,22 +18,19 @@ use Rattle.esm_values.specs.declared.errors.Fault.{Fault}
 use Rattle.esm_resolve.specs.SharedSet.{SharedSetAgrees, SharedSetEnds}
 use Rattle.esm_env.specs.Modules.{Modules, entries}
 use Rattle.esm_loads.specs.UrlTable.{TableEntry, Failed, Broken, Module, Found, Nothing, Faulty, Script, found, built_by, script_by, targets_of, targets_by, targets_in, body_in, put_at}
-use Rattle.esm_loads.specs.Loading.{Loading, is_fetching, targets, body, root_of_load, root_in, LoadState, Asked, Open, LoadComplete, Thrown}
-use Rattle.esm_loads.specs.Host.{Host, opening_host, with_loading}
-use Rattle.esm_loads.specs.Arrival.{after_fetch, AnswersNext, open_asks, store_by, put_found, count_by, with_entry, bytes_of}
-use Rattle.esm_loads.specs.ImportCall.{BeginsImport}
-use Rattle.esm_loads.specs.Whole.{IsWhole, IsLoaded, AreUnlinked, is_module, unlinked_modules}
-use Rattle.esm_loads.specs.Laws.{IsOrderly, Grows}
+use Rattle.esm_loads.specs.Loading.{Loading, is_fetching, targets}
+use Rattle.esm_loads.specs.Host.{Host, with_loading}
+use Rattle.esm_loads.specs.Arrival.{store_by, put_found, count_by, with_entry, bytes_of}
+use Rattle.esm_loads.specs.Whole.{AreUnlinked, is_module, unlinked_modules}
 use Rattle.esm_loads.proofs.Orderly.{stays_orderly, only_grows, put_other}
 use Rattle.esm_loads.proofs.Whole.{stays_whole, unlinked_is_closed}
-use Rattle.esm_link.specs.Faults.{FaultAt}
 use Rattle.esm_link.specs.Link as link
 use Rattle.esm_link.specs.Link.{IsLinking, targets_from}
 use Rattle.esm_link.proofs.HasLinking.{has_linking}
 use Rattle.esm_link.proofs.ClosedLinks.{closes_whole}
 use Rattle.esm_body.specs.Fits.{AreLinked}
 use Rattle.esm_body.proofs.Resolved.{good, resolved}
-use Rattle.esm_world.specs.World.{modules_in, url_at}
+use Rattle.esm_world.specs.World.{modules_in}
 use Rattle.esm_world.specs.Run.{HasModuleTree}
 use Rattle.esm_world.specs.Loaded.{HasTree, FitsLoading, LoadingStaysFit, LoadedAreLinked, HasLink, LinkedStaysLinked}
 
@@ -110,7 +106,7 @@ fetch_trees false h u c t k = store_trees h.imports.stopped (with_loading h (cou
 
 -- ---- an open ask
 
-in_filter : (test : Url → Bool) (us : List Url) (x : Url) → has (filter test us) x ≡ true → (has us x ≡ true) × (test x ≡ true)
+pub in_filter : (test : Url → Bool) (us : List Url) (x : Url) → has (filter test us) x ≡ true → (has us x ≡ true) × (test x ≡ true)
 in_filter test [] x h = cc
 in_filter test (u ∷ us) x h = by (test u) refl h (in_filter test us x)
   where

@@ -26,7 +26,8 @@ use Rattle.esm_world.specs.Jobs.{LinksLoad, EvaluatesLoad, Reacts, Jobs, when_ev
 use Rattle.esm_world.specs.Jobs.Reacts.{entry_linked, entry_fault, entry_refused, entry_ended, entry_threw, linked, fault, refused, evaluated, threw, body_ended, body_threw, resumes}
 use Rattle.esm_world.specs.Turn.{Tasks, Turn}
 use Rattle.esm_world.specs.LastLine.{Ending, Stopped, Uncaught, Done, Pending, IsLastLine}
-use Rattle.esm_world.specs.Run.{Runs, Delivery, Shown, StandardRun, ending, shown}
+use Rattle.esm_world.specs.Run.{Runs, Shown, StandardRun, ending, shown}
+use Rattle.esm_ast.specs.Deliveries.{Delivery}
 
 pub begins_one : BeginsOne BeginsImport
 begins_one = record { one = λ {o} {x} {y} {m} {text} {p} {r} {s} a b. let k = one_load.begins o x y m text p r s a b in (sym k.0, sym k.1) }

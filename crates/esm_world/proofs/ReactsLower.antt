@@ -1,5 +1,5 @@
 -- Each job leaves less: of steps, or else of reactions and of what stands at an await.
-use Rattle.std.proofs.Common.{◌≡◌, ℕ, suc, ◌+◌, ◌-◌, ◌<◌, ◌≤◌, Bool, true, false, List, [], ◌∷◌, ◌++◌, Option, Some, None, refl, ap, subst, sym, ◌∙◌, arith}
+use Rattle.std.proofs.Common.{◌≡◌, ℕ, ◌+◌, ◌-◌, ◌<◌, ◌≤◌, Bool, true, false, List, [], ◌∷◌, ◌++◌, Option, Some, None, refl, ap, subst, sym, ◌∙◌, arith}
 use Rattle.std.specs.Prelude.{Result, Ok, Err, nat_lt, length}
 use Rattle.esm_base.specs.declared.limits.Limit.{Limit}
 use Rattle.esm_base.specs.declared.limits.Limit.TheVariants.{L3}
@@ -7,9 +7,8 @@ use Rattle.esm_base.specs.declared.limits.TheConstants.{MAX_STEPS, MAX_LOG_BYTES
 use Rattle.esm_base.specs.Urls.{Url, same_url}
 use Rattle.esm_values.specs.Value.{Value, Undefined, Truth, Text, Func, Error, Namespace, Promise}
 use Rattle.esm_values.specs.Ran.{Ran}
-use Rattle.esm_expr_eval.specs.Terms.{Term}
 use Rattle.esm_expr_eval.proofs.HasRewriting.{size}
-use Rattle.esm_promise.specs.Promises.{Settled, Fulfilled, Rejected, Job, settle, register, make_fulfilled, next_promise, next_job}
+use Rattle.esm_promise.specs.Promises.{Settled, Fulfilled, Rejected, Job, settle, make_fulfilled, next_promise, next_job}
 use Rattle.esm_promise.specs.Reactions.{Reaction, Await, EntryDone, Evaluated}
 use Rattle.esm_env.specs.Declarations.{body_of}
 use Rattle.esm_loads.specs.Loading.{Loading, body}
@@ -17,10 +16,10 @@ use Rattle.esm_loads.specs.ImportCall.{BeginsImport}
 use Rattle.esm_eval.specs.Nodes.{Call, CallAnswer, Start, Run, module_of}
 use Rattle.esm_eval.specs.BodyEnd.{Fulfills}
 use Rattle.esm_body.specs.Acts.{modules_of}
-use Rattle.esm_body.specs.Rest.{Rest, fill_rest}
-use Rattle.esm_body.specs.State.{State, Standing, Answered, Engine, Event, Begins, Ends, Throws, note, note_by, line_by, add_line, event_behind, event_line}
+use Rattle.esm_body.specs.Rest.{fill_rest}
+use Rattle.esm_body.specs.State.{State, Answered, Event, Begins, Ends, Throws, note, note_by, line_by, add_line, event_behind, event_line}
 use Rattle.esm_body.specs.Segment.{Ended, Normal, Thrown, Awaiting, Stopped}
-use Rattle.esm_body.specs.Bodies.{StartsBody, RunsBody, ResumesBody, segment_end, settle_done, body_end, ran_by, await_on, stand, without_standing, given_by, url_in, whole_body}
+use Rattle.esm_body.specs.Bodies.{StartsBody, RunsBody, ResumesBody, segment_end, settle_done, body_end, ran_by, await_on, without_standing, given_by, url_in, whole_body}
 use Rattle.esm_world.specs.World.{World, modules_in, state_of, with_state, stopped}
 use Rattle.esm_world.specs.Layers.{Executes, evaluation, with_linked, with_promises}
 use Rattle.esm_world.specs.Jobs.{EvaluatesLoad, Reacts, when_evaluated}
@@ -28,7 +27,7 @@ use Rattle.esm_world.specs.Jobs.Reacts.{entry_linked, entry_fault, entry_refused
 use Rattle.esm_world.proofs.BodyFalls.{Counted, Waiting, counted, waiting, weight_rest, same_weight, CalmState, FallsEnd, segment_falls}
 use Rattle.esm_world.proofs.StepsWithin.{Within, within_same, segment_within}
 use Rattle.esm_world.proofs.StartsRise.{HasFirst, entries_first, Risen, whole_rises}
-use Rattle.esm_world.proofs.EvalFalls.{LastsLive, Kept, evaluates_live, fulfills_live, rejects_live}
+use Rattle.esm_world.proofs.EvalFalls.{LastsLive, evaluates_live, fulfills_live, rejects_live}
 use Rattle.esm_world.proofs.EvalStops.{evaluates_stop, fulfills_stop}
 use Rattle.esm_world.proofs.BodyStops.{resumes_body_stop}
 use Rattle.esm_world.proofs.StartsOnce.{IsOk, ok_unit, ok_some, IsStopped, IsStoppedState, stops_call, stops_state, none_stopped}

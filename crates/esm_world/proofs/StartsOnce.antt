@@ -33,7 +33,8 @@ use Rattle.esm_world.specs.Layers.{Executes, evaluation, with_linked, with_promi
 use Rattle.esm_world.specs.Jobs.{EvaluatesLoad, Reacts, Jobs, when_evaluated}
 use Rattle.esm_world.specs.Jobs.Reacts.{entry_linked, entry_fault, entry_refused, entry_ended, entry_threw, linked, fault, refused, evaluated, threw, body_ended, body_threw, resumes}
 use Rattle.esm_world.specs.Turn.{Tasks, Turn, fetched}
-use Rattle.esm_world.specs.Run.{Runs, Delivery, asks_by, Shown, StandardRun}
+use Rattle.esm_world.specs.Run.{Runs, Shown, StandardRun}
+use Rattle.esm_ast.specs.Deliveries.{Delivery, asks_by}
 use Rattle.esm_world.specs.Laws.{started, StopsAreTold}
 use Rattle.esm_world.proofs.Distinct.{Adds, same, add, adds_on, adds_same, adds_distinct}
 use Rattle.esm_world.proofs.Grows.{Progress}
@@ -83,17 +84,17 @@ has_is (Throws x ∷ es) m = has_is es m
 abbrev pub starts : World → List Url
 starts w = started w.engine.events
 
-begun_is : (w : World) (m : Url) → evaluation.begun w m ≡ has (starts w) m
+pub begun_is : (w : World) (m : Url) → evaluation.begun w m ≡ has (starts w) m
 begun_is w m = has_is w.engine.events m
 
-begun_alike : (v w : World) → starts w ≡ starts v → (m : Url) → evaluation.begun w m ≡ evaluation.begun v m
+pub begun_alike : (v w : World) → starts w ≡ starts v → (m : Url) → evaluation.begun w m ≡ evaluation.begun v m
 begun_alike v w e m = begun_is w m ∙ ap (λ xs. has xs m) e ∙ sym (begun_is v m)
 
 -- what a call begins
-record CallBegins (v : World) (m : Url) (w : World) : Type 0 where
-  starts_are : (starts w ≡ starts v) ⊎ (starts w ≡ starts v ++ m ∷ [])
+pub record CallBegins (v : World) (m : Url) (w : World) : Type 0 where
+  pub starts_are : (starts w ≡ starts v) ⊎ (starts w ≡ starts v ++ m ∷ [])
 
-call_begins : {v w : World} {c : Call Url} {r : Result (CallAnswer (Value Url) c) Limit} → Executes v c r w → CallBegins v (module_of c) w
+pub call_begins : {v w : World} {c : Call Url} {r : Result (CallAnswer (Value Url) c) Limit} → Executes v c r w → CallBegins v (module_of c) w
 call_begins (Executes.start p) = record { starts_are = (starts_body_keeps same_url modules_in BeginsImport Progress imported p).starts }
 call_begins (Executes.run p) = record { starts_are = (runs_body_keeps same_url modules_in BeginsImport Progress imported p).starts }
 
@@ -147,7 +148,7 @@ nodes_of : {v w : World} {c : Call Url} {r : Result (CallAnswer (Value Url) c) L
 nodes_of (Executes.start p) = (refl, refl)
 nodes_of (Executes.run p) = (refl, refl)
 
-begun_keeps : {v w : World} {m : Url} → CallBegins v m w → (x : Url) → evaluation.begun v x ≡ true → evaluation.begun w x ≡ true
+pub begun_keeps : {v w : World} {m : Url} → CallBegins v m w → (x : Url) → evaluation.begun v x ≡ true → evaluation.begun w x ≡ true
 begun_keeps {v} {w} {m} p x h = by p.starts_are
   where
     by : (starts w ≡ starts v) ⊎ (starts w ≡ starts v ++ m ∷ []) → evaluation.begun w x ≡ true
@@ -165,7 +166,7 @@ begins_other {v} {w} {m} p x h = by p.starts_are
     by (inl e) = inl (sym (begun_alike v w e x) ∙ h)
     by (inr e) = on (has_split (starts v) m x (sym (ap (λ xs. has xs x) e) ∙ sym (begun_is w x) ∙ h))
 
-steady : IsSteady evaluation Executes
+pub steady : IsSteady evaluation Executes
 steady = record {
   call = λ w v c r p. record {
     nodes = λ x. ap (λ ns. ns x) (nodes_of p).0;
@@ -179,7 +180,7 @@ steady = record {
 begins_its_own : BeginsOne evaluation Executes
 begins_its_own = record { call = λ w v c r p x h. begins_other (call_begins p) x h }
 
-makes_first_calls : MakesFirstCalls evaluation Executes
+pub makes_first_calls : MakesFirstCalls evaluation Executes
 makes_first_calls = begins_once evaluation Executes lawful steady begins_its_own
 
 -- ---- an evaluation whose calls are of bodies that haven't begun
@@ -243,11 +244,11 @@ calm_alike v w h n s b = record {
     on : (x : Url) → HasOpenWait evaluation v x → HasOpenWait evaluation w x
     on x q = (q.0, ap (λ ns. is_in same_url (ns x).waits q.0) n ∙ q.1, ap (λ ns. (ns q.0).done) n ∙ q.2)
 
-calm_same : (v w : World) → HaveBegunOnce evaluation v → w.nodes ≡ v.nodes → w.stamps ≡ v.stamps → starts w ≡ starts v → HaveBegunOnce evaluation w
+pub calm_same : (v w : World) → HaveBegunOnce evaluation v → w.nodes ≡ v.nodes → w.stamps ≡ v.stamps → starts w ≡ starts v → HaveBegunOnce evaluation w
 calm_same v w h n s e = calm_alike v w h n s (begun_alike v w e)
 
 -- nothing of evaluation or of what bodies began is changed
-once_same : (v w : World) → HaveBegunOnce evaluation v → AreDistinct (starts v) → w.nodes ≡ v.nodes → w.stamps ≡ v.stamps → starts w ≡ starts v → Once w
+pub once_same : (v w : World) → HaveBegunOnce evaluation v → AreDistinct (starts v) → w.nodes ≡ v.nodes → w.stamps ≡ v.stamps → starts w ≡ starts v → Once w
 once_same v w h d n s e = record { distinct = subst AreDistinct (sym e) d; calm = λ live. calm_same v w h n s e }
 
 by_answer : (w : World) (r : Reaction Url) (a : Result ℕ Limit) → ((when_evaluated w r a).nodes ≡ w.nodes) × ((when_evaluated w r a).stamps ≡ w.stamps) × (starts (when_evaluated w r a) ≡ starts w) × (stopped (when_evaluated w r a) ≡ stopped w)
@@ -283,7 +284,7 @@ load_once {v} {w} {s} {a} h d p r =
     let o = evaluated_once (with_linked v p.linked) p.root a w (calm_same v (with_linked v p.linked) h refl refl refl) d p.evaluates in
     once_to w (when_evaluated w r a) o k.0 k.1 k.2 k.3
 
-reacts_once : {v : World} {r : Reaction Url} {how : Settled (Value Url)} {w : World} → HaveBegunOnce evaluation v → AreDistinct (starts v) → Reacts v r how w → Once w
+pub reacts_once : {v : World} {r : Reaction Url} {how : Settled (Value Url)} {w : World} → HaveBegunOnce evaluation v → AreDistinct (starts v) → Reacts v r how w → Once w
 reacts_once h d (entry_linked p) = load_once h d p _
 reacts_once {v} {w = w} h d (entry_fault root f ls l) = once_same v w h d refl refl refl
 reacts_once {v} {w = w} h d entry_refused = once_same v w h d refl refl refl
@@ -301,12 +302,12 @@ reacts_once {v} {w = w} h d (body_threw {m = m} {v = u} p) = record {
 }
 reacts_once {v} {w = w} h d (resumes p) = once_same v w h d refl refl (resumes_body_keeps same_url modules_in BeginsImport Progress imported p).starts
 
-jobs_once : {v w : World} → Once v → Jobs v w → Once w
+pub jobs_once : {v w : World} → Once v → Jobs v w → Once w
 jobs_once o (Jobs.none n) = o
 jobs_once o (Jobs.stops l s) = o
 jobs_once {v} o (Jobs.job j left how live i g f p) = jobs_once (reacts_once (calm_same v (with_promises v left) (o.calm live) refl refl refl) o.distinct f) p
 
-tasks_once : {v w : World} → Once v → Tasks v w → Once w
+pub tasks_once : {v w : World} → Once v → Tasks v w → Once w
 tasks_once o (Tasks.none n) = o
 tasks_once o (Tasks.stops l s) = o
 tasks_once {v} o (Tasks.task {h = h} live a j p) = tasks_once (jobs_once (once_same v (with_host v h) (o.calm live) o.distinct refl refl refl) j) p
@@ -316,7 +317,7 @@ turn_once {v} {u} {c} {w} live o (Turn.limit l s) = once_same v w (o.calm live) 
 turn_once {v} {u} {c} live o (Turn.turn l p) = tasks_once (once_same v (fetched v u c) (o.calm live) o.distinct refl refl refl) p
 
 -- an open ask is there only where no limit has stopped
-live_by : (o : Option Limit) (us : List Url) (u : Url) → has (asks_by o us) u ≡ true → o ≡ None
+pub live_by : (o : Option Limit) (us : List Url) (u : Url) → has (asks_by o us) u ≡ true → o ≡ None
 live_by None us u h = refl
 live_by (Some limit) us u h = absurd cc
 
@@ -324,7 +325,7 @@ runs_once : (ds : List Delivery) (v w : World) → Once v → Runs v ds w → On
 runs_once [] v w o p = subst (λ w. Once w) (sym p) o
 runs_once (d ∷ ds) v w o p = runs_once ds p.1 w (turn_once (live_by (stopped v) (open_asks v.loading) d.url p.0.asked) o p.2) p.3
 
-opening_once : (maps : Maps) (built : List Item → Bool) (entry : Url) (trace : Bool) → Once (opening maps built entry trace)
+pub opening_once : (maps : Maps) (built : List Item → Bool) (entry : Url) (trace : Bool) → Once (opening maps built entry trace)
 opening_once maps built entry trace = record {
   distinct = tt;
   calm = λ live. makes_first_calls.opening (opening maps built entry trace) (record { phases = λ x. refl; free = λ x. refl; undone = λ x. refl; stamps = refl }) (λ x. refl);

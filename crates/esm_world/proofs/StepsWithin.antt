@@ -1,8 +1,8 @@
 -- No more steps are taken than may be.
-use Rattle.std.proofs.Common.{◌≡◌, ℕ, zero, suc, ◌+◌, ◌≤◌, Bool, true, false, List, [], ◌∷◌, Option, Some, None, refl, ap, subst, sym, ◌∙◌, arith}
-use Rattle.std.specs.Prelude.{Result, Ok, Err, nat_lt, length, ◌++◌}
+use Rattle.std.proofs.Common.{◌≡◌, ℕ, ◌+◌, ◌≤◌, Bool, true, false, List, [], ◌∷◌, Option, Some, None, refl, ap, subst, sym, arith}
+use Rattle.std.specs.Prelude.{nat_lt, length}
 use Rattle.esm_base.specs.declared.limits.Limit.{Limit}
-use Rattle.esm_base.specs.declared.limits.TheConstants.{MAX_STEPS, MAX_LOG_BYTES, MAX_CALL_DEPTH}
+use Rattle.esm_base.specs.declared.limits.TheConstants.{MAX_STEPS, MAX_CALL_DEPTH}
 use Rattle.esm_values.specs.Value.{Value}
 use Rattle.esm_values.specs.Acts.{Act, AnswerTo}
 use Rattle.esm_values.specs.Acts.{Act as act}
@@ -18,7 +18,7 @@ use Rattle.esm_body.specs.BodyRewriting.RewritesBody.{begins_at, does, drops, se
 use Rattle.esm_body.specs.Segment.{Active, Ended, Next, Goes, Over, Segment, next_by, call_by, called}
 use Rattle.esm_body.specs.Segment.{Segment as segment}
 use Rattle.esm_world.proofs.ExprKeeps.{Stays, follows_keeps, step_keeps}
-use Rattle.esm_world.proofs.BodyFalls.{steps_of, told_counted, act_counted, import_counted, set_counted, by_write}
+use Rattle.esm_world.proofs.BodyFalls.{steps_of, act_counted, import_counted, set_counted, by_write}
 
 lt_no : (a b : ℕ) → nat_lt a b ≡ false → b ≤ a
 lt_no a b e = grind (arith, e)

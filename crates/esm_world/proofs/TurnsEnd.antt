@@ -3,23 +3,22 @@
 use Rattle.std.proofs.Common.{◌≡◌, ℕ, zero, suc, ◌<◌, ◌≤◌, Bool, List, [], ◌∷◌, Option, Some, None, refl, ap, subst, sym, ◌∙◌, arith}
 use Rattle.std.specs.Option.{option_or}
 use Rattle.esm_base.specs.declared.limits.Limit.{Limit}
-use Rattle.esm_base.specs.Urls.{Url, has}
+use Rattle.esm_base.specs.Urls.{Url}
 use Rattle.esm_tree.specs.Syntax.{Item}
 use Rattle.esm_import_map.specs.ImportMap.{Maps}
-use Rattle.esm_ast.specs.Outcome.{OutcomeView}
 use Rattle.esm_values.specs.Value.{Value}
 use Rattle.esm_promise.specs.Promises.{Promises, Settled, Job, next_job, settled}
 use Rattle.esm_promise.specs.Reactions.{Reaction}
-use Rattle.esm_loads.specs.Loading.{Loading}
 use Rattle.esm_loads.specs.Host.{Host}
-use Rattle.esm_loads.specs.Arrival.{Next, next, AnswersNext, pending_left, open_asks}
+use Rattle.esm_loads.specs.Arrival.{Next, next, AnswersNext, pending_left}
 use Rattle.esm_loads.proofs.Pending.{fewer_left}
 use Rattle.esm_world.specs.World.{World, host_of, with_host, opening, stopped}
 use Rattle.esm_world.specs.Layers.{with_promises}
 use Rattle.esm_world.specs.Jobs.{Reacts, Jobs}
 use Rattle.esm_world.specs.Turn.{Tasks, Turn, fetched}
-use Rattle.esm_world.specs.Run.{Delivery, IsAllowed, Runs, asks}
-use Rattle.esm_world.specs.Unproved.{HasTurn}
+use Rattle.esm_world.specs.Run.{IsAllowed, Runs}
+use Rattle.esm_ast.specs.Deliveries.{Delivery}
+use Rattle.esm_world.specs.Laws.{HasTurn}
 use Rattle.esm_world.proofs.OneRun.{turn_one}
 use Rattle.esm_world.proofs.WorldGrows.{jobs_progress}
 use Rattle.esm_world.proofs.Deliveries.{open_ask}
@@ -148,7 +147,7 @@ module _ (Fits : World → Type 0) (one two : World → ℕ) where
             let rest = tasks_by (suc (pending_left (fetched w d.url d.outcome).loading)) (fetched w d.url d.outcome) (k.fetches w d f a e) (omega arith) in
             record { after = rest.after; turn = Turn.turn e rest.tasks; fits = rest.fits }
 
-    runs_fit : (ds : List Delivery) (w after : World) → (stopped w ≡ None → Fits w) → Runs w ds after → stopped after ≡ None → Fits after
+    pub runs_fit : (ds : List Delivery) (w after : World) → (stopped w ≡ None → Fits w) → Runs w ds after → stopped after ≡ None → Fits after
     runs_fit [] w after f r live = subst (λ w. Fits w) (sym r) (f (ap stopped (sym r) ∙ live))
     runs_fit (d ∷ ds) w after f r live =
         let ends = turn_ends w d (f (open_ask w d.url r.0.asked).live) r.0 in

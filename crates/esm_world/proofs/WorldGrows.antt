@@ -1,5 +1,5 @@
 -- What jobs and tasks keep of loading.
-use Rattle.std.proofs.Common.{◌≡◌, ℕ, Bool, List, [], ◌∷◌, refl, ap, subst, sym}
+use Rattle.std.proofs.Common.{◌≡◌, ℕ, refl, subst, sym}
 use Rattle.std.specs.Prelude.{Result, Ok, Err}
 use Rattle.esm_base.specs.declared.limits.Limit.{Limit}
 use Rattle.esm_base.specs.Urls.{Url, same_url}
@@ -8,11 +8,11 @@ use Rattle.esm_promise.specs.Promises.{Settled}
 use Rattle.esm_promise.specs.Reactions.{Reaction}
 use Rattle.esm_loads.specs.ImportCall.{BeginsImport}
 use Rattle.esm_eval.specs.Nodes.{Call, CallAnswer}
-use Rattle.esm_world.specs.World.{World, modules_in, host_of, opening}
+use Rattle.esm_world.specs.World.{World, modules_in}
 use Rattle.esm_world.specs.Layers.{Executes, evaluation, with_linked}
 use Rattle.esm_world.specs.Jobs.{EvaluatesLoad, Reacts, Jobs, when_evaluated}
 use Rattle.esm_world.specs.Jobs.Reacts.{entry_linked, entry_fault, entry_refused, entry_ended, entry_threw, linked, fault, refused, evaluated, threw, body_ended, body_threw, resumes}
-use Rattle.esm_world.specs.Turn.{Tasks, Turn}
+use Rattle.esm_world.specs.Turn.{Tasks}
 use Rattle.esm_world.proofs.Grows.{Progress, GrowsOn, same_progress, progress_on, begins_progress, on_same, on_both, next_grows, progress_grows}
 use Rattle.esm_world.proofs.EvalKeeps.{Lasts, evaluates_keeps, fulfills_keeps, rejects_keeps}
 use Rattle.esm_world.proofs.BodyKeeps.{Imported, starts_body_keeps, runs_body_keeps, resumes_body_keeps}

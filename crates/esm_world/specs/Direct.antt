@@ -22,11 +22,8 @@ use Rattle.esm_world.specs.ImportCalls.{holds_import}
 use Rattle.esm_world.specs.World.{World, world_of, stopped}
 use Rattle.esm_world.specs.Jobs.{Jobs}
 use Rattle.esm_world.specs.LastLine.{IsLastLine, Ending, ending_by, status_of}
-use Rattle.esm_world.specs.Run.{Delivery, Shown}
-
--- what each URL is answered with
-abbrev pub Files : Type 0
-Files = Url → Option OutcomeView
+use Rattle.esm_world.specs.Run.{Shown}
+use Rattle.esm_ast.specs.Deliveries.{Files}
 
 module _ (maps : Maps) (built : List Item → Bool) (files : Files) where
   abbrev pub entry_found : Found → Option TableEntry
@@ -99,11 +96,6 @@ module _ (maps : Maps) (built : List Item → Bool) (files : Files) where
     pub few : length modules ≤ MAX_URLS
     pub small : sum_by file_bytes modules ≤ MAX_DELIVERED_BYTES
     pub live : stopped after ≡ None
-
--- the deliveries are of these files
-abbrev pub AreOfFiles : Files → List Delivery → Type 0
-AreOfFiles files [] = Unit {0}
-AreOfFiles files (d ∷ ds) = (files d.url ≡ Some d.outcome) × AreOfFiles files ds
 
 -- how a world has ended in which nothing is asked
 abbrev pub direct_ending : World → Option Ending

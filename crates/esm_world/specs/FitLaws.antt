@@ -1,5 +1,5 @@
 -- The laws of worlds that fit.
-use Rattle.std.specs.Prelude.{◌≡◌, Bool, true, List, Option, Some, None, Result}
+use Rattle.std.specs.Prelude.{◌≡◌, Bool, true, List, Some, None, Result}
 use Rattle.esm_base.specs.declared.limits.Limit.{Limit}
 use Rattle.esm_base.specs.Urls.{Url, has, same_url}
 use Rattle.esm_tree.specs.Syntax.{Item}

@@ -1,5 +1,5 @@
 -- Which worlds fit: what is linked is there, values, promises and bodies are of what is linked. Each world of a standard run is so.
-use Rattle.std.specs.Prelude.{◌≡◌, ◌<◌, ℕ, Bool, true, false, All, List, [], ◌∷◌, length, Option, Some, None, ⊤}
+use Rattle.std.specs.Prelude.{◌≡◌, ◌<◌, ℕ, true, All, List, [], length, ⊤}
 use Rattle.std.specs.List.{AllByRecursion}
 use Rattle.esm_base.specs.Urls.{Url, has}
 use Rattle.esm_ast.specs.Entries.{requests_of}

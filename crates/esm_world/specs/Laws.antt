@@ -1,5 +1,5 @@
 -- The laws of turns and runs.
-use Rattle.std.specs.Prelude.{◌≡◌, ◌≢◌, ◌⊎◌, ◌+◌, ◌<◌, ℕ, Bool, true, false, List, [], ◌∷◌, length, Some, is_some, Err}
+use Rattle.std.specs.Prelude.{◌≡◌, ◌≢◌, ◌⊎◌, ◌+◌, ◌<◌, Bool, true, false, List, [], ◌∷◌, length, Some, is_some, Err}
 use Rattle.esm_tree.specs.Syntax.{Item}
 use Rattle.esm_import_map.specs.ImportMap.{Maps}
 use Rattle.esm_base.specs.declared.limits.Limit.{Limit}
@@ -19,15 +19,26 @@ use Rattle.esm_eval.specs.Evaluate.{Evaluates}
 use Rattle.esm_eval.specs.BodyEnd.{Fulfills}
 use Rattle.esm_body.specs.Bodies.{ResumesBody}
 use Rattle.esm_body.specs.State.{State, Event, Begins, Ends, Throws}
-use Rattle.esm_world.specs.World.{World, stopped, modules_in, state_of, with_state}
+use Rattle.esm_world.specs.World.{World, opening, stopped, modules_in, state_of, with_state}
 use Rattle.esm_world.specs.Layers.{Executes, evaluation}
 use Rattle.esm_world.specs.Jobs.{Jobs}
 use Rattle.esm_world.specs.Turn.{Tasks, Turn}
-use Rattle.esm_world.specs.Run.{Delivery, asks, Shown, StandardRun}
+use Rattle.esm_world.specs.Run.{asks, Runs, IsAllowed, Shown, StandardRun}
+use Rattle.esm_ast.specs.Deliveries.{Delivery}
 
 -- a turn has one outcome
 abbrev pub OneTurn : Type 0
 OneTurn = (w one other : World) (u : Url) (c : OutcomeView) → Turn w u c one → Turn w u c other → one ≡ other
+
+-- an allowed delivery has a turn, after any deliveries that are allowed
+abbrev pub HasTurn : Type 0
+HasTurn = (maps : Maps) (built : List Item → Bool) (entry : Url) (trace : Bool) (deliveries : List Delivery) (w : World) (d : Delivery)
+    → Runs (opening maps built entry trace) deliveries w → IsAllowed w d → (after : World) × Turn w d.url d.outcome after
+
+-- so an allowed list of deliveries has a standard run
+abbrev pub HasStandardRun : Type 0
+HasStandardRun = (maps : Maps) (built : List Item → Bool) (entry : Url) (trace : Bool) (deliveries : List Delivery) (w : World)
+    → Runs (opening maps built entry trace) deliveries w → (what : Shown) × StandardRun maps built entry trace deliveries what
 
 -- a turn keeps the import map, and which module texts can be run
 abbrev pub KeepsMaps : Type 0

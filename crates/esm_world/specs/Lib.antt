@@ -8,7 +8,11 @@ pub mod Fits
 pub mod FitLaws
 pub mod Plain
 pub mod Loaded
+pub mod Awaits
+pub mod Told
 pub mod Laws
+pub mod RunLaws
+pub mod Followed
 pub mod ImportCalls
 pub mod Direct
 pub mod Unproved

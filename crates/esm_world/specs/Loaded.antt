@@ -64,3 +64,13 @@ pub record LinkedStaysLinked : Type 0 where
       → IsLinking same_url (modules_in l) closed start fault after → IsStillLinked l closed after
   pub root : (l : Loading) (closed after : List Url) (start : Url) → IsLinking same_url (modules_in l) closed start None after
       → has after start ≡ true
+
+-- what is Unlinked stays so, through an answer, an import() and the end of a fetch
+pub record UnlinkedStays : Type 0 where
+  pub next : (before after : Host) (u : Url) → AnswersNext before after → before.imports.unlinked u ≡ true
+      → after.imports.unlinked u ≡ true
+  pub begins : (before after : Host) (referrer : Url) (specifier : Text) (promise : ℕ) (end : Result (Unit {0}) Limit) (u : Url)
+      → BeginsImport before referrer specifier promise end after → before.imports.unlinked u ≡ true
+      → after.imports.unlinked u ≡ true
+  pub fetched : (before : Host) (url : Url) (c : OutcomeView) (u : Url) → before.imports.unlinked u ≡ true
+      → (after_fetch before url c).imports.unlinked u ≡ true

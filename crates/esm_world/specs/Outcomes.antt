@@ -1,5 +1,5 @@
 -- Where each single job and each single answer has an outcome, each allowed delivery has a turn: tasks and jobs come to an end.
-use Rattle.std.specs.Prelude.{◌≡◌, ℕ, Bool, List, Option, Some, None}
+use Rattle.std.specs.Prelude.{◌≡◌, Bool, List, Some, None}
 use Rattle.esm_base.specs.Urls.{Url}
 use Rattle.esm_tree.specs.Syntax.{Item}
 use Rattle.esm_import_map.specs.ImportMap.{Maps}
@@ -12,8 +12,9 @@ use Rattle.esm_world.specs.World.{World, host_of, with_host, opening, stopped}
 use Rattle.esm_world.specs.Layers.{with_promises}
 use Rattle.esm_world.specs.Jobs.{Reacts}
 use Rattle.esm_world.specs.Turn.{fetched}
-use Rattle.esm_world.specs.Run.{Delivery, IsAllowed}
-use Rattle.esm_world.specs.Unproved.{HasTurn}
+use Rattle.esm_world.specs.Run.{IsAllowed}
+use Rattle.esm_ast.specs.Deliveries.{Delivery}
+use Rattle.esm_world.specs.Laws.{HasTurn}
 
 -- these worlds fit
 module _ (Fits : World → Type 0) where

@@ -1,10 +1,10 @@
 -- The standard run: all turns of a list of deliveries, and what it shows. own, as far as no algorithm is named
-use Rattle.std.specs.Prelude.{◌≡◌, Bool, true, List, [], ◌∷◌, Option, Some, None, is_some, option_map}
+use Rattle.std.specs.Prelude.{◌≡◌, Bool, true, List, [], ◌∷◌, Option, is_some, option_map}
 use Rattle.esm_tree.specs.Syntax.{Item}
 use Rattle.esm_import_map.specs.ImportMap.{Maps}
-use Rattle.esm_base.specs.declared.limits.Limit.{Limit}
 use Rattle.esm_base.specs.declared.status.Status.{Status}
 use Rattle.esm_base.specs.Urls.{Text, Url, has}
+use Rattle.esm_ast.specs.Deliveries.{Delivery, asks_by}
 use Rattle.esm_ast.specs.Outcome.{OutcomeView, Script, Broken, Absent, Failed}
 use Rattle.esm_ast.specs.ModuleTree.{IsModuleTree}
 use Rattle.esm_loads.specs.Arrival.{open_asks}
@@ -12,18 +12,6 @@ use Rattle.esm_body.specs.State.{Event}
 use Rattle.esm_world.specs.World.{World, opening, stopped}
 use Rattle.esm_world.specs.Turn.{Turn}
 use Rattle.esm_world.specs.LastLine.{Ending, ending_by, status_of, IsLastLine}
-
--- a completed fetch: a URL, and what its fetch came to
-pub record Delivery : Type 0 where
-  pub url : Url
-  pub outcome : OutcomeView
-
-abbrev pub completed : Url → OutcomeView → Delivery
-completed u c = record { url = u; outcome = c }
-
-abbrev pub asks_by : Option Limit → List Url → List Url
-asks_by None urls = urls
-asks_by (Some limit) urls = []
 
 -- the open asks, in order of asking. Where a limit has stopped the world there are none
 abbrev pub asks : World → List Url

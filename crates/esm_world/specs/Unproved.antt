@@ -8,19 +8,9 @@ use Rattle.esm_realm.specs.Reach.{Reaches}
 use Rattle.esm_loads.specs.Loading.{targets}
 use Rattle.esm_body.specs.State.{Event, Begins, Ends}
 use Rattle.esm_world.specs.World.{World, opening, stopped}
-use Rattle.esm_world.specs.Turn.{Turn}
-use Rattle.esm_world.specs.Run.{Delivery, Runs, IsAllowed, Shown, StandardRun}
-use Rattle.esm_world.specs.Direct.{Files, IsClean, AreClosure, DirectRun, MeetsNoLimit, AreOfFiles, ShowsDirect}
-
--- an allowed delivery has a turn, after any deliveries that are allowed
-abbrev pub HasTurn : Type 0
-HasTurn = (maps : Maps) (built : List Item → Bool) (entry : Url) (trace : Bool) (deliveries : List Delivery) (w : World) (d : Delivery)
-    → Runs (opening maps built entry trace) deliveries w → IsAllowed w d → (after : World) × Turn w d.url d.outcome after
-
--- so an allowed list of deliveries has a standard run
-abbrev pub HasStandardRun : Type 0
-HasStandardRun = (maps : Maps) (built : List Item → Bool) (entry : Url) (trace : Bool) (deliveries : List Delivery) (w : World)
-    → Runs (opening maps built entry trace) deliveries w → (what : Shown) × StandardRun maps built entry trace deliveries what
+use Rattle.esm_world.specs.Run.{Runs, Shown, StandardRun}
+use Rattle.esm_ast.specs.Deliveries.{Delivery, Files, AreOfFiles}
+use Rattle.esm_world.specs.Direct.{IsClean, AreClosure, DirectRun, MeetsNoLimit, ShowsDirect}
 
 -- clean files have a direct run, which shows something
 abbrev pub HasDirectRun : Type 0

@@ -1,5 +1,6 @@
 //! Laws of worlds that fit, each the contract of a function without effect.
 ghost use Rattle.esm_world.specs.FitLaws.{WorldsFit, HasFitEvaluation, HasFitResumption};
+ghost use Rattle.esm_world.specs.RunLaws.{RunsFit};
 
 /// The opening world fits, and the end of a fetch, an answer of a pending request, and that more modules are linked, keep
 /// it.
@@ -12,6 +13,13 @@ pub fn worlds_fit()
 pub fn has_fit_outcomes()
     ensures evaluation { HasFitEvaluation }
     ensures resumption { HasFitResumption }
+{
+    esm_resolve::laws::shared_set()
+}
+
+/// Each world of a run that no limit has stopped fits.
+pub fn runs_fit()
+    ensures { RunsFit }
 {
     esm_resolve::laws::shared_set()
 }

@@ -1,7 +1,10 @@
 //! Laws of the definitions, each the contract of a function without effect.
-ghost use Rattle.esm_world.specs.Laws.{AsksOnce, BytesStopFirst, DeliversAll, DeliversOnce, DeliversOnlyAsked, FewDeliveries, KeepsMaps, OneStandardRun, OneTurn, OpenAsks, StartsOnce, StoppedAsksNothing, StopsAreTold, StopsAtOnce};
+ghost use Rattle.esm_world.specs.Laws.{AsksOnce, BytesStopFirst, DeliversAll, DeliversOnce, DeliversOnlyAsked, FewDeliveries, HasStandardRun, HasTurn, KeepsMaps, OneStandardRun, OneTurn, OpenAsks, StartsOnce, StoppedAsksNothing, StopsAreTold, StopsAtOnce};
 ghost use Rattle.esm_world.specs.Outcomes.{TurnsEnd};
 ghost use Rattle.esm_world.specs.Plain.{PlainEvaluation};
+ghost use Rattle.esm_world.specs.RunLaws.{LoadsHaveEnded, TurnsLeaveNothing};
+
+use esm_resolve::laws::shared_set;
 
 /// A turn has one outcome.
 pub fn one_turn()
@@ -71,3 +74,29 @@ pub trait FitWorlds {
 pub fn turns_end<F: FitWorlds>()
     ensures { TurnsEnd F.fits }
 {}
+
+/// Each allowed delivery has a turn.
+pub fn has_turn()
+    ensures { HasTurn }
+{
+    shared_set()
+}
+
+/// Each allowed list of deliveries has a standard run.
+pub fn has_standard_run()
+    ensures { HasStandardRun }
+{
+    shared_set()
+}
+
+/// A turn leaves no job and no pending request of a fetched URL, unless a limit has stopped the world.
+pub fn turns_leave_nothing()
+    ensures { TurnsLeaveNothing }
+{}
+
+/// Where no ask is open and no limit has stopped the run, each load has ended.
+pub fn loads_have_ended()
+    ensures { LoadsHaveEnded }
+{
+    shared_set()
+}

@@ -1,5 +1,5 @@
 // Laws of what loading brings to linking and bodies, as functions without effect.
-ghost use Rattle.esm_world.specs.Loaded.{HasLink, LinkedStaysLinked, LoadedAreLinked, LoadingStaysFit};
+ghost use Rattle.esm_world.specs.Loaded.{HasLink, LinkedStaysLinked, LoadedAreLinked, LoadingStaysFit, UnlinkedStays};
 
 use esm_resolve::laws::shared_set;
 
@@ -23,4 +23,9 @@ pub fn has_link()
 /// What is linked are modules in which bodies can run, also behind linking, with a fault or without one.
 pub fn linked_stays_linked()
     ensures { LinkedStaysLinked }
+{}
+
+/// What is Unlinked stays so.
+pub fn unlinked_stays()
+    ensures { UnlinkedStays }
 {}

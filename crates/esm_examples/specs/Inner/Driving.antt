@@ -2,7 +2,7 @@
 use Rattle.std.specs.Prelude.{◌≡◌, [], List, true, Option, Some, None}
 use Rattle.esm_base.specs.Urls.{Url, has}
 use Rattle.esm_import_map.specs.ImportMap.{Maps}
-use Rattle.esm_turn.specs.Run.{Delivery}
+use Rattle.esm_ast.specs.Deliveries.{Delivery}
 use Rattle.esm_turn.specs.Represents.{Represents, ShownBy, State, asks_of}
 use Rattle.esm_examples.specs.Fetches.{Files, AreFetches}
 

@@ -15,7 +15,8 @@ use Rattle.esm_module_map.specs.Views.{view_in, table_of}
 use Rattle.esm_fetch.specs.declared.posted.Posted.{Posted}
 use Rattle.esm_fetch.specs.Answered.{Contents}
 use Rattle.esm_fetch.specs.Serving.{weight, Served}
-use Rattle.esm_turn.specs.Run.{Delivery, Shown, StandardRun}
+use Rattle.esm_turn.specs.Run.{Shown, StandardRun}
+use Rattle.esm_ast.specs.Deliveries.{Delivery}
 use Rattle.esm_turn.specs.Represents.{Represents, ShownBy, State, asks_of}
 use Rattle.esm_run.specs.declared.tickets.Ticket.{Ticket}
 

@@ -1,5 +1,5 @@
 -- The example of a limit behind an entry that failed, step by step.
-use Rattle.std.proofs.Common.{◌≡◌, ℕ, ◌+◌, Bool, true, false, List, [], ◌∷◌, length, Some, arith, refl, ap, subst, ◌∙◌}
+use Rattle.std.proofs.Common.{◌≡◌, ℕ, ◌+◌, Bool, true, false, List, [], ◌∷◌, length, Some, arith, refl, ap, subst}
 use Rattle.std.specs.Prelude.{codes, nat_lt, ◌<◌}
 use Rattle.url.proofs.OnLiterals.{url_on_literals}
 use Rattle.esm_base.specs.declared.limits.Limit.TheVariants.{L2}
@@ -8,7 +8,7 @@ use Rattle.esm_tree.specs.Syntax as x
 use Rattle.esm_tree.specs.Syntax.{Item}
 use Rattle.esm_grammar.specs.EarlyErrors.{exported_names, exported_of, module_names, declared_of, statement_exported, name_list}
 use Rattle.esm_grammar.specs.Names.{declared_names}
-use Rattle.esm_ast.specs.Entries.{request_of, with_text, add_request, requests_after, item_awaits, stmt_awaits, stmts_await, init_awaits, bindings_await}
+use Rattle.esm_ast.specs.Entries.{request_of, with_text, add_request, requests_after}
 use Rattle.esm_ast.specs.ModuleTree.{IsModuleTree, returns_outside, awaits_inside, stmt_returns, stmts_return}
 use Rattle.esm_ast.specs.Outcome.{Absent}
 use Rattle.esm_import_map.specs.ImportMap.{no_maps}

@@ -1,5 +1,5 @@
 -- The example of a throw behind an await, step by step.
-use Rattle.std.proofs.Common.{◌≡◌, ℕ, false, List, [], ◌∷◌, Some, None, refl}
+use Rattle.std.proofs.Common.{◌≡◌, false, List, [], ◌∷◌, None, refl}
 use Rattle.std.specs.Prelude.{Ok, codes, ◌||◌}
 use Rattle.url.proofs.OnLiterals.{url_on_literals}
 use Rattle.esm_base.specs.Urls.{Url, same_url}
@@ -9,50 +9,41 @@ use Rattle.esm_grammar.specs.EarlyErrors.{exported_names, exported_of, module_na
 use Rattle.esm_grammar.specs.Names.{declared_names}
 use Rattle.esm_ast.specs.Entries.{entries_of, entries_with, request_of, with_text, add_request, requests_after, imports_of, all_imports, exports_of, all_exports, locals_of, indirects_of, stars_of, item_awaits, stmt_awaits, stmts_await, init_awaits, bindings_await}
 use Rattle.esm_ast.specs.ModuleTree.{IsModuleTree, returns_outside, awaits_inside, stmt_returns, stmts_return}
-use Rattle.esm_ast.specs.Outcome.{Absent}
 use Rattle.esm_import_map.specs.ImportMap.{no_maps}
-use Rattle.esm_specifier.specs.Resolution.{resolution_of_specifier}
 use Rattle.esm_realm.specs.Walk.Visits.{fresh}
 use Rattle.esm_realm.specs.Walk.Passes.{all}
-use Rattle.esm_values.specs.Value.{Value, Undefined, Text, Promise, Error}
+use Rattle.esm_values.specs.Value.{Value, Undefined, Text}
 use Rattle.esm_values.specs.Plans.Rewritten.{Goes, Leaves as leaves_by}
 use Rattle.esm_values.specs.Plans.{Follows as follow}
-use Rattle.esm_expr_eval.specs.Terms.{Term as t}
 use Rattle.esm_expr_eval.specs.Terms.Term.{Val}
-use Rattle.esm_expr_eval.specs.Rewriting.{Rewrites, RewritesIn, AreValues}
-use Rattle.esm_expr_eval.specs.Terms.{Terms as terms}
-use Rattle.esm_values.specs.Completion.{Normal as gives_value}
-use Rattle.esm_env.specs.Cells.{Reading as reading}
 use Rattle.esm_promise.specs.Promises.{Done, Fulfilled, Rejected, job, settle}
 use Rattle.esm_promise.specs.Reactions.{EntryLoaded, EntryDone, Await, BodyEnd}
-use Rattle.esm_loads.specs.UrlTable.{Failed as failed_entry, New, fetch_error, no_urls, with_url, put_at}
-use Rattle.esm_loads.specs.Loading.{Thrown as thrown_load, Root, LoadComplete}
+use Rattle.esm_loads.specs.UrlTable.{no_urls, with_url, put_at}
+use Rattle.esm_loads.specs.Loading.{Root, LoadComplete}
 use Rattle.esm_loads.specs.Load.{Enters, Asks, Answers}
 use Rattle.esm_loads.specs.Host.{Host, Answered}
 use Rattle.esm_loads.specs.Arrival.{AnswersNext}
-use Rattle.esm_loads.specs.ImportCall.{Imports, BeginsImport, counted, add_load, ask_root}
+use Rattle.esm_loads.specs.ImportCall.{BeginsImport}
 use Rattle.esm_link.specs.Faults.{ExportFault, ImportFault, of_imports}
 use Rattle.esm_link.specs.Link.{LinksMarks}
 use Rattle.esm_eval.specs.Nodes.{Start}
 use Rattle.esm_eval.specs.BodyEnd.{Rejects, RejectsAll, refuse}
 use Rattle.esm_eval.specs.Evaluate.{Ends, Marks, Leaves, ExecutesAsync, EvaluatesRoot, Walks, keep, enter, close}
-use Rattle.esm_body.specs.Rest.{Rest, end, more, whole}
-use Rattle.esm_body.specs.Rest.Part.{Whole, Does, Stands, In, Tries}
+use Rattle.esm_body.specs.Rest.{Rest, end, more}
+use Rattle.esm_body.specs.Rest.Part.{Whole, Does, Stands}
 use Rattle.esm_body.specs.Rest.Use.{Awaits, Drops, Throws as throws_use}
 use Rattle.esm_body.specs.State.{with_promises as state_promises, Begins, Throws as throws_event, add_event, take_steps}
-use Rattle.esm_body.specs.Acts.{with_promise, with_outer}
 use Rattle.esm_body.specs.BodyRewriting.{On, Waits, RewritesBody}
-use Rattle.esm_body.specs.Segment.{RewritesOutermost, Segment, Awaiting}
+use Rattle.esm_body.specs.Segment.{Segment, Awaiting}
 use Rattle.esm_body.specs.Segment.{Ended as ended}
 use Rattle.esm_body.specs.Bodies.{StartsBody, ResumesBody, stand, without_standing}
-use Rattle.esm_body.specs.Scopes.{Scope, named_cell}
 use Rattle.esm_world.specs.World.{World, Failed, opening, modules_in, state_of, with_state, with_host, host_of}
 use Rattle.esm_world.specs.Layers.{Executes, evaluation, with_linked, with_promises}
 use Rattle.esm_world.specs.Jobs.{Jobs, Reacts, LinksLoad, EvaluatesLoad, with_reaction, with_entry}
 use Rattle.esm_world.specs.Turn.{Tasks, Turn, fetched}
 use Rattle.esm_world.specs.Examples.{main_url, all_built}
 use Rattle.esm_world.specs.FailingRuns.{awaiting_main, ThrowsBehindAwait}
-use Rattle.esm_world.proofs.runs.Steps.{Here, Runs, entry_of, arrived, turn_from, no_names, still_async, not_ready}
+use Rattle.esm_world.proofs.runs.Steps.{Here, Runs, entry_of, arrived, turn_from, no_names, still_async}
 
 abbrev throwing : Rest (Value Url)
 throwing = more (Whole (x.Throw (x.Text (codes "x")))) end

@@ -1,7 +1,7 @@
 use Rattle.std.proofs.Common.{◌≡◌, ◌≤◌, ℕ, List, length}
 use Rattle.std.specs.Prelude.{All}
 use Rattle.esm_import_map.specs.ImportMap.{Maps}
-use Rattle.esm_turn.specs.Run.{Delivery}
+use Rattle.esm_ast.specs.Deliveries.{Delivery}
 use Rattle.esm_turn.specs.Represents.{Represents}
 use Rattle.esm_module_map.specs.Views.{view_in, table_of, Same}
 use Rattle.esm_module_map.specs.Saying.{Begins}
