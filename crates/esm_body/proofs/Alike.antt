@@ -1,9 +1,7 @@
 -- A rewriting over the code's world and one over the world of the definitions come to the same, where their calls do.
 use Rattle.std.proofs.Common.{◌≡◌, ℕ, Bool, true, false, List, [], ◌∷◌, Option, Some, None, refl, ap, subst, sym}
-use Rattle.std.specs.Prelude.{Result, Ok, Err, codes, nat_lt, ◌/◌, if◌then◌else◌}
+use Rattle.std.specs.Prelude.{Result, Ok, Err, codes, if◌then◌else◌}
 use Rattle.esm_base.specs.declared.limits.Limit.{Limit}
-use Rattle.esm_base.specs.declared.limits.TheConstants.{MAX_TEXT_BYTES}
-use Rattle.esm_values.specs.declared.limits.TheConstants.{BYTES_PER_STEP}
 use Rattle.esm_values.specs.Acts.{Act, AnswerTo}
 use Rattle.esm_values.specs.Acts.{Act as act}
 use Rattle.esm_values.specs.Completion.{Completion, Normal, Throw}

@@ -1,5 +1,5 @@
 -- Levels that are taken off, and where a throw leads.
-use Rattle.std.proofs.Common.{◌≡◌, ℕ, zero, suc, ◌+◌, ◌<◌, ◌≤◌, Bool, List, [], ◌∷◌, ◌++◌, length, refl, ap, subst, sym, ◌∙◌, arith}
+use Rattle.std.proofs.Common.{◌≡◌, ℕ, ◌+◌, ◌<◌, ◌≤◌, Bool, List, [], ◌∷◌, ◌++◌, length, refl, ap, subst, sym, ◌∙◌, arith}
 use Rattle.esm_base.specs.declared.limits.Limit.{Limit}
 use Rattle.esm_tree.specs.Syntax.{Stmt as Statement}
 use Rattle.esm_values.specs.Value.{Value}
@@ -56,7 +56,7 @@ thrown_is same modules begins m (Trying scope x handler rest ∷ cs) v = ap (λ 
 
 -- ---- handlers
 
-trying_as : (stmts : List Statement) (s : Statement) (scope : Scope CodeValue) (rest : Rest CodeValue) → trying stmts s scope rest ≡ Trying scope (caught_of s) (handler_of s) rest
+pub trying_as : (stmts : List Statement) (s : Statement) (scope : Scope CodeValue) (rest : Rest CodeValue) → trying stmts s scope rest ≡ Trying scope (caught_of s) (handler_of s) rest
 trying_as stmts x.Empty scope rest = refl
 trying_as stmts (x.Expression e) scope rest = refl
 trying_as stmts (x.Assign y e) scope rest = refl

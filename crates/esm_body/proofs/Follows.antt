@@ -1,5 +1,5 @@
 -- What follows a rewriting of what fits: it fits, and a segment of it is one of the whole.
-use Rattle.std.proofs.Common.{◌≡◌, ℕ, suc, ◌+◌, ◌<◌, Bool, true, false, List, [], ◌∷◌, ◌++◌, Option, Some, None, refl, ap, subst, sym, ◌∙◌, arith, length}
+use Rattle.std.proofs.Common.{◌≡◌, ℕ, Bool, true, false, List, [], ◌∷◌, ◌++◌, Option, Some, None, refl, subst, sym, length}
 use Rattle.std.specs.Prelude.{codes, ⊤, nat_lt}
 use Rattle.esm_base.specs.declared.limits.Limit.{Limit}
 use Rattle.esm_base.specs.declared.limits.TheConstants.{MAX_CALL_DEPTH}
@@ -16,15 +16,13 @@ use Rattle.esm_expr_eval.proofs.Lands.{AllKnown}
 use Rattle.esm_env.specs.Declarations.{FunctionCode}
 use Rattle.esm_promise.specs.Outer.{Outer}
 use Rattle.esm_env.specs.Modules.{Modules, function_of}
-use Rattle.esm_body.specs.Scopes.{Scope, call_scope, parameters}
-use Rattle.esm_body.specs.Rest.{Part, Rest, end, more, whole, fill_rest}
-use Rattle.esm_body.specs.Rest.Part.{In}
+use Rattle.esm_body.specs.Scopes.{Scope, parameters}
+use Rattle.esm_body.specs.Rest.{Rest, end, more, fill_rest}
 use Rattle.esm_body.specs.State.{State, Importing, new_error}
-use Rattle.esm_body.specs.Acts.{Inner}
-use Rattle.esm_body.specs.BodyRewriting.{RewrittenBody, On, Gives, Waits, RewritesBody}
-use Rattle.esm_body.specs.Segment.{Active, active, Ended, Next, Goes, Over, Normal, Thrown, Awaiting, Stopped, Segment, RewritesOutermost, next_by, called, called_by, call_by, too_deep}
+use Rattle.esm_body.specs.BodyRewriting.{RewrittenBody, On, Gives, Waits}
+use Rattle.esm_body.specs.Segment.{Active, Ended, Next, Goes, Over, Segment, RewritesOutermost, next_by, called, called_by, call_by}
 use Rattle.esm_body.specs.Segment.{Segment as segment}
-use Rattle.esm_body.specs.Fits.{Kind, of_function, FitsStmts, HoldsScope, HoldsPart, HoldsRest, FitsState, Knows, kind_by, FitCallers, FitsRun}
+use Rattle.esm_body.specs.Fits.{Kind, of_function, FitsStmts, HoldsScope, HoldsRest, FitsState, Knows, kind_by, FitCallers, FitsRun}
 use Rattle.esm_body.specs.Inner.Chains.{Comes, here, last, later, EndsSo, IsFitNext}
 use Rattle.esm_body.proofs.Grown.{held_rest, filled_rest, size_rest, new_whole, new_scope_of}
 use Rattle.esm_body.proofs.OneAct.{BeginsOne}

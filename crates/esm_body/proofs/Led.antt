@@ -1,16 +1,14 @@
 -- Where the code's evaluation of an expression leads, the definitions lead: in a state that fits, to a state that fits.
-use Rattle.std.proofs.Common.{◌≡◌, ℕ, nat_eq, suc, ◌+◌, ◌<◌, ◌⊎◌, inl, inr, Bool, true, List, [], ◌∷◌, refl, ap, subst, sym, ◌∙◌}
-use Rattle.std.specs.Prelude.{Result, Ok, Err, ⊤}
+use Rattle.std.proofs.Common.{◌≡◌, ℕ, nat_eq, inl, inr, Bool, true, List, [], ◌∷◌, refl, ap, subst, sym, ◌∙◌}
+use Rattle.std.specs.Prelude.{Result, Ok, Err}
 use Rattle.esm_base.specs.declared.limits.Limit.{Limit}
-use Rattle.esm_values.specs.Value.{Value}
 use Rattle.esm_values.specs.Code.{CodeValue, numbered}
 use Rattle.esm_values.specs.Acts.{Act, AnswerTo}
 use Rattle.esm_values.specs.Acts.{Act as act}
-use Rattle.esm_values.specs.Plans.{Acting, Rewritten, inside, Plan, Follows}
+use Rattle.esm_values.specs.Plans.{Acting, Rewritten, Plan, Follows}
 use Rattle.esm_values.specs.Plans.{Follows as follows}
 use Rattle.esm_values.specs.Plans.Rewritten.{Goes, Leaves, Calls, Stops}
-use Rattle.esm_values.specs.Operators.{Values, values}
-use Rattle.esm_values.specs.Operators.Look.{Func}
+use Rattle.esm_values.specs.Operators.{Values}
 use Rattle.esm_expr_eval.specs.Terms.{Term, Terms}
 use Rattle.esm_expr_eval.specs.Terms.Term.{Val}
 use Rattle.esm_expr_eval.specs.Ready.{Holds}
@@ -21,15 +19,15 @@ use Rattle.esm_expr_eval.specs.Rewriting.{Rewrites, RewritesIn}
 use Rattle.esm_expr_eval.specs.Rewriting.Rewrites.{fails, name, or_in, or, and_in, and, equal_in, equal_right, equal, equal_end, sum_in, sum_right, joins, sum_end, not_in, not_of, post_in, member_of, arguments, call_of, post_end, print_in, print, error_in, error, import_in, begins as rule_begins, own_url as rule_url}
 use Rattle.esm_expr_eval.specs.Rewriting.RewritesIn.{first as rule_first, later as rule_later}
 use Rattle.esm_expr_eval.proofs.Lands.{Views, Later, Lives, HasAnswer, answers, stopped as told_stop}
-use Rattle.esm_expr_eval.proofs.HasRewriting.{Comes', comes, come, Here, Arrives, size}
+use Rattle.esm_expr_eval.proofs.HasRewriting.{comes, come, Here, Arrives, size}
 use Rattle.esm_expr_eval.proofs.Unique.{no_step}
 use Rattle.esm_expr_eval.proofs.Lands as lands
 use Rattle.esm_promise.specs.Outer.{Outer}
 use Rattle.esm_env.specs.Modules.{Modules}
-use Rattle.esm_body.specs.State.{State, Importing}
+use Rattle.esm_body.specs.State.{Importing}
 use Rattle.esm_body.specs.Acts.{Inner, Performs}
 use Rattle.esm_body.specs.BodyRewriting.{own_url}
-use Rattle.esm_body.specs.Inner.World.{state_in, inner_of, IsSame, AllKnown, KnowsAct, HasScopes, IsReady, Answers, ActsInside, url_inside}
+use Rattle.esm_body.specs.Inner.World.{inner_of, IsSame, AllKnown, KnowsAct, HasScopes, IsReady, Answers, ActsInside, url_inside}
 use Rattle.esm_body.specs.declared.log.Stop.{Stop}
 use Rattle.esm_body.specs.declared.log.Stop.TheVariants as stops
 use Rattle.esm_body.specs.declared.inside.Inside.{Inside}

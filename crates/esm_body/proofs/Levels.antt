@@ -245,9 +245,12 @@ module _ (stmts : List Statement) where
       let long = length-set ls i l in
       let inner = innermost_set stmts ls i l h in
       let whole' : innermost stmts ls ≡ more (part_of stmts one) (innermost stmts (slice_set ls i l)) =
-          innermost_last stmts ls i d h ∙ ap (λ ws. in_front stmts ws end) p.0 ∙ front_push stmts l.work.items one end ∙ ap (λ r. more (part_of stmts one) r) (sym inner) in
-      (whole', (contexts_last stmts ls i d l h p.1 p.2, refl, omega (arith, h, long)), long,
-      λ n all. let w = work_pop n l.work.items one (subst (λ ws. AreWork n ws) p.0 (level_at n ls i d (omega (arith, h)) all)) in (w.0, levels_set n ls i d l (omega (arith, h)) p.1 w.1 all))
+      innermost_last stmts ls i d h ∙ ap (λ ws. in_front stmts ws end) p.0 ∙ front_push stmts l.work.items one end ∙ ap (λ r. more (part_of stmts one) r) (sym inner) in (
+        whole',
+        (contexts_last stmts ls i d l h p.1 p.2, refl, omega (arith, h, long)),
+        long,
+        λ n all. let w = work_pop n l.work.items one (subst (λ ws. AreWork n ws) p.0 (level_at n ls i d (omega (arith, h)) all)) in (w.0, levels_set n ls i d l (omega (arith, h)) p.1 w.1 all),
+      )
 
 -- ---- a statement begins
 

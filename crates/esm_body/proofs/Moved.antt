@@ -1,19 +1,17 @@
 -- A move of the innermost block, over the scopes of all that is round it, is a move of the whole.
-use Rattle.std.proofs.Common.{◌≡◌, ℕ, zero, suc, Bool, List, [], ◌∷◌, length, refl, arith}
-use Rattle.std.specs.Prelude.{Option, Some, None, Result}
+use Rattle.std.proofs.Common.{◌≡◌, Bool, List, [], ◌∷◌, length, arith}
 use Rattle.esm_base.specs.declared.limits.Limit.{Limit}
-use Rattle.esm_tree.specs.Syntax.{Stmts}
 use Rattle.esm_values.specs.Value.{Value}
 use Rattle.esm_values.specs.Plans.Rewritten.{Goes, Leaves, Calls, Stops}
 use Rattle.esm_env.specs.Modules.{Modules}
 use Rattle.esm_body.specs.Scopes.{Scope, handler_scope}
-use Rattle.esm_body.specs.Rest.{Rest, end, more, whole}
+use Rattle.esm_body.specs.Rest.{Rest, more, whole}
 use Rattle.esm_body.specs.Rest.Part.{In}
 use Rattle.esm_body.specs.State.{State, Importing}
 use Rattle.esm_body.specs.Acts.{Inner}
 use Rattle.esm_body.specs.BodyRewriting.{RewrittenBody, On, Gives, Waits, RewritesBody}
 use Rattle.esm_body.specs.BodyRewriting.RewritesBody.{inner, tries}
-use Rattle.esm_body.specs.Inner.Contexts.{Context, Block, Trying, scopes_in, placed, surrounded, retaken}
+use Rattle.esm_body.specs.Inner.Contexts.{Context, Block, Trying, scopes_in, surrounded, retaken}
 
 module _ {N I : Type 0} (same : N → N → Bool) (modules : I → Modules N) (begins : Importing N I) (m : N) where
   abbrev over : List (Scope (Value N)) → State N I → Inner N I

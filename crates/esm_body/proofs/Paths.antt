@@ -1,6 +1,5 @@
 -- An expression that is evaluated in front of what remains: its rewritings are rewritings of the whole.
-use Rattle.std.proofs.Common.{◌≡◌, ℕ, nat_eq, zero, suc, ◌+◌, ◌<◌, Bool, true, List, [], ◌∷◌, ◌++◌, map, length, refl, ap, subst, sym, ◌∙◌, arith}
-use Rattle.std.specs.Prelude.{Option, Some, None, ⊤}
+use Rattle.std.proofs.Common.{◌≡◌, ℕ, nat_eq, suc, Bool, List, [], ◌∷◌, ◌++◌, length, refl, ap, subst, ◌∙◌}
 use Rattle.esm_base.specs.declared.limits.Limit.{Limit}
 use Rattle.esm_tree.specs.Syntax as x
 use Rattle.esm_tree.specs.Syntax.{Stmts, nothing}
@@ -13,11 +12,10 @@ use Rattle.esm_expr_eval.specs.Terms.{Term}
 use Rattle.esm_expr_eval.specs.Terms.Term.{Val}
 use Rattle.esm_expr_eval.specs.Ends.{TermEnd}
 use Rattle.esm_expr_eval.specs.Ends.{TermEnd as end}
-use Rattle.esm_expr_eval.specs.Ready.{Holds}
 use Rattle.esm_promise.specs.Outer.{Outer}
 use Rattle.esm_env.specs.Modules.{Modules}
-use Rattle.esm_body.specs.Scopes.{Scope, handler_scope}
-use Rattle.esm_body.specs.Rest.{Use, Part, Rest, more, whole}
+use Rattle.esm_body.specs.Scopes.{Scope}
+use Rattle.esm_body.specs.Rest.{Use, Rest, more}
 use Rattle.esm_body.specs.Rest.{Rest as rests}
 use Rattle.esm_body.specs.Rest.Part.{Does, In, Tries}
 use Rattle.esm_body.specs.State.{State, Importing}
@@ -25,9 +23,9 @@ use Rattle.esm_body.specs.Acts.{Inner}
 use Rattle.esm_body.specs.BodyRewriting.{RewrittenBody, On, Gives, Waits, RewritesBody}
 use Rattle.esm_body.specs.BodyRewriting.RewritesBody.{does}
 use Rattle.esm_body.specs.Segment.{RewritesOutermost}
-use Rattle.esm_body.specs.Fits.{Kind, HoldsScope, HoldScopes, HoldsPart, HoldsRest, FitsUse}
+use Rattle.esm_body.specs.Fits.{Kind, HoldScopes, HoldsRest}
 use Rattle.esm_body.specs.Inner.Chains.{Comes, here, last, later}
-use Rattle.esm_body.specs.Inner.Contexts.{Context, Block, Trying, scope_in, scopes_in, placed, surrounded, rescoped, retaken}
+use Rattle.esm_body.specs.Inner.Contexts.{Context, Block, Trying, scope_in, scopes_in, surrounded, rescoped, retaken}
 use Rattle.esm_body.specs.Inner.Stack.{scope_of_level, scopes_round, contexts_of, context_by, trying, in_front}
 use Rattle.esm_body.specs.declared.work.Kind.{Kind as BlockKind}
 use Rattle.esm_body.specs.declared.work.Kind.TheVariants as k

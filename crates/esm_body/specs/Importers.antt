@@ -1,5 +1,5 @@
 -- What lies outside of bodies, as the code has it: the modules that are there, and what begins an import().
-use Rattle.std.specs.Prelude.{◌≡◌, ℕ, Bool, true, List, [], Option, Some, Result, Ok, Err}
+use Rattle.std.specs.Prelude.{◌≡◌, ℕ, Bool, true, List, [], Some, Result, Ok, Err}
 use Rattle.std.specs.Arc.{arc_value}
 use Rattle.esm_base.specs.declared.limits.Limit.{Limit}
 use Rattle.esm_resolve.specs.Graph.{Graph}

@@ -1,5 +1,5 @@
 -- What the engine's parts stand for.
-use Rattle.std.specs.Prelude.{ℕ, List, map, string_bytes}
+use Rattle.std.specs.Prelude.{ℕ, map, string_bytes}
 use Rattle.esm_values.specs.Errors.{Errors}
 use Rattle.esm_promise.specs.Code.{Numbered}
 use Rattle.esm_env.specs.Scopes.{Scopes, cells_of}

@@ -7,7 +7,6 @@ mod engine;
 mod importer;
 mod inside;
 pub mod laws;
-
 mod log;
 mod scopes;
 mod work;

@@ -1,5 +1,5 @@
 -- Rewritings of what remains one after another, and what follows the last of them.
-use Rattle.std.specs.Prelude.{◌≡◌, ℕ, Bool, true, List, Option, Some, None, ⊤}
+use Rattle.std.specs.Prelude.{◌≡◌, Bool, true, Option, Some, None, ⊤}
 use Rattle.esm_base.specs.declared.limits.Limit.{Limit}
 use Rattle.esm_values.specs.Value.{Value}
 use Rattle.esm_values.specs.Plans.{Rewritten as comes}
@@ -8,7 +8,7 @@ use Rattle.esm_env.specs.Modules.{Modules}
 use Rattle.esm_body.specs.Rest.{Rest}
 use Rattle.esm_body.specs.State.{State, Importing}
 use Rattle.esm_body.specs.BodyRewriting.{RewrittenBody, On}
-use Rattle.esm_body.specs.Segment.{Active, Ended, Normal, Thrown, Awaiting, Stopped, Next, Goes, Over, Segment, RewritesOutermost}
+use Rattle.esm_body.specs.Segment.{Ended, Normal, Thrown, Awaiting, Stopped, Next, Goes, Over, Segment, RewritesOutermost}
 use Rattle.esm_body.specs.Fits.{Knows, FitsState, FitsRun, HoldsRest, of_body}
 
 module _ {N I : Type 0} (same : N → N → Bool) (modules : I → Modules N) (begins : Importing N I) where

@@ -1,6 +1,6 @@
 -- What the levels of an activation stand for.
 use Rattle.esm_tree.specs.declared.node.StmtId.{StmtId}
-use Rattle.std.specs.Prelude.{◌≡◌, ◌<◌, ◌≤◌, length, ℕ, zero, suc, Bool, true, false, List, [], ◌∷◌, ◌++◌, map, Option, Some, None, Result, Ok, Err}
+use Rattle.std.specs.Prelude.{◌≡◌, ◌<◌, ◌≤◌, length, ℕ, zero, suc, Bool, true, false, List, [], ◌∷◌, ◌++◌, Option, Some, None, Result, Ok, Err}
 use Rattle.std.specs.Arc.{arc_value}
 use Rattle.std.specs.Borrow.{Bor}
 use Rattle.esm_tree.specs.Syntax as x
@@ -9,7 +9,6 @@ use Rattle.esm_base.specs.DefaultExport.{star_default}
 use Rattle.esm_tree.specs.Flat.{stmt_part, stmt_of, need_of, IsStmtBelow}
 use Rattle.esm_tree.specs.declared.node.StmtNode.{StmtNode}
 use Rattle.esm_values.specs.Code.{CodeValue, value_of}
-use Rattle.esm_expr_eval.specs.Terms.{Term}
 use Rattle.esm_expr_eval.specs.Terms.Term.{Val}
 use Rattle.esm_expr_eval.specs.Machine.{rest_of, IsSound, IsGiven}
 use Rattle.esm_body.specs.Scopes.{Scope}

@@ -1,7 +1,7 @@
-use Rattle.std.proofs.Common.{refl, sym, length, ◌≡◌, ◌∙◌, ap}
+use Rattle.std.proofs.Common.{length, ap}
 use Rattle.std.specs.Arc.{arc_value}
 use Rattle.esm_body.specs.Inner.Stack.{bound_name}
-use Rattle.esm_body.proofs.Levels.{begins_ok, sound_ok, below_up, levels_surround, becomes_same, block_ok, try_ok, catch_ok}
+use Rattle.esm_body.proofs.Levels.{begins_ok, sound_ok, below_up, becomes_same, block_ok, try_ok, catch_ok}
 use Rattle.esm_body.proofs.blocks.begin.Goals as goal
 
 pub returns-in-Expression-clause-begun : goal.returns-in-Expression-clause-begun
@@ -114,4 +114,3 @@ pub returns-in-TryCatch-clause-begun : goal.returns-in-TryCatch-clause-begun
 returns-in-TryCatch-clause-begun c =
     let e = rw c.in-TryCatch.is at c.requires.node.part in
     catch_ok (arc_value c.args.tree.now).stmts c.args.levels.now.items c.begin_block-in-TryCatch.new.levels.items c.args.id _ _ _ _ _ c.begin_block-in-TryCatch.result e c.new-in-TryCatch.ensures.items c.as_slice-in-TryCatch.ensures.value c.begin_block-in-TryCatch.ensures.begun
-

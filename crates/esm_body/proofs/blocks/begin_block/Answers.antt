@@ -1,4 +1,4 @@
-use Rattle.std.proofs.Common.{refl, ap, ◌∙◌, ◌≡◌, length}
+use Rattle.std.proofs.Common.{refl, ap, ◌∙◌, length}
 use Rattle.esm_tree.specs.Flat.{stmt_parts}
 use Rattle.std.specs.Arc.{arc_value}
 use Rattle.esm_body.specs.Inner.Slots.{scope_of_slots}

@@ -1,5 +1,4 @@
-use Rattle.std.proofs.Common.{◌+◌, ◌-◌, sym, refl, arith}
-use Rattle.esm_body.specs.Inner.Stack.{AreWork}
+use Rattle.std.proofs.Common.{◌-◌, refl, arith}
 use Rattle.esm_body.proofs.Levels.{work_go, no_work, whole_sound}
 use Rattle.esm_body.proofs.blocks.block_work.Goals as goal
 

@@ -1,4 +1,4 @@
-use Rattle.std.proofs.Common.{◌≡◌, [], ◌+◌, ◌-◌, ◌<◌, length, sym, subst, arith}
+use Rattle.std.proofs.Common.{[], ◌-◌, length, arith}
 use Rattle.std.specs.Arc.{arc_value}
 use Rattle.esm_body.proofs.Levels.{binding_need, bindings_go}
 use Rattle.esm_body.proofs.blocks.does_bindings.Goals as goal

@@ -1,4 +1,4 @@
-use Rattle.std.proofs.Common.{◌≡◌, ℕ, ◌<◌, List, length, drop}
+use Rattle.std.proofs.Common.{ℕ, ◌<◌, List, length, drop}
 use Rattle.std.specs.Arc.{arc_value}
 use Rattle.esm_tree.specs.Syntax.{Stmt}
 use Rattle.esm_tree.specs.Flat.{bindings_of}

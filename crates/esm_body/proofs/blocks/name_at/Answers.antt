@@ -1,4 +1,4 @@
-use Rattle.std.proofs.Common.{sym, ◌∙◌, ap}
+use Rattle.std.proofs.Common.{sym}
 use Rattle.esm_body.proofs.Levels.{binding_name, name_beyond}
 use Rattle.esm_body.proofs.blocks.name_at.Goals as goal
 

@@ -1,4 +1,4 @@
-use Rattle.std.proofs.Common.{◌≡◌, ◌∙◌, ◌≤◌, length, refl, arith}
+use Rattle.std.proofs.Common.{◌∙◌, ◌≤◌, length, refl, arith}
 use Rattle.std.specs.Arc.{arc_value}
 use Rattle.esm_values.specs.Code.{value_of}
 use Rattle.esm_body.proofs.CaughtLemmas.{block_leads, try_leads, no_handler}

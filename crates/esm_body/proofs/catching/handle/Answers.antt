@@ -1,4 +1,3 @@
-use Rattle.std.proofs.Common.{◌≡◌, length, sym}
 use Rattle.std.specs.Arc.{arc_value}
 use Rattle.esm_body.proofs.Levels.{below_up}
 use Rattle.esm_body.proofs.CaughtLemmas.{handled}

@@ -1,5 +1,5 @@
-use Rattle.std.proofs.Common.{◌≡◌, ◌++◌, length, drop}
-use Rattle.esm_tree.specs.Flat.{stmt_parts, AllStmtsBelow}
+use Rattle.std.proofs.Common.{◌≡◌, ◌++◌, drop}
+use Rattle.esm_tree.specs.Flat.{stmt_parts}
 use Rattle.esm_env.specs.Declarations.{declared_in}
 use Rattle.esm_body.specs.Inner.Slots.{unset_slots}
 use Rattle.esm_body.proofs.scopes.add_block.Given as goal
