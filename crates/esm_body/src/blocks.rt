@@ -64,7 +64,8 @@ pub(crate) fn begin_block(
 ) -> Result<(), Stop>
     requires levels { 0 < length levels.old.items }
     requires ids { flat.AllStmtsBelow (length (arc_value tree.now).stmts) ids.now }
-    ensures begun { OnOk result (Becomes (arc_value tree.now).stmts levels.old.items levels.new.items
+    ensures begun { OnOk result (Becomes (arc_value tree.now).stmts levels.old.items
+        levels.new.items
         (placed (context_by (arc_value tree.now).stmts kind (scope_of_slots names.items
         ++ scope_of (stmt_parts (arc_value tree.now).stmts ids.now))
         (innermost (arc_value tree.now).stmts levels.old.items))

@@ -59,7 +59,8 @@ fn handler(node: &StmtNode) -> &[StmtId]
 
 /// The name that the handler of a `try` catches, if it has one.
 fn caught_name(node: &StmtNode) -> Option<&str>
-    ensures { (exprs : _) (stmts : _) → told_name result ≡ caught_of (stmt_of exprs stmts node.now) }
+    ensures { (exprs : _) (stmts : _) → told_name result
+        ≡ caught_of (stmt_of exprs stmts node.now) }
 {
     match node {
         StmtNode::TryCatch(_, name, _) => Some(name.as_str()),

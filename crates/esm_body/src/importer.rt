@@ -29,7 +29,8 @@ pub trait Importer: ExportGraph + Drop {
     ghost fits: { Outer ℕ Self → Type 0 };
 
     /// How an `import()` begins.
-    ghost begins: { Outer ℕ Self → ℕ → List ℕ → ℕ → Result (Unit {0}) Limit → Outer ℕ Self → Type 0 };
+    ghost begins: { Outer ℕ Self → ℕ → List ℕ → ℕ → Result (Unit {0}) Limit → Outer ℕ Self
+        → Type 0 };
 
     /// Begins an `import()` of a specifier that stands written in the referrer, whose promise is there.
     fn begin(

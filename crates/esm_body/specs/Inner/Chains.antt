@@ -15,8 +15,10 @@ module _ {N I : Type 0} (same : N → N → Bool) (modules : I → Modules N) (b
   -- none or more rewritings that go on, and then one that comes to this; going on with what there is takes none
   pub data Comes (m : N) : State N I → Rest (Value N) → RewrittenBody (Value N) Limit → State N I → Type 0 where
     here : {w : State N I} {r : Rest (Value N)} → Comes m w r (On (comes.Goes r)) w
-    last : {w mid : State N I} {r : Rest (Value N)} {move : RewrittenBody (Value N) Limit} → RewritesOutermost same modules begins m w r move mid → Comes m w r move mid
-    later : {w mid late : State N I} {r s : Rest (Value N)} {move : RewrittenBody (Value N) Limit} → RewritesOutermost same modules begins m w r (On (comes.Goes s)) mid
+    last : {w mid : State N I} {r : Rest (Value N)} {move : RewrittenBody (Value N) Limit}
+        → RewritesOutermost same modules begins m w r move mid → Comes m w r move mid
+    later : {w mid late : State N I} {r s : Rest (Value N)} {move : RewrittenBody (Value N) Limit}
+        → RewritesOutermost same modules begins m w r (On (comes.Goes s)) mid
         → Comes m mid s move late → Comes m w r move late
 
   -- what goes on, ends so

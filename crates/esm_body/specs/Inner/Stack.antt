@@ -33,6 +33,7 @@ use Rattle.esm_body.specs.declared.work.Kind.TheVariants as k
 use Rattle.esm_body.specs.declared.work.Level.{Level}
 use Rattle.esm_body.specs.declared.work.Activation.{Activation}
 use Rattle.esm_body.specs.declared.work.Caller.{Caller}
+use Rattle.esm_body.specs.declared.work.Doing.{Doing}
 
 abbrev pub name_in : Bindings → ℕ → List ℕ
 name_in no_more n = []
@@ -136,17 +137,22 @@ AreNamed stmts id bs = (n : ℕ) → bound_name (stmt_part stmts id) n ≡ name_
 
 -- what remains of this in front of the innermost level
 abbrev pub in_front_of : Activation → Part CodeValue → Rest CodeValue
-in_front_of a p = surrounded (contexts_of (arc_value a.tree).stmts a.levels.items) (more p (innermost (arc_value a.tree).stmts a.levels.items))
+in_front_of a p = surrounded (contexts_of (arc_value a.tree).stmts a.levels.items)
+    (more p (innermost (arc_value a.tree).stmts a.levels.items))
 
 -- a body at its await
 abbrev pub standing_rest : Activation → Use → Rest CodeValue
 standing_rest a purpose = in_front_of a (parts.Stands (use_of (arc_value a.tree).stmts purpose))
 
+-- an expression under way, for what its value is
+abbrev pub doing_part : List Statement → Doing → Part CodeValue
+doing_part stmts d = parts.Does (awaited_by stmts d.awaits (use_of stmts d.purpose)) (rest_of d.frame)
+
 -- a caller, whose call has no value yet
 abbrev pub caller_of : Caller → Active ℕ
 caller_of c = record {
   at = c.body.at.0;
-  rest = in_front_of c.body (parts.Does (awaited_by (arc_value c.body.tree).stmts c.doing.awaits (use_of (arc_value c.body.tree).stmts c.doing.purpose)) (rest_of c.doing.frame));
+  rest = in_front_of c.body (doing_part (arc_value c.body.tree).stmts c.doing);
 }
 
 -- ---- the numbers name parts of the tree, and each expression can go on
@@ -189,8 +195,10 @@ IsPopped old (Some one) new = (old.work.items ≡ new.work.items ++ one ∷ []) 
 
 -- the next part of the innermost level was taken, if it has one
 abbrev pub IsTaken : List Statement → List Level → Option Work → List Level → Type 0
-IsTaken stmts old None new = (innermost stmts old ≡ end) × IsFront stmts old new end × (length new ≡ length old) × ((n : ℕ) → AreLevels n old → AreLevels n new)
-IsTaken stmts old (Some one) new = (innermost stmts old ≡ more (part_of stmts one) (innermost stmts new)) × IsFront stmts old new (innermost stmts new)
+IsTaken stmts old None new = (innermost stmts old ≡ end) × IsFront stmts old new end × (length new ≡ length old)
+    × ((n : ℕ) → AreLevels n old → AreLevels n new)
+IsTaken stmts old (Some one) new = (innermost stmts old ≡ more (part_of stmts one) (innermost stmts new))
+    × IsFront stmts old new (innermost stmts new)
     × (length new ≡ length old) × ((n : ℕ) → AreLevels n old → IsWork n one × AreLevels n new)
 
 -- the node of the statement with this number in a tree
@@ -227,6 +235,7 @@ told_name (Some r) = Some r.now
 
 -- the handler of this statement has begun, as that of a `try` round the innermost level
 abbrev pub IsHandled : List Statement → List Level → Statement → CodeValue → Result (Unit {0}) Stop → List Level → Type 0
-IsHandled stmts old s v (Ok u) new = (scope : Scope CodeValue) → caught_in {S = Limit} (trying stmts s scope (innermost stmts old) ∷ contexts_of stmts old) v
+IsHandled stmts old s v (Ok u) new = (scope : Scope CodeValue)
+    → caught_in {S = Limit} (trying stmts s scope (innermost stmts old) ∷ contexts_of stmts old) v
     ≡ On (Goes (levels_rest stmts new))
 IsHandled stmts old s v (Err why) new = Unit {0}
