@@ -29,3 +29,7 @@ pub mod Paths
 pub mod CaughtLemmas
 pub mod Ended
 pub mod Lawful
+pub mod NamedRests
+pub mod NamedActs
+pub mod NamedMoves
+pub mod NamedBodies

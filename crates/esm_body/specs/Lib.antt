@@ -11,3 +11,4 @@ pub mod Examples
 pub mod Importers
 pub mod Inner
 pub mod View
+pub mod Naming

@@ -1,6 +1,7 @@
 //! Laws of the definitions, each the contract of a function without effect.
 ghost use Rattle.esm_body.specs.Laws.{HaveOneOutcome, StatementsTakeSteps, StopsAreNotCaught, UnsetThrows, HasSegment, HaveOutcomes};
 ghost use Rattle.esm_body.specs.Examples.{ThrowLeaves, AwaitDivides};
+ghost use Rattle.esm_body.specs.Naming.{FollowsNames};
 
 /// A rewriting, a segment of a body, and each call for a body, has one outcome, where `import()` has one.
 pub fn one_outcome()
@@ -46,3 +47,42 @@ pub fn has_outcomes()
 {
     esm_resolve::laws::shared_set()
 }
+
+/// Modules with names, by other names, and what import() reads and writes on both sides.
+pub trait Named {
+    ghost use Rattle.std.specs.Prelude.{Bool};
+    ghost use Rattle.esm_values.specs.Naming.{Naming};
+    ghost use Rattle.esm_env.specs.Modules.{Modules};
+    ghost use Rattle.esm_body.specs.State.{Importing};
+
+    /// What names a module.
+    type Name;
+    /// What names it otherwise.
+    type Other;
+    /// What import() reads and writes.
+    type Imports;
+    /// What it reads and writes on the other side.
+    type Images;
+
+    /// The other names.
+    ghost names: { Naming Self.Name Self.Other };
+    /// What import() reads and writes, as the other side sees it.
+    ghost image: { Self.Imports → Self.Images };
+    /// Two names are the same.
+    ghost same: { Self.Name → Self.Name → Bool };
+    /// Two of the other names are.
+    ghost other: { Self.Other → Self.Other → Bool };
+    /// The modules that are there.
+    ghost modules: { Self.Imports → Modules Self.Name };
+    /// The same on the other side.
+    ghost images: { Self.Images → Modules Self.Other };
+    /// How import() begins.
+    ghost begins: { Importing Self.Name Self.Imports };
+    /// How it begins on the other side.
+    ghost others: { Importing Self.Other Self.Images };
+}
+
+/// What bodies do follows the names of modules: a segment, and each call for a body.
+pub fn follows_names<A: Named>()
+    ensures { FollowsNames A.names A.image A.same A.other A.modules A.images A.begins A.others }
+{}

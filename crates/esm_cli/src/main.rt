@@ -1,7 +1,8 @@
 //! The command `esm`.
 #![tactic(auto)]
 
-ghost use Rattle.std.specs.Prelude.{◌≡◌, ◌<◌, [], All, IfOk, vec_len};
+ghost use Rattle.std.specs.Prelude.{◌≡◌, [], All, IfOk, vec_len};
+ghost use Rattle.esm_base.specs.declared.limits.TheConstants.{MAX_SOURCES};
 
 use esm_base::{MAX_SOURCES, Memory, Status, Text};
 use esm_ports::{FileSource, StdSink};
@@ -39,7 +40,7 @@ fn files<R: Files + Clone + Drop>(rt: &R, alloc: Global) -> Result<FileSource<R>
 
 // All sources, each over the same files.
 fn sources<R: Files + Clone + Drop>(rt: &R, alloc: Global) -> Result<Vec<FileSource<R>>, Memory>
-    ensures some { IfOk result (λ v. 0 < vec_len v) }
+    ensures all { IfOk result (λ v. vec_len v ≡ MAX_SOURCES) }
     ensures fresh { IfOk result (λ v. All (λ s. s ≡ []) v.items) }
 {
     let mut sources = Vec::new(alloc);

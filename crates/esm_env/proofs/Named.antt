@@ -149,7 +149,7 @@ module _ {M N : Type 0} (names : Naming M N) where
 
     module _ (same : M → M → Bool) (other : N → N → Bool) (s : IsSameness same) (t : IsSameness other) where
       -- a name is the name of a module where the modules are the same
-      same_follows : (m n : M) → other (names.name m) (names.name n) ≡ same m n
+      pub same_follows : (m n : M) → other (names.name m) (names.name n) ≡ same m n
       same_follows m n = by (same m n) refl (other (names.name m) (names.name n)) refl
         where
           by : (b : Bool) → same m n ≡ b → (c : Bool) → other (names.name m) (names.name n) ≡ c → c ≡ b

@@ -15,3 +15,4 @@ pub mod HasMarks
 pub mod HasReady
 pub mod HasEvaluation
 pub mod Named
+pub mod Inner

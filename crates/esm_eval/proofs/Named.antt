@@ -1,21 +1,21 @@
 -- Evaluation over modules is evaluation over their names.
-use Rattle.std.proofs.Common.{◌≡◌, ◌⊎◌, inl, inr, ℕ, zero, suc, Bool, true, false, List, [], ◌∷◌, ◌++◌, map, Option, Some, None, refl, ap, subst, sym, ◌∙◌}
+use Rattle.std.proofs.Common.{◌≡◌, ℕ, zero, suc, Bool, true, false, List, [], ◌∷◌, ◌++◌, map, Option, Some, None, refl, ap, subst, sym, ◌∙◌}
 use Rattle.std.specs.Prelude.{Result, Ok, Err, ◌||◌, slice_get, ◌≢◌}
 use Rattle.std.specs.Option.{option_map, unwrap_or, option_or}
 use Rattle.std.proofs.lemmas.List.{map-append}
 use Rattle.esm_base.specs.Lists.{is_in}
-use Rattle.esm_realm.specs.Walk.{Mark, Enter, Pass, Leave}
-use Rattle.esm_realm.specs.Components.{closes, opened_from, opened_before}
+use Rattle.esm_realm.specs.Walk.{Mark, Pass, Leave}
+use Rattle.esm_realm.specs.Components.{opened_from, opened_before}
 use Rattle.esm_realm.specs.Naming.{AreNamed, WalkFollows, named_mark}
 use Rattle.esm_realm.proofs.Named.{in_named, walks_follow_names}
 use Rattle.esm_values.specs.Naming.{Naming}
 use Rattle.esm_values.specs.Ran.{Ran}
-use Rattle.esm_eval.specs.Nodes.{Phase, NotEntered, Evaluating, EvaluatingAsync, Evaluated, Node, Call, CallAnswer, Start, Run, BodyCalls, was_entered}
+use Rattle.esm_eval.specs.Nodes.{Phase, NotEntered, Evaluating, EvaluatingAsync, Evaluated, Node, Start, Run, BodyCalls, was_entered}
 use Rattle.esm_eval.specs.Evaluation.{Evaluation, phase, waits, waiters, is_done, is_stamped, root_of, error_of, fulfill_kept, reject_kept, wait_by, wait_on, put_wait, put_waiter, add_wait}
 use Rattle.esm_eval.specs.Evaluate.{WalkEnd, Ends, Throws, Stops, ExecutesAsync, Executes, Leaves, Marks, Walks, EvaluatesRoot, Evaluates, enter, close, fail, keep, fulfill_by, closed_phase}
 use Rattle.esm_eval.specs.Evaluate.Marks.{done, enters, passes, pass_throws, stays, component, leave_throws, leave_stops}
 use Rattle.esm_eval.specs.BodyEnd.{IsReady, AreOver, ReadyAmong, Rejects, RejectsAll, GoOn, Fulfills, finish, refuse}
-use Rattle.esm_eval.specs.Naming.{named_node, named_call, mapped_ran, mapped_result, Matches, CallsFollow, EvaluationFollows, EvaluationFollowsNames}
+use Rattle.esm_eval.specs.Naming.{named_node, Matches, CallsFollow, EvaluationFollowsNames}
 
 get_named : {M N : Type 0} (name : M → N) (xs : List M) (i : ℕ) (x : M) → slice_get xs i ≡ Some x → slice_get (map name xs) i ≡ Some (name x)
 get_named name [] i x e = cc
@@ -115,7 +115,7 @@ module _ {M N V U W X : Type 0} (names : Naming M N) (value : V → U) (E : Eval
       let n : Node M V = record (E.node w y) { phase = closed_phase E (is_stamped E w y); cycle_root = Some x } in
       let p : closed_phase D (is_stamped D (world w) (nm y)) ≡ closed_phase E (is_stamped E w y) = ap (closed_phase D) (stamped_is w y) ∙ closed_is (is_stamped E w y) in
       let one : D.put (world w) (nm y) (record (D.node (world w) (nm y)) { phase = closed_phase D (is_stamped D (world w) (nm y)); cycle_root = Some (nm x) }) ≡ world (E.put w y n)
-          = (λ i. D.put (world w) (nm y) (record (k.node w y i) { phase = p i; cycle_root = Some (nm x) })) ∙ k.put w y n in
+      = (λ i. D.put (world w) (nm y) (record (k.node w y i) { phase = p i; cycle_root = Some (nm x) })) ∙ k.put w y n in
       ap (λ v. close D v (nm x) (map nm ys)) one ∙ close_is (E.put w y n) x ys
 
   fail_is : (w : W) (v : V) (ys : List M) → fail D (world w) (value v) (map nm ys) ≡ world (fail E w v ys)
@@ -123,7 +123,7 @@ module _ {M N V U W X : Type 0} (names : Naming M N) (value : V → U) (E : Eval
   fail_is w v (y ∷ ys) =
       let n : Node M V = record (E.node w y) { phase = Evaluated; error = Some v } in
       let one : D.put (world w) (nm y) (record (D.node (world w) (nm y)) { phase = Evaluated; error = Some (value v) }) ≡ world (E.put w y n)
-          = ap (λ (m : Node N U). D.put (world w) (nm y) (record m { phase = Evaluated; error = Some (value v) })) (k.node w y) ∙ k.put w y n in
+      = ap (λ (m : Node N U). D.put (world w) (nm y) (record m { phase = Evaluated; error = Some (value v) })) (k.node w y) ∙ k.put w y n in
       ap (λ u. fail D u (value v) (map nm ys)) one ∙ fail_is (E.put w y n) v ys
 
   keep_is : (w : W) (m : M) → keep D (world w) (nm m) ≡ world (keep E w m)
@@ -163,14 +163,14 @@ module _ {M N V U W X : Type 0} (names : Naming M N) (value : V → U) (E : Eval
   finish_is w x =
       let n : Node M V = record (E.node w x) { phase = Evaluated; done = true } in
       let one : D.put (world w) (nm x) (record (D.node (world w) (nm x)) { phase = Evaluated; done = true }) ≡ world (E.put w x n)
-          = ap (λ (m : Node N U). D.put (world w) (nm x) (record m { phase = Evaluated; done = true })) (k.node w x) ∙ k.put w x n in
+      = ap (λ (m : Node N U). D.put (world w) (nm x) (record m { phase = Evaluated; done = true })) (k.node w x) ∙ k.put w x n in
       (λ i. fulfill_kept D (one i) (promise_is w x i)) ∙ fulfill_kept_is (E.put w x n) (E.node w x).promise
 
   refuse_is : (w : W) (x : M) (v : V) → refuse D (world w) (nm x) (value v) ≡ world (refuse E w x v)
   refuse_is w x v =
       let n : Node M V = record (E.node w x) { phase = Evaluated; error = Some v; done = true } in
       let one : D.put (world w) (nm x) (record (D.node (world w) (nm x)) { phase = Evaluated; error = Some (value v); done = true }) ≡ world (E.put w x n)
-          = ap (λ (m : Node N U). D.put (world w) (nm x) (record m { phase = Evaluated; error = Some (value v); done = true })) (k.node w x) ∙ k.put w x n in
+      = ap (λ (m : Node N U). D.put (world w) (nm x) (record m { phase = Evaluated; error = Some (value v); done = true })) (k.node w x) ∙ k.put w x n in
       (λ i. reject_kept D (one i) (promise_is w x i) (value v)) ∙ reject_kept_is (E.put w x n) (E.node w x).promise v
 
   -- ---- what follows the end of a body
@@ -281,7 +281,7 @@ module _ {M N V U W X : Type 0} (names : Naming M N) (value : V → U) (E : Eval
       marks {opened = opened} {end = end} {after = after} (component {mid = mid} {x = x} {ms = ms} l c p) =
           let taken : opened_from D.same (map nm opened) (nm x) ≡ map nm (opened_from E.same opened x) = follows.onwards opened x in
           let now : close D (world mid) (nm x) (opened_from D.same (map nm opened) (nm x)) ≡ world (close E mid x (opened_from E.same opened x))
-              = ap (close D (world mid) (nm x)) taken ∙ close_is mid x (opened_from E.same opened x) in
+          = ap (close D (world mid) (nm x)) taken ∙ close_is mid x (opened_from E.same opened x) in
           component (leaves l) (follows.closes_so opened x ∙ c)
           (subst (λ v. Marks D others tos v (opened_before D.same (map nm opened) (nm x)) (map (named_mark nm) ms) (end_of end) (world after)) (sym now)
           (subst (λ o. Marks D others tos (world (close E mid x (opened_from E.same opened x))) o (map (named_mark nm) ms) (end_of end) (world after)) (sym (follows.before opened x)) (marks p)))

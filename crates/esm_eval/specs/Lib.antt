@@ -9,3 +9,5 @@ pub mod Examples
 pub mod Begins
 pub mod Keeping
 pub mod Naming
+pub mod Calls
+pub mod Inner

@@ -1,5 +1,5 @@
 -- Evaluation over modules by other names, and values in the place of others: two worlds of which the one is read as the other.
-use Rattle.std.specs.Prelude.{◌≡◌, ℕ, Bool, false, List, map, Option, None, Result, Ok, Err}
+use Rattle.std.specs.Prelude.{◌≡◌, ℕ, false, map, None, Result, Ok, Err}
 use Rattle.std.specs.Option.{option_map}
 use Rattle.esm_base.specs.Lists.{IsSameness}
 use Rattle.esm_values.specs.Naming.{Naming}

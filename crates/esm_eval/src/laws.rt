@@ -70,5 +70,6 @@ pub trait NamedWorld: AnyWorld {
 
 /// Evaluation follows names: evaluating a module, and what follows the end of a body, are so of the other world.
 pub fn evaluation_follows_names<A: NamedWorld>()
-    ensures { EvaluationFollowsNames A.names A.value A.evaluation A.Other.evaluation A.world A.acts A.Other.acts }
+    ensures { EvaluationFollowsNames A.names A.value A.evaluation A.Other.evaluation A.world
+        A.acts A.Other.acts }
 {}

@@ -48,7 +48,7 @@ module _ {V U : Type 0} (f : V → U) where
   are_values AreValues.nil = AreValues.nil
   are_values (AreValues.cons h) = AreValues.cons (are_values h)
 
-  inside_follows : {S A A' B B' : Type 0} (g : A → B) (h : A' → B') (one : A → A') (two : B → B') → ((a : A) → two (g a) ≡ h (one a)) → (c : Rewritten V S A)
+  pub inside_follows : {S A A' B B' : Type 0} (g : A → B) (h : A' → B') (one : A → A') (two : B → B') → ((a : A) → two (g a) ≡ h (one a)) → (c : Rewritten V S A)
       → mapped_rewritten f two (inside g c) ≡ inside h (mapped_rewritten f one c)
   inside_follows g h one two e (comes.Goes a) = ap comes.Goes (e a)
   inside_follows g h one two e (comes.Leaves v) = refl

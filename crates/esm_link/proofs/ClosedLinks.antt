@@ -1,5 +1,5 @@
 -- What linking has closed is closed under requests, with or without a fault.
-use Rattle.std.proofs.Common.{◌≡◌, ◌⊎◌, inl, inr, ℕ, Bool, true, false, List, [], ◌∷◌, ◌++◌, Option, Some, None, refl, ap, subst, sym, ◌∙◌, append_assoc}
+use Rattle.std.proofs.Common.{◌≡◌, ◌⊎◌, inl, inr, ℕ, Bool, true, false, List, [], ◌∷◌, ◌++◌, Option, refl, ap, subst, sym, ◌∙◌, append_assoc}
 use Rattle.std.specs.Prelude.{not}
 use Rattle.std.specs.List.{list_any}
 use Rattle.std.proofs.lemmas.List.{append-nil}
@@ -15,7 +15,7 @@ use Rattle.esm_realm.proofs.Lists.{either}
 use Rattle.esm_env.specs.Modules.{Modules}
 use Rattle.esm_link.specs.Faults.{FaultAt}
 use Rattle.esm_link.specs.Link.{targets, LinksMarks, IsLinking}
-use Rattle.esm_link.specs.Laws.{IsClosedUnder, ClosesWhole, entered}
+use Rattle.esm_link.specs.Laws.{ClosesWhole, entered}
 use Rattle.esm_link.proofs.LinksWhole.{links_whole}
 use Rattle.esm_link.specs.Link.LinksMarks.{done, enters, passes, fails, stays, component}
 

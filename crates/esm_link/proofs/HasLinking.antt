@@ -1,5 +1,5 @@
 -- Linking has an outcome.
-use Rattle.std.proofs.Common.{◌≡◌, ◌⊎◌, inl, inr, ℕ, zero, suc, ◌+◌, ◌<◌, Bool, true, false, List, [], ◌∷◌, ◌++◌, length, Option, Some, None, refl, ap, subst, sym, ◌∙◌, arith}
+use Rattle.std.proofs.Common.{◌≡◌, ℕ, zero, suc, ◌+◌, ◌<◌, Bool, true, false, List, [], ◌∷◌, ◌++◌, length, Option, Some, None, refl, subst, sym, arith}
 use Rattle.std.specs.Prelude.{All}
 use Rattle.esm_ast.specs.declared.entries.ImportEntry.{ImportEntry}
 use Rattle.esm_ast.specs.declared.entries.IndirectExport.{IndirectExport}

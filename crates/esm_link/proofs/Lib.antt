@@ -3,3 +3,13 @@ pub mod HasLinking
 pub mod LinksWhole
 pub mod WorkedLinks
 pub mod ClosedLinks
+pub mod Marking
+pub mod Steps
+pub mod Linking
+pub mod Scoping
+pub mod Resolved
+pub mod Imports
+pub mod Naming
+pub mod Trees
+pub mod FaithfulScopes
+pub mod Named

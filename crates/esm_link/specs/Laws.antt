@@ -1,11 +1,16 @@
 -- The laws of linking, for modules with names of any kind.
-use Rattle.std.specs.Prelude.{◌≡◌, ℕ, Bool, true, List, [], ◌∷◌, Option, None}
+use Rattle.std.specs.Prelude.{◌≡◌, ℕ, Bool, true, List, [], ◌∷◌, Option, Some, None}
 use Rattle.esm_base.specs.Lists.{IsSameness, is_in}
 use Rattle.esm_realm.specs.Walk.{Mark, Enter, Pass, Leave, IsWalkOf}
 use Rattle.esm_resolve.specs.declared.graph.Resolution.{Resolution}
 use Rattle.esm_env.specs.Modules.{Modules, Exports}
 use Rattle.esm_link.specs.Faults.{FaultAt}
 use Rattle.esm_link.specs.Link.{targets, IsLinking}
+use Rattle.esm_tree.specs.Syntax.{Parts}
+use Rattle.esm_realm.specs.Sound.{RecordParts}
+use Rattle.esm_env.specs.Faithful.{IsFaithfulAt}
+use Rattle.esm_env.specs.declared.scope.ModuleScope.{ModuleScope}
+use Rattle.esm_link.specs.Realm.{modules_of, IsLinkedScope}
 
 -- linking has one outcome
 abbrev pub OneLinking : Type 0 → Type 0
@@ -53,3 +58,8 @@ pub record ClosesWhole (N : Type 0) : Type 0 where
   -- without a fault the root is closed
   pub root : (same : N → N → Bool) (g : Modules N) (closed after : List N) (root : N) → IsSameness same
       → IsLinking same g closed root None after → is_in same after root ≡ true
+
+-- a scope that linking has made is faithful to its module
+abbrev pub LinkedScopesAreFaithful : Type 0
+LinkedScopesAreFaithful = (trees : List Parts) (rs : List RecordParts) (x : ℕ) (s : ModuleScope)
+    → IsLinkedScope trees rs x (Some s) → IsFaithfulAt (modules_of trees rs) x s

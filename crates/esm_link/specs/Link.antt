@@ -34,9 +34,29 @@ module _ {N : Type 0} (same : N → N → Bool) (g : Modules N) where
         → LinksMarks (opened_before same opened x) (closed ++ opened_from same opened x) ms f after
         → LinksMarks opened closed (Leave x ∷ ms) f after
 
+  -- LinksPart opened closed marks after: linking is broken off somewhere amid these marks, with the modules of `after` closed
+  pub data LinksPart : List N → List N → List (Mark N) → List N → Type 0 where
+    cut : {opened closed : List N} {ms : List (Mark N)} → LinksPart opened closed ms closed
+    enters : {opened closed after : List N} {x : N} {ms : List (Mark N)}
+        → LinksPart (opened ++ x ∷ []) closed ms after → LinksPart opened closed (Enter x ∷ ms) after
+    passes : {opened closed after : List N} {x : N} {i : ℕ} {ms : List (Mark N)}
+        → LinksPart opened closed ms after → LinksPart opened closed (Pass x i ∷ ms) after
+    stays : {opened closed after : List N} {x : N} {ms : List (Mark N)} → FirstFault g x None
+        → closes same (targets g) opened x ≡ false → LinksPart opened closed ms after → LinksPart opened closed (Leave x ∷ ms) after
+    component : {opened closed after : List N} {x : N} {ms : List (Mark N)} → FirstFault g x None
+        → closes same (targets g) opened x ≡ true
+        → LinksPart (opened_before same opened x) (closed ++ opened_from same opened x) ms after
+        → LinksPart opened closed (Leave x ∷ ms) after
+
   -- linking the root, where the modules of `closed` are all those that aren't Unlinked: the first fault in the order in which modules
   -- are left, or none. What `after` has beyond `closed` is Linked then, and every other module is as it was
   pub record IsLinking (closed : List N) (root : N) (fault : Option (FaultAt N)) (after : List N) : Type 0 where
     pub marks : List (Mark N)
     pub walk : IsWalkOf same (targets g) closed root marks
     pub links : LinksMarks [] closed marks fault after
+
+  -- linking the root is broken off, as where memory runs out: what `after` has beyond `closed` are components that had closed
+  pub record IsCutLinking (closed : List N) (root : N) (after : List N) : Type 0 where
+    pub marks : List (Mark N)
+    pub walk : IsWalkOf same (targets g) closed root marks
+    pub part : LinksPart [] closed marks after

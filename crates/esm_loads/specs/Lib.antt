@@ -8,3 +8,8 @@ pub mod Whole
 pub mod Owed
 pub mod Laws
 pub mod Examples
+pub mod LoadsView
+pub mod LoadsAsLoading
+pub mod Fits
+pub mod Hosted
+pub mod Inner

@@ -1,4 +1,5 @@
 // Laws of the definitions, as functions without effect.
+ghost use Rattle.esm_loads.specs.LoadsAsLoading.{OpensWithEntry};
 ghost use Rattle.esm_loads.specs.Laws.{AskLimit, BytesFirst, EndedLoadStays, FewerLeft, FirstPending, HasLoad, KeepsPromises, LimitStops, LoadsEnd, OneLoad, OneUrlAtATime, OnlyGrows, StaysOrderly, StaysWhole, StoresOutcome, ToldAlike, UnlinkedIsClosed};
 
 /// Entering a module, asking, an answer to a pending request, and a call of `import()` have one outcome each.
@@ -80,4 +81,9 @@ pub fn keeps_promises()
 /// The Unlinked modules are a finite graph, which is closed under requests.
 pub fn unlinked_is_closed()
     ensures { UnlinkedIsClosed }
+{}
+
+/// Where nothing was asked, the first entry opens loading.
+pub fn opens_with_entry()
+    ensures { OpensWithEntry }
 {}

@@ -1,5 +1,23 @@
-//! Several loads at once with their promises, and `import()`, as definitions with their laws.
+//! Several loads at once with their promises, and `import()`.
 #![tactic(auto)]
 
+mod answering;
+mod asked_urls;
+mod asking;
+mod calls;
+mod data;
+mod end;
+mod entering;
 pub mod examples;
+mod importing;
 pub mod laws;
+mod load_record;
+mod loads;
+mod queues;
+mod settling;
+mod stepping;
+mod steps;
+
+pub use data::{Cause, Purpose, Requester, Slot, Stage, UrlState, Waiting};
+pub use end::LoadEnd;
+pub use loads::Loads;

@@ -1,0 +1,183 @@
+-- Rewritings of bodies, and segments, follow the names of modules.
+use Rattle.std.proofs.Common.{◌≡◌, ℕ, suc, Bool, true, false, List, [], ◌∷◌, map, Option, Some, None, refl, ap, subst, sym, ◌∙◌, length}
+use Rattle.std.specs.Prelude.{Result, Ok, Err, nat_lt}
+use Rattle.std.specs.Option.{option_map}
+use Rattle.esm_base.specs.declared.limits.Limit.{Limit}
+use Rattle.esm_base.specs.declared.limits.TheConstants.{MAX_CALL_DEPTH}
+use Rattle.esm_base.specs.Lists.{IsSameness}
+use Rattle.esm_tree.specs.Syntax.{Item, Stmts}
+use Rattle.esm_values.specs.Value.{Value, Undefined, Truth, Text, Func, Error, Namespace, Promise}
+use Rattle.esm_values.specs.Acts.{Act as act}
+use Rattle.esm_values.specs.Plans.{Rewritten, inside, Follows}
+use Rattle.esm_values.specs.Plans.{Rewritten as comes}
+use Rattle.esm_values.specs.Plans.{Plan as plan}
+use Rattle.esm_values.specs.Operators.{values, look_of, is_true}
+use Rattle.esm_values.specs.Naming.{Naming, renamed_value, mapped_rewritten, LooksAlike, ActsFollow}
+use Rattle.esm_expr_eval.specs.Terms.{Term}
+use Rattle.esm_expr_eval.specs.Terms.Term.{Val, Fails}
+use Rattle.esm_expr_eval.specs.Naming.{mapped_term}
+use Rattle.esm_expr_eval.proofs.Named.{PlanFollows, plan_follows, inside_follows, rewrites_follow}
+use Rattle.esm_env.specs.Declarations.{FunctionCode, function_at}
+use Rattle.esm_env.specs.Modules.{Modules, function_of}
+use Rattle.esm_env.specs.Naming.{AreNamed}
+use Rattle.esm_env.proofs.Named as env
+use Rattle.esm_body.specs.Scopes.{Scope}
+use Rattle.esm_body.specs.Rest.{Rest, Part, end, more, whole, begin, branch, fill_rest}
+use Rattle.esm_body.specs.Rest.{Part as part}
+use Rattle.esm_body.specs.Rest.{Use as use_of}
+use Rattle.esm_body.specs.State.{State, Importing}
+use Rattle.esm_body.specs.Acts.{Inner, Performs, modules_of, set_name, write_name}
+use Rattle.esm_body.specs.BodyRewriting.{RewrittenBody, On, Gives, Waits, within, caught, wrote, own_url, RewritesBody}
+use Rattle.esm_body.specs.Segment.{Active, active, Ended, Normal, Thrown, Awaiting, Stopped, Next, Goes, Over, called_by, called, call_by, return_to, throw_to, wait_by, next_by, too_deep, RewritesOutermost, Segment}
+use Rattle.esm_body.specs.Segment.{Segment as segment}
+use Rattle.esm_body.specs.Naming.{mapped_scope, mapped_rest, mapped_part, renamed_active, renamed_ended, ImportsFollow}
+use Rattle.esm_body.proofs.NamedRests.{fill_follows, whole_follows, call_scope_follows, handler_follows, begin_follows, branch_follows}
+use Rattle.esm_body.proofs.NamedActs.{V, ren, ren_inner, look_alike, acts_follow, sets, told_write, writes}
+
+module _ {M N I J : Type 0} (names : Naming M N) (image : I → J) (same : M → M → Bool) (other : N → N → Bool) (modules : I → Modules M) (images : J → Modules N)
+    (begins : Importing M I) (others : Importing N J) (s : IsSameness same) (t : IsSameness other) (k : (i : I) → AreNamed names (modules i) (images (image i))) (imports : ImportsFollow names image begins others) where
+  abbrev pub F : Value M → Value N
+  F v = V names image same other modules images begins others s t k imports v
+
+  abbrev pub R : State M I → State N J
+  R w = ren names image same other modules images begins others s t k imports w
+
+  abbrev pub RI : Inner M I → Inner N J
+  RI w = ren_inner names image same other modules images begins others s t k imports w
+
+  abbrev pub Rr : Rest (Value M) → Rest (Value N)
+  Rr r = mapped_rest F r
+
+  abbrev Came : Rewritten (Value M) Limit (Rest (Value M)) → Rewritten (Value N) Limit (Rest (Value N))
+  Came c = mapped_rewritten F Rr c
+
+  abbrev pub moved : RewrittenBody (Value M) Limit → RewrittenBody (Value N) Limit
+  moved (On c) = On (Came c)
+  moved (Gives v) = Gives (F v)
+  moved (Waits v r) = Waits (F v) (Rr r)
+
+  pub looks : (i : I) → LooksAlike F (values same) (values other)
+  looks i = look_alike names.name same other (env.same_follows names (modules i) (images (image i)) (k i) same other s t)
+
+  within_follows : (g : Rest (Value M) → Rest (Value M)) (h : Rest (Value N) → Rest (Value N)) → ((r : Rest (Value M)) → Rr (g r) ≡ h (Rr r)) → (move : RewrittenBody (Value M) Limit) → moved (within g move) ≡ within h (moved move)
+  within_follows g h e (On c) = ap On (inside_follows F g h Rr Rr e c)
+  within_follows g h e (Gives v) = refl
+  within_follows g h e (Waits v r) = ap (Waits (F v)) (e r)
+
+  caught_follows : (x : Option (List ℕ)) (handler : Stmts) (rest : Rest (Value M)) (move : RewrittenBody (Value M) Limit) → moved (caught x handler rest move) ≡ caught x handler (Rr rest) (moved move)
+  caught_follows x handler rest (On (comes.Leaves v)) = λ i. On (comes.Goes (more (part.In (handler_follows F x v handler i) (whole_follows F handler i)) (Rr rest)))
+  caught_follows x handler rest (On (comes.Goes r)) = refl
+  caught_follows x handler rest (On (comes.Calls f vs r)) = refl
+  caught_follows x handler rest (On (comes.Stops why)) = refl
+  caught_follows x handler rest (Gives v) = refl
+  caught_follows x handler rest (Waits v r) = refl
+
+  wrote_follows : (rest : Rest (Value M)) (o : Option (Value M)) → moved (wrote rest o) ≡ wrote (Rr rest) (option_map F o)
+  wrote_follows rest None = refl
+  wrote_follows rest (Some v) = refl
+
+  module _ (m : M) where
+    abbrev Before : Inner M I → Rest (Value M) → RewrittenBody (Value M) Limit → Inner M I → Type 0
+    Before w r move after = RewritesBody same modules begins m w r move after
+
+    abbrev After : Inner M I → Rest (Value N) → RewrittenBody (Value N) Limit → Inner M I → Type 0
+    After w r move after = RewritesBody other images others (names.name m) (RI w) r move (RI after)
+
+    same_move : (w after : Inner M I) {r : Rest (Value N)} {a b : RewrittenBody (Value N) Limit} → a ≡ b → After w r b after → After w r a after
+    same_move w after {r} e p = subst (λ a. After w r a after) (sym e) p
+
+    abbrev A : (w : Inner M I) → LooksAlike F (values same) (values other)
+    A w = looks w.state.outer.imports
+
+    goes : (rest : Rest (Value M)) (other_rest : Rest (Value N)) → Rr rest ≡ other_rest → PlanFollows F {S = Limit} Rr (plan.Ends (comes.Goes rest)) (plan.Ends (comes.Goes other_rest))
+    goes rest other_rest e = subst (λ r. PlanFollows F {S = Limit} Rr (plan.Ends (comes.Goes rest)) (plan.Ends (comes.Goes r))) e PlanFollows.ends
+
+    abbrev K : ActsFollow F RI (Performs same modules begins m) (Performs other images others (names.name m))
+    K = acts_follow names image same other modules images begins others s t k imports m
+
+    pub moves_follow : {w after : Inner M I} {r : Rest (Value M)} {move : RewrittenBody (Value M) Limit} → Before w r move after → After w (Rr r) (moved move) after
+    moves_follow {w} (RewritesBody.begins_at {s = stmt} {rest = rest} p) =
+        RewritesBody.begins_at (plan_follows F RI (Performs same modules begins m) (Performs other images others (names.name m)) K (PlanFollows.asks (λ r. goes (begin (values same) stmt rest) (begin (values other) stmt (Rr rest)) (begin_follows F (values same) (values other) (A w) stmt rest))) p)
+    moves_follow {w} {after} (RewritesBody.does {purpose = u} {rest = rest} {c = c} p) =
+        same_move w after (ap On (inside_follows F (λ e. more (part.Does u e) rest) (λ e. more (part.Does u e) (Rr rest)) (mapped_term F) Rr (λ e. refl) c))
+        (RewritesBody.does (rewrites_follow F (values same) (values other) (A w) RI (own_url same modules begins m) (own_url other images others (names.name m)) (Performs same modules begins m) (Performs other images others (names.name m)) (λ w. (k w.state.outer.imports).url m) K p))
+    moves_follow RewritesBody.drops = RewritesBody.drops
+    moves_follow {w} (RewritesBody.sets {x = x} {v = v} {rest = rest}) =
+        subst (λ a. RewritesBody other images others (names.name m) (RI w) (more (part.Does (use_of.Sets x) (Val (F v))) (Rr rest)) (On (comes.Goes (Rr rest))) a)
+        (sets names image same other modules images begins others s t k imports m w.scopes w.state x v) RewritesBody.sets
+    moves_follow {w} {after} (RewritesBody.writes {x = x} {v = v} {rest = rest}) =
+        same_move w after (wrote_follows rest (write_name same modules begins m w x v).0)
+        (subst (λ (q : Option (Value N) × Inner N J). RewritesBody other images others (names.name m) (RI w) (more (part.Does (use_of.Writes x) (Val (F v))) (Rr rest)) (wrote (Rr rest) q.0) q.1)
+        (writes names image same other modules images begins others s t k imports m w x v) RewritesBody.writes)
+    moves_follow RewritesBody.throws = RewritesBody.throws
+    moves_follow RewritesBody.returns = RewritesBody.returns
+    moves_follow (RewritesBody.prints {v = v} {rest = rest} p) =
+        RewritesBody.prints (plan_follows F RI (Performs same modules begins m) (Performs other images others (names.name m)) K (PlanFollows.asks (λ r. PlanFollows.asks (λ q. PlanFollows.ends))) p)
+    moves_follow {w} {after} (RewritesBody.chooses {v = v} {ss = ss} {others = rs} {rest = rest}) =
+        same_move w after ((λ i. On (comes.Goes (more (branch_follows F (values same) (values other) (A w) (is_true (look_of v)) ss rs i) (Rr rest)))) ∙ ap (λ l. On (comes.Goes (more (branch (values other) (is_true l) ss rs) (Rr rest)))) (sym ((A w).look v)))
+        RewritesBody.chooses
+    moves_follow RewritesBody.awaits = RewritesBody.awaits
+    moves_follow {w} {after} (RewritesBody.inner {scope' = scope'} {rest = rest} {move = move} p) =
+        same_move w after (within_follows (λ r. more (part.In scope' r) rest) (λ r. more (part.In (mapped_scope F scope') r) (Rr rest)) (λ r. refl) move) (RewritesBody.inner (moves_follow p))
+    moves_follow RewritesBody.inner_end = RewritesBody.inner_end
+    moves_follow {w} {after} (RewritesBody.tries {rest = rest} {x = x} {handler = handler} {move = move} p) = same_move w after (caught_follows x handler rest move) (RewritesBody.tries (moves_follow p))
+    moves_follow RewritesBody.tries_end = RewritesBody.tries_end
+
+  -- ---- segments
+
+  abbrev Ra : Active M → Active N
+  Ra a = renamed_active names a
+
+  abbrev next_moved : Next M I → Next N J
+  next_moved (Goes m r cs w) = Goes (names.name m) (Rr r) (map Ra cs) (R w)
+  next_moved (Over how w) = Over (renamed_ended names how) (R w)
+
+  count : (cs : List (Active M)) → length (map Ra cs) ≡ length cs
+  count [] = refl
+  count (c ∷ cs) = ap suc (count cs)
+
+  called_by_follows : (m : M) (vs : List (Value M)) (o : Option FunctionCode) → called_by (names.name m) (map F vs) o ≡ option_map Ra (called_by m vs o)
+  called_by_follows m vs None = refl
+  called_by_follows m vs (Some f) = λ i. Some (active (names.name m) (more (part.In (sym (call_scope_follows F Undefined f vs) i) (sym (whole_follows F f.body) i)) end))
+
+  called_follows : (w : State M I) (f : Value M) (vs : List (Value M)) → called (modules_of images (R w)) (F f) (map F vs) ≡ option_map Ra (called (modules_of modules w) f vs)
+  called_follows w Undefined vs = refl
+  called_follows w (Truth b) vs = refl
+  called_follows w (Text u) vs = refl
+  called_follows w (Func m i) vs = ap (λ (items : List Item). called_by (names.name m) (map F vs) (function_at items i)) ((k w.outer.imports).tree m) ∙ called_by_follows m vs (function_of (modules_of modules w) m i)
+  called_follows w (Error e) vs = refl
+  called_follows w (Namespace m) vs = refl
+  called_follows w (Promise p) vs = refl
+
+  call_follows : (b : Bool) (m : M) (r : Rest (Value M)) (cs : List (Active M)) (w : State M I) (c : Option (Active M))
+      → call_by other images others b (names.name m) (Rr r) (map Ra cs) (R w) (option_map Ra c) ≡ option_map next_moved (call_by same modules begins b m r cs w c)
+  call_follows true m r cs w (Some c) = refl
+  call_follows true m r cs w None = refl
+  call_follows false m r cs w c = λ i. Some (Goes (names.name m) (sym (fill_follows F (Fails (Error (length w.outer.errors))) r) i) (map Ra cs) (R (too_deep same modules begins w)))
+
+  return_follows : (given : Term (Value M)) (cs : List (Active M)) (w : State M I) → return_to other images others (mapped_term F given) (map Ra cs) (R w) ≡ option_map next_moved (return_to same modules begins given cs w)
+  return_follows given [] w = refl
+  return_follows given (c ∷ cs) w = λ i. Some (Goes (names.name c.at) (sym (fill_follows F given c.rest) i) (map Ra cs) (R w))
+
+  next_follows : (m : M) (cs : List (Active M)) (move : RewrittenBody (Value M) Limit) (w : State M I) → next_by other images others (names.name m) (map Ra cs) (moved move) (R w) ≡ option_map next_moved (next_by same modules begins m cs move w)
+  next_follows m cs (On (comes.Goes r)) w = refl
+  next_follows m [] (On (comes.Leaves v)) w = refl
+  next_follows m (c ∷ cs) (On (comes.Leaves v)) w = return_follows (Fails v) (c ∷ cs) w
+  next_follows m cs (On (comes.Calls f vs r)) w =
+      (λ i. call_by other images others (nat_lt (count cs i) MAX_CALL_DEPTH) (names.name m) (Rr r) (map Ra cs) (R w) (called_follows w f vs i))
+      ∙ call_follows (nat_lt (length cs) MAX_CALL_DEPTH) m r cs w (called (modules_of modules w) f vs)
+  next_follows m cs (On (comes.Stops why)) w = refl
+  next_follows m [] (Gives v) w = refl
+  next_follows m (c ∷ cs) (Gives v) w = return_follows (Val v) (c ∷ cs) w
+  next_follows m [] (Waits v r) w = refl
+  next_follows m (c ∷ cs) (Waits v r) w = refl
+
+  pub segments_follow : {w after : State M I} {m : M} {r : Rest (Value M)} {cs : List (Active M)} {how : Ended M} → Segment same modules begins w m r cs how after
+      → Segment other images others (R w) (names.name m) (Rr r) (map Ra cs) (renamed_ended names how) (R after)
+  segments_follow segment.ends = segment.ends
+  segments_follow {w} {after} (segment.returns {c = c} {cs = cs} {how = how} p) =
+      segment.returns (subst (λ r. Segment other images others (R w) (names.name c.at) r (map Ra cs) (renamed_ended names how) (R after)) (fill_follows F (Val Undefined) c.rest) (segments_follow p))
+  segments_follow {m = m} {cs = cs} (segment.goes {mid = mid} move p e q) =
+      segment.goes (moved move) (moves_follow m p) (next_follows m cs move mid ∙ ap (option_map next_moved) e) (segments_follow q)
+  segments_follow {m = m} {cs = cs} (segment.over {mid = mid} move p e) =
+      segment.over (moved move) (moves_follow m p) (next_follows m cs move mid ∙ ap (option_map next_moved) e)

@@ -1,0 +1,5 @@
+pub mod Steps
+pub mod Places
+pub mod Root
+pub mod LateSteps
+pub mod Onces

@@ -1,0 +1,19 @@
+use Rattle.std.proofs.Common.{◌≡◌, ◌<◌, true, length}
+use Rattle.esm_eval.specs.Inner.Visit.{AllEntered, IsSteadyStep, Passing, is_entered}
+use Rattle.esm_eval.proofs.walk.+visit.Given as goal
+
+-- how many modules no evaluation has entered
+abbrev pub decreases-visit : goal.decreases-visit
+decreases-visit g l = g.D.Desk.left l.desk.now
+
+-- for every walk that the visit is amid: what is passed, and that what is left completes the visit
+abbrev pub invariant-loop-i : goal.invariant-loop-i
+invariant-loop-i g l = record {
+  steady : IsSteadyStep g.D.Desk.lens g.D.Desk.linked g.D.Desk.left l.fn.desk l.desk;
+  fewer : g.D.Desk.left l.desk < g.D.Desk.left l.fn.desk;
+  entered : is_entered g.D.Desk.lens l.desk l.x ≡ true;
+  stack : AllEntered g.D.Desk.lens l.desk l.opened.items;
+  count : l.count ≡ length (g.D.Desk.lens.targets l.fn.desk l.x);
+  place : l.place ≡ length l.fn.opened.items;
+  passing : Passing g.D.Desk.lens g.D.Desk.linked g.D.Desk.left g.D.Desk.acts l.fn.desk l.fn.opened.items l.x l.desk l.opened.items l.i l.low;
+}

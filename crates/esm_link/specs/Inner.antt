@@ -1,0 +1,4 @@
+pub mod Graph
+pub mod Imports
+pub mod Visit
+pub mod Leave

@@ -1,0 +1,13 @@
+-- The modules before are Unlinked.
+use Rattle.std.proofs.Common.{◌≡◌, take, map, ℕ}
+use Rattle.std.specs.Prelude.{◌||◌}
+use Rattle.esm_realm.specs.Sound.{records_of}
+use Rattle.esm_loads.specs.LoadsView.{is_in, is_unlinked}
+use Rattle.esm_loads.specs.Inner.Steps.{stale}
+use Rattle.esm_loads.proofs.answering.unlink.Given as goal
+
+abbrev pub invariant-loop-i : goal.invariant-loop-i
+invariant-loop-i l = record {
+  same : map stale (records_of l.realm) ≡ map stale (records_of l.fn.realm);
+  unlinked : (id : ℕ) → is_unlinked (records_of l.realm) id ≡ (is_unlinked (records_of l.fn.realm) id || is_in (take l.i l.ids) id);
+}

@@ -1,0 +1,11 @@
+pub mod Urls
+pub mod UrlIndex
+pub mod Requests
+pub mod Counts
+pub mod Flags
+pub mod Steps
+pub mod Stops
+pub mod Answering
+pub mod Settling
+pub mod Stepping
+pub mod Asking

@@ -1,0 +1,211 @@
+// The asked URLs, in order of asking. HTML, the module map.
+ghost use Rattle.std.specs.Prelude.{◌≡◌, ℕ, ◌<◌, ◌≤◌, ◌+◌, ◌++◌, [], ◌∷◌, length, None, Some, IfOk, OnOk, Err, false, slice_get, slice_set};
+ghost use Rattle.std.specs.List.Sorted.{IsNonDecreasing};
+ghost use Rattle.esm_base.specs.declared.limits.Limit.{Limit};
+ghost use Rattle.esm_base.specs.declared.limits.TheConstants.{MAX_URLS, MAX_DELIVERED_BYTES};
+ghost use Rattle.esm_base.specs.declared.end.End.TheVariants.{Fault};
+ghost use Rattle.esm_loads.specs.LoadsView.{urls_of, place_in, is_open};
+ghost use Rattle.esm_loads.specs.Inner.Urls.{no_slots, open_urls, open_slot, Closes, PutsPlace, IsOpenAt};
+
+use crate::LoadEnd;
+use crate::data::{Slot, UrlState};
+use esm_base::{Limit, MAX_DELIVERED_BYTES, MAX_URLS, Memory, Text};
+use std::alloc::Global;
+use std::collections::BTreeMap;
+use std::marker::Model;
+
+/// The URLs that are asked and not fetched, in order of asking, and the places of their slots.
+#[derive(Drop)]
+pub struct OpenAsks {
+    /// The URLs.
+    pub urls: Vec<Text>,
+    /// The place of the slot of each of them. Places rise.
+    pub places: Vec<usize>,
+}
+
+impl OpenAsks {
+    /// One more URL is asked, behind all others.
+    pub fn open(&mut self, url: Text, place: usize) -> Result<(), Memory>
+        ensures urls { OnOk result (self.new.urls.items ≡ self.old.urls.items ++ url ∷ []) }
+        ensures places { OnOk result (self.new.places.items ≡ self.old.places.items ++ place ∷ []) }
+    {
+        self.urls.push(url)?;
+        self.places.push(place)?;
+        Ok(())
+    }
+
+    /// The URL whose slot has this place is fetched. It is found by a binary search, and others move up.
+    pub fn close(&mut self, place: usize)
+        requires rise { IsNonDecreasing self.old.places.items }
+        requires listed { (i : ℕ) × (slice_get self.old.places.items i ≡ Some place) }
+        requires as_many { length self.old.urls.items ≡ length self.old.places.items }
+        ensures { Closes self.old self.new place }
+    {
+        match self.places.binary_search(&place) {
+            Ok(at) => {
+                self.places.remove(at);
+                self.urls.remove(at);
+            }
+            Err(_) => unreachable!(),
+        }
+    }
+}
+
+/// The asked URLs, in order of asking, with the state of each.
+#[derive(Drop)]
+pub struct AskedUrls {
+    /// The place of each URL among the slots.
+    numbers: BTreeMap<Text, usize>,
+    slots: Vec<Slot>,
+    asks: OpenAsks,
+    /// How many bytes were delivered.
+    bytes: u64,
+}
+
+impl Model for AskedUrls {
+    ghost use Rattle.std.specs.Coded.{codes};
+    ghost use Rattle.esm_loads.specs.Inner.Urls.{UrlsView};
+
+    ghost Value = { UrlsView };
+
+    ghost use Rattle.esm_loads.specs.Inner.UrlIndex.{AreIndexed};
+
+    ghost view = { λ t. record { slots = t.slots.items; bytes = t.bytes } };
+
+    ghost invariant = { λ t. AreIndexed t.numbers t.slots.items t.asks t.bytes };
+}
+
+// Adds an open URL to each list.
+fn add(
+    numbers: &mut BTreeMap<Text, usize>,
+    slots: &mut Vec<Slot>,
+    asks: &mut OpenAsks,
+    url: &Text,
+) -> Result<(), Memory>
+    ensures slots { OnOk result (slots.new.items ≡ slots.old.items ++ open_slot url.now ∷ []) }
+    ensures asks { OnOk result (asks.new.urls.items ≡ asks.old.urls.items ++ url.now ∷ []) }
+    ensures places { OnOk result (asks.new.places.items
+        ≡ asks.old.places.items ++ length slots.old.items ∷ []) }
+    ensures numbers { OnOk result
+        (PutsPlace url.now (length slots.old.items) numbers.old numbers.new) }
+{
+    let place = slots.len();
+    let key = url.clone()?;
+    let ask = url.clone()?;
+    let url = url.clone()?;
+    asks.open(ask, place)?;
+    slots.push(Slot {
+        url,
+        state: UrlState::Open,
+    })?;
+    numbers.insert(key, place)?;
+    Ok(())
+}
+
+impl AskedUrls {
+    /// No URL is asked.
+    pub fn new(alloc: Global) -> AskedUrls
+        ensures { result ≡ no_slots }
+    {
+        AskedUrls {
+            numbers: BTreeMap::new(alloc),
+            slots: Vec::new(alloc),
+            asks: OpenAsks {
+                urls: Vec::new(alloc),
+                places: Vec::new(alloc),
+            },
+            bytes: 0,
+        }
+    }
+
+    /// The URLs that are asked and not fetched, in order of asking.
+    pub fn asks(&self) -> &[Text]
+        ensures { result.now ≡ open_urls self.now.slots }
+    {
+        self.asks.urls.as_slice()
+    }
+
+    /// How many URLs are asked.
+    pub fn len(&self) -> usize
+        ensures { result ≡ length self.now.slots }
+    {
+        self.slots.len()
+    }
+
+    /// The place of a URL; none where it wasn't asked for.
+    pub fn find(&self, url: &Text) -> Option<usize>
+        ensures { result ≡ place_in (urls_of self.now.slots) url.now }
+    {
+        self.numbers.get(url).copied()
+    }
+
+    /// The state of the URL at a place.
+    pub fn state(&self, place: usize) -> UrlState
+        requires { place < length self.now.slots }
+        ensures { (s : Slot) → slice_get self.now.slots place ≡ Some s → result ≡ s.state }
+    {
+        self.slots[place].state
+    }
+
+    /// The URL at a place.
+    pub fn url(&self, place: usize) -> &Text
+        requires { place < length self.now.slots }
+        ensures { (s : Slot) → slice_get self.now.slots place ≡ Some s → result.now ≡ s.url }
+    {
+        &self.slots[place].url
+    }
+
+    /// Asks for a URL that wasn't asked for, behind all others. Limit L1 comes exactly at its number.
+    pub fn open(&mut self, url: &Text) -> Result<usize, LoadEnd>
+        requires { place_in (urls_of self.old.slots) url.now ≡ None }
+        ensures place { IfOk result (λ k. k ≡ length self.old.slots) }
+        ensures ok { OnOk result
+            (self.new ≡ record self.old { slots = self.old.slots ++ open_slot url.now ∷ [] }) }
+        ensures room { OnOk result (length self.old.slots < MAX_URLS) }
+        ensures limit { (limit : Limit) → result ≡ Err (Fault limit)
+            → (limit ≡ Limit.L1) × (length self.old.slots ≡ MAX_URLS) }
+    {
+        let place = self.slots.len();
+        if place >= MAX_URLS {
+            return Err(LoadEnd::Fault(Limit::L1));
+        }
+        match add(&mut self.numbers, &mut self.slots, &mut self.asks, url) {
+            Ok(()) => Ok(place),
+            Err(Memory) => {
+                self.numbers.clear();
+                self.slots.clear();
+                self.asks.urls.clear();
+                self.asks.places.clear();
+                Err(LoadEnd::Memory)
+            }
+        }
+    }
+
+    /// The fetch of the URL at a place has ended.
+    pub fn settle(&mut self, place: usize, state: UrlState)
+        requires at { IsOpenAt self.old.slots place }
+        requires fetched { is_open state ≡ false }
+        ensures { (s : Slot) → slice_get self.old.slots place ≡ Some s → self.new
+            ≡ record self.old {
+              slots = slice_set self.old.slots place (record s { state = state });
+            } }
+    {
+        self.slots[place].state = state;
+        self.asks.close(place);
+    }
+
+    /// Counts bytes that were delivered. Limit L2 comes exactly at its number.
+    pub fn count(&mut self, bytes: usize) -> Result<(), LoadEnd>
+        ensures ok { OnOk result
+            (self.new ≡ record self.old { bytes = self.old.bytes + bytes }) }
+        ensures room { OnOk result (self.old.bytes + bytes ≤ MAX_DELIVERED_BYTES) }
+        ensures limit { (limit : Limit) → result ≡ Err (Fault limit)
+            → (limit ≡ Limit.L2) × (MAX_DELIVERED_BYTES < self.old.bytes + bytes) }
+    {
+        if bytes as u64 > MAX_DELIVERED_BYTES - self.bytes {
+            return Err(LoadEnd::Fault(Limit::L2));
+        }
+        self.bytes += bytes as u64;
+        Ok(())
+    }
+}
