@@ -27,3 +27,5 @@ pub mod Follows
 pub mod ScopesLemmas
 pub mod Paths
 pub mod CaughtLemmas
+pub mod FitOutcomes
+pub mod LawfulFits
