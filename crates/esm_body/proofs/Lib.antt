@@ -33,3 +33,5 @@ pub mod NamedRests
 pub mod NamedActs
 pub mod NamedMoves
 pub mod NamedBodies
+pub mod FitOutcomes
+pub mod LawfulFits
