@@ -5,3 +5,4 @@ pub mod FaithfulLemmas
 pub mod MakesLemmas
 pub mod MadeLemmas
 pub mod OneRead
+pub mod WrittenLemmas

@@ -6,7 +6,9 @@ use Rattle.esm_values.specs.Code.{CodeValue, value_of}
 use Rattle.esm_values.specs.declared.value.Value.{Value}
 use Rattle.esm_env.specs.Cells.{Reading, read_cell}
 use Rattle.esm_env.specs.Cells.{Reading as reading}
-use Rattle.esm_env.specs.Scopes.{Scopes, scope_in, own_cell, import_of, IsWritten, StaysOrWrites}
+use Rattle.esm_env.specs.Scopes.{Scopes, scope_in, own_cell, import_of, cells_of, IsWritten, StaysOrWrites}
+use Rattle.esm_env.specs.Writing.{Writing}
+use Rattle.esm_env.specs.Writing.{Writing as writing}
 use Rattle.esm_env.specs.declared.scope.ModuleScope.{ModuleScope}
 use Rattle.esm_env.specs.declared.scope.Target.{Target}
 use Rattle.esm_env.specs.declared.scope.Read.{Read}
@@ -52,3 +54,10 @@ IsSetBy (Some s) x v (Some t) = StaysOrWrites s x v wrote.Done t
 -- a declaration sets its name in the scope of its module
 abbrev pub IsInitialised : Scopes → ℕ → List ℕ → Value → Scopes → Type 0
 IsInitialised old m x v new = IsSetBy (scope_in old m) x v (scope_in new m) × ((n : ℕ) → (n ≡ m → ⊥) → scope_in new n ≡ scope_in old n)
+
+-- what a write came to, where these are the scopes then
+abbrev pub told_write : Wrote → Scopes → Writing ℕ
+told_write wrote.Done e = writing.Done (cells_of e)
+told_write wrote.Unset e = writing.Unset
+told_write wrote.Constant e = writing.Constant
+told_write wrote.Undeclared e = writing.Undeclared

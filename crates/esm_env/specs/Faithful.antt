@@ -1,11 +1,11 @@
 -- Scopes that were made from the trees of modules, with their imports bound as linking binds them.
-use Rattle.std.specs.Prelude.{◌≡◌, ℕ, false, List, Option, Some, None}
+use Rattle.std.specs.Prelude.{◌≡◌, ℕ, false, List, Option, Some, None, is_some}
 use Rattle.esm_env.specs.Declarations.{Initial, Unset, FunctionAt, initial}
 use Rattle.esm_values.specs.Value.{Func, Namespace}
 use Rattle.esm_values.specs.Code.{value_of}
 use Rattle.esm_env.specs.Modules.{Modules}
 use Rattle.esm_env.specs.Bindings as names
-use Rattle.esm_env.specs.Bindings.{Binds}
+use Rattle.esm_env.specs.Bindings.{Binds, import_as}
 use Rattle.esm_env.specs.Slots.{slot_in, valued_by}
 use Rattle.esm_env.specs.Scopes.{Scopes, scope_in, import_in}
 use Rattle.esm_env.specs.declared.slots.Slot.{Slot}
@@ -39,3 +39,14 @@ pub record IsFaithfulAt (g : Modules ℕ) (m : ℕ) (s : ModuleScope) : Type 0 w
 
 abbrev pub IsFaithful : Modules ℕ → Scopes → Type 0
 IsFaithful g e = (m : ℕ) (s : ModuleScope) → scope_in e m ≡ Some s → IsFaithfulAt g m s
+
+-- each import of the module is bound, as linking sees to: a resolution without an end is a fault of linking
+abbrev pub HasImports : Modules ℕ → ℕ → ModuleScope → Type 0
+HasImports g m s = (x : List ℕ) → is_some (import_in s.imports.items x) ≡ is_some (import_as g m x)
+
+-- the same scope, but for what was written
+abbrev pub IsLikeScope : Option ModuleScope → Option ModuleScope → Type 0
+IsLikeScope None None = Unit {0}
+IsLikeScope None (Some t) = ⊥
+IsLikeScope (Some s) None = ⊥
+IsLikeScope (Some s) (Some t) = (t.imports ≡ s.imports) × (t.tree ≡ s.tree) × (t.namespace ≡ s.namespace)

@@ -1,19 +1,24 @@
 -- Laws of the definitions, over modules with numbers.
-use Rattle.std.specs.Prelude.{◌≡◌, ℕ, Bool, List, Option, Some}
+use Rattle.std.specs.Prelude.{◌≡◌, ℕ, nat_eq, Bool, List, Option, Some}
 use Rattle.esm_tree.specs.Syntax.{Item}
 use Rattle.esm_base.specs.declared.module_id.ModuleId.{ModuleId}
 use Rattle.esm_values.specs.Value.{Value, Func}
+use Rattle.esm_values.specs.Code.{CodeValue, value_of}
+use Rattle.esm_values.specs.declared.value.Value as code
 use Rattle.esm_env.specs.Declarations.{Unset, FunctionAt, initial}
 use Rattle.esm_env.specs.Modules.{Modules}
-use Rattle.esm_env.specs.Cells.{Cells, no_cells, Reading}
+use Rattle.esm_env.specs.Cells.{Cell, Cells, no_cells, write_cell, Reading}
 use Rattle.esm_env.specs.Cells.{Reading as reading}
 use Rattle.esm_env.specs.Bindings.{Target, Binds}
 use Rattle.esm_env.specs.Reading.{IsReadingOf, IsMemberOf}
+use Rattle.esm_env.specs.Writing.{writing_of}
 use Rattle.esm_env.specs.Slots.{slot_in}
-use Rattle.esm_env.specs.Scopes.{Scopes, scope_in, import_of, cells_of, read_in}
+use Rattle.esm_env.specs.Scopes.{Scopes, scope_in, own_cell, import_of, cells_of, read_in}
+use Rattle.esm_env.specs.Calls.{IsWrittenIn, IsInitialised, told_write}
 use Rattle.esm_env.specs.Makes.{slots_for}
-use Rattle.esm_env.specs.Faithful.{IsFaithful, HasScope, SlotFits}
+use Rattle.esm_env.specs.Faithful.{IsFaithful, HasScope, HasImports, IsLikeScope, SlotFits}
 use Rattle.esm_env.specs.declared.scope.ModuleScope.{ModuleScope}
+use Rattle.esm_env.specs.declared.scope.Wrote.{Wrote}
 
 -- an import is bound to one thing at most, and a name, and a member of a namespace, reads as one thing
 pub record ReadsOne : Type 0 where
@@ -40,3 +45,23 @@ pub record BeginsUnset : Type 0 where
       → initial (g.tree m) x ≡ Some (Unset constant) → IsReadingOf g no_cells m x reading.Unset
   pub function : (g : Modules ℕ) (m : ℕ) (x : List ℕ) (index : ℕ)
       → initial (g.tree m) x ≡ Some (FunctionAt index) → IsReadingOf g no_cells m x (reading.Value (Func m index))
+
+-- what the code's writes come to, over scopes that fit the trees
+pub record WritesRight : Type 0 where
+  -- a write of a name of a module that has a scope, in which each of its imports is bound, is its writing
+  pub writes : (g : Modules ℕ) (e late : Scopes) (m : ℕ) (s : ModuleScope) (x : List ℕ) (v : code.Value) (result : Wrote)
+      → IsFaithful g e → scope_in e m ≡ Some s → HasImports g m s → IsWrittenIn e m x v result late
+      → told_write result late ≡ writing_of nat_eq g (cells_of e) m x (value_of v)
+  -- where a name that the module declares is set, its cell is written, and no other
+  pub sets : (e late : Scopes) (m : ℕ) (x : List ℕ) (v : code.Value) (c : Cell CodeValue)
+      → own_cell e m x ≡ Some c → IsInitialised e m x v late → cells_of late ≡ write_cell nat_eq (cells_of e) m x (value_of v)
+  -- the scopes fit as before
+  pub faithful_written : (g : Modules ℕ) (e late : Scopes) (m : ℕ) (x : List ℕ) (v : code.Value) (result : Wrote)
+      → IsFaithful g e → IsWrittenIn e m x v result late → IsFaithful g late
+  pub faithful_set : (g : Modules ℕ) (e late : Scopes) (m : ℕ) (x : List ℕ) (v : code.Value)
+      → IsFaithful g e → IsInitialised e m x v late → IsFaithful g late
+  -- what was made stays made, with its imports, its tree and its namespace
+  pub stays_written : (e late : Scopes) (m : ℕ) (x : List ℕ) (v : code.Value) (result : Wrote)
+      → IsWrittenIn e m x v result late → (n : ℕ) → IsLikeScope (scope_in e n) (scope_in late n)
+  pub stays_set : (e late : Scopes) (m : ℕ) (x : List ℕ) (v : code.Value)
+      → IsInitialised e m x v late → (n : ℕ) → IsLikeScope (scope_in e n) (scope_in late n)

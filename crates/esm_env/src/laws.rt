@@ -1,5 +1,5 @@
 //! Laws of the definitions, each the contract of a function without effect.
-ghost use Rattle.esm_env.specs.Laws.{ReadsOne, BeginsUnset, ReadsRight, MadeFits};
+ghost use Rattle.esm_env.specs.Laws.{ReadsOne, BeginsUnset, ReadsRight, WritesRight, MadeFits};
 
 /// An import is bound to one thing at most, and a name, and a member of a namespace, reads as one thing.
 pub fn one_reading()
@@ -20,4 +20,10 @@ pub fn reads_right()
 /// A scope that was made from a tree has the names that the tree declares, each as the tree says that it begins.
 pub fn made_fits()
     ensures { MadeFits }
+{}
+
+/// Over such scopes, what a write comes to is the writing of the name, what a declaration sets is its cell, and the scopes
+/// fit as before.
+pub fn writes_right()
+    ensures { WritesRight }
 {}
