@@ -8,3 +8,6 @@ pub mod Fits
 pub mod Bodies
 pub mod Laws
 pub mod Examples
+pub mod Importers
+pub mod Inner
+pub mod View

@@ -1,4 +1,13 @@
-//! Bodies of modules: statements, calls and awaits. So far the definitions and their laws.
+//! Bodies of modules: statements, scopes, calls, awaits, and what starts, runs and resumes a body.
 #![tactic(auto)]
 
+mod engine;
+mod importer;
+mod inside;
 pub mod laws;
+mod log;
+mod work;
+
+pub use engine::{Engine, Event};
+pub use importer::{Importer, Outer};
+pub use log::{Log, Stop};

@@ -4,7 +4,8 @@ use Rattle.std.specs.Prelude.{is_some}
 use Rattle.esm_values.specs.Value.{Value}
 use Rattle.esm_promise.specs.Reactions.{Reaction}
 use Rattle.esm_promise.specs.Promises.{Promise, Pending, Done, Job, job, Settled, Fulfilled, Promises, make, make_fulfilled, first_job, register, register_by, settle, settled, settled_by, triggered, is_pending, is_pending_by}
-use Rattle.esm_promise.specs.Laws.{Numbered, AreSettled, StaysSettled, SettlesOnce, JobsAreOfSettled}
+use Rattle.esm_promise.specs.Code.{Numbered}
+use Rattle.esm_promise.specs.Laws.{AreSettled, StaysSettled, SettlesOnce, JobsAreOfSettled}
 
 abbrev Row : Type 0
 Row = Promise (Reaction ℕ) (Value ℕ)

@@ -2,11 +2,8 @@
 use Rattle.std.specs.Prelude.{◌≡◌, ⊤, ℕ, true, List, [], ◌∷◌, ◌++◌, map, slice_get, is_some, Option, Some, None}
 use Rattle.esm_values.specs.Value.{Value}
 use Rattle.esm_promise.specs.Reactions.{Reaction}
-use Rattle.esm_promise.specs.Promises.{Promises, Pending, Done, Job, job, Settled, Fulfilled, no_promises, next_promise, make, make_fulfilled, register, settle, next_job, settled, is_pending}
-
--- promises of modules with numbers
-abbrev pub Numbered : Type 0
-Numbered = Promises (Reaction ℕ) (Value ℕ)
+use Rattle.esm_promise.specs.Code.{Numbered}
+use Rattle.esm_promise.specs.Promises.{Pending, Done, Job, job, Settled, Fulfilled, no_promises, next_promise, make, make_fulfilled, register, settle, next_job, settled, is_pending}
 
 -- each job is that of a settled promise, so there is a result that it is given
 abbrev pub AreSettled : Numbered → List (Job (Reaction ℕ)) → Type 0

@@ -1,5 +1,6 @@
-//! Laws of the definitions, each the contract of a function without effect.
+// Laws of the definitions, as functions without effect.
 ghost use Rattle.esm_promise.specs.Laws.{SettlesOnce, JobsAreOfSettled, MadePending, JobsAreInOrder};
+ghost use Rattle.esm_promise.specs.Renaming.{FollowsNames};
 
 /// What is settled stays settled as it is, whatever is made, registered, or settled besides.
 pub fn settles_once()
@@ -20,4 +21,20 @@ pub fn made_pending()
 /// others; one at once by a reaction on a settled one; and one for each reaction, in order, by the settling of a promise.
 pub fn jobs_are_in_order()
     ensures { JobsAreInOrder }
+{}
+
+/// What the numbers of modules name.
+pub trait Naming {
+    ghost use Rattle.std.specs.Prelude.{ℕ};
+
+    /// What names a module.
+    type Name;
+
+    /// The name of the module with a number.
+    ghost name: { ℕ → Self.Name };
+}
+
+/// What is done to promises whose modules are renamed is what was done to them before, renamed.
+pub fn follows_names<A: Naming>()
+    ensures { FollowsNames A.name }
 {}

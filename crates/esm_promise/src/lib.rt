@@ -2,3 +2,10 @@
 #![tactic(auto)]
 
 pub mod laws;
+mod promises;
+mod reaction;
+#[cfg(test)]
+mod tests;
+
+pub use promises::Promises;
+pub use reaction::{Reaction, ReactionKind, Settled};

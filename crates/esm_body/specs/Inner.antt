@@ -1,0 +1,4 @@
+pub mod Contexts
+pub mod Log
+pub mod Stack
+pub mod World
