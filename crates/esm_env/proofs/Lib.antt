@@ -6,3 +6,5 @@ pub mod MakesLemmas
 pub mod MadeLemmas
 pub mod OneRead
 pub mod WrittenLemmas
+pub mod LocalLemmas
+pub mod FunctionLemmas

@@ -1,19 +1,20 @@
 -- Laws of the definitions, over modules with numbers.
-use Rattle.std.specs.Prelude.{◌≡◌, ℕ, nat_eq, Bool, List, Option, Some}
+use Rattle.std.specs.Prelude.{◌≡◌, ℕ, nat_eq, Bool, List, Contains, Option, Some, None}
 use Rattle.esm_tree.specs.Syntax.{Item}
 use Rattle.esm_base.specs.declared.module_id.ModuleId.{ModuleId}
 use Rattle.esm_values.specs.Value.{Value, Func}
 use Rattle.esm_values.specs.Code.{CodeValue, value_of}
 use Rattle.esm_values.specs.declared.value.Value as code
 use Rattle.esm_env.specs.Declarations.{Unset, FunctionAt, initial}
-use Rattle.esm_env.specs.Modules.{Modules}
+use Rattle.esm_ast.specs.declared.entries.LocalExport.{LocalExport}
+use Rattle.esm_env.specs.Modules.{Modules, entries}
 use Rattle.esm_env.specs.Cells.{Cell, Cells, no_cells, write_cell, Reading}
 use Rattle.esm_env.specs.Cells.{Reading as reading}
-use Rattle.esm_env.specs.Bindings.{Target, Binds}
-use Rattle.esm_env.specs.Reading.{IsReadingOf, IsMemberOf}
+use Rattle.esm_env.specs.Bindings.{Target, Binds, own_by}
+use Rattle.esm_env.specs.Reading.{IsReadingOf, IsMemberOf, read_member}
 use Rattle.esm_env.specs.Writing.{writing_of}
 use Rattle.esm_env.specs.Slots.{slot_in}
-use Rattle.esm_env.specs.Scopes.{Scopes, scope_in, own_cell, import_of, cells_of, read_in}
+use Rattle.esm_env.specs.Scopes.{Scopes, scope_in, own_cell, import_of, cells_of, read_in, read_end_in, defined}
 use Rattle.esm_env.specs.Calls.{IsWrittenIn, IsInitialised, told_write}
 use Rattle.esm_env.specs.Makes.{slots_for}
 use Rattle.esm_env.specs.Faithful.{IsFaithful, HasScope, HasImports, IsLikeScope, SlotFits}
@@ -65,3 +66,9 @@ pub record WritesRight : Type 0 where
       → IsWrittenIn e m x v result late → (n : ℕ) → IsLikeScope (scope_in e n) (scope_in late n)
   pub stays_set : (e late : Scopes) (m : ℕ) (x : List ℕ) (v : code.Value)
       → IsInitialised e m x v late → (n : ℕ) → IsLikeScope (scope_in e n) (scope_in late n)
+
+-- what the code reads at the end of a resolution, a local export of a module that has a scope, is the member
+abbrev pub EndsRight : Type 0
+EndsRight = (g : Modules ℕ) (e : Scopes) (m : ℕ) (s : ModuleScope) (l : LocalExport)
+    → IsFaithful g e → scope_in e m ≡ Some s → HasScope e (import_of (scope_in e m) l.local) → Contains (entries g m).locals l
+    → defined (read_end_in e m l.local) ≡ read_member g (cells_of e) (own_by g m l.local (initial (g.tree m) l.local))

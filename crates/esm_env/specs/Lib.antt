@@ -5,6 +5,7 @@ pub mod Bindings
 pub mod Reading
 pub mod Writing
 pub mod NamePlaces
+pub mod FunctionPlaces
 pub mod Slots
 pub mod Scopes
 pub mod Calls

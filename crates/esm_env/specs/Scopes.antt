@@ -2,6 +2,7 @@
 use Rattle.std.specs.Prelude.{◌≡◌, ℕ, zero, suc, Bool, true, false, List, [], ◌∷◌, Option, Some, None, is_some}
 use Rattle.std.specs.Borrow.{Bor}
 use Rattle.std.specs.Str.{bytes_eq}
+use Rattle.esm_values.specs.Value.{Undefined}
 use Rattle.esm_values.specs.Code.{CodeValue, value_of}
 use Rattle.esm_values.specs.declared.value.Value.{Value}
 use Rattle.esm_env.specs.Cells.{Cell, Cells, Reading, read_cell}
@@ -103,3 +104,19 @@ read_or None later = later
 -- a name of the module, or of where its import is bound
 abbrev pub read_in : Scopes → ℕ → List ℕ → Reading CodeValue
 read_in e m x = read_or (own_cell e m x) (read_import e (import_of (scope_in e m) x))
+
+-- the namespace that an import is bound to as a whole
+abbrev pub read_whole : Scopes → Option Target → Reading CodeValue
+read_whole e None = reading.Undeclared
+read_whole e (Some (targets.Cell m y)) = reading.Undeclared
+read_whole e (Some (targets.Whole m)) = whole_of (scope_in e m.0)
+
+-- a name of the module as the end of a resolution: its own, or a namespace that it imports as a whole
+abbrev pub read_end_in : Scopes → ℕ → List ℕ → Reading CodeValue
+read_end_in e m x = read_or (own_cell e m x) (read_whole e (import_of (scope_in e m) x))
+
+-- a member of a namespace that denotes nothing is undefined
+abbrev pub defined : Reading CodeValue → Reading CodeValue
+defined (reading.Value v) = reading.Value v
+defined reading.Unset = reading.Unset
+defined reading.Undeclared = reading.Value Undefined

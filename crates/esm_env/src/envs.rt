@@ -2,7 +2,7 @@
 ghost use Rattle.std.specs.Prelude.{◌≡◌, ◌<◌, ◌^◌, ℕ, [], length, OnOk, OnErr};
 ghost use Rattle.std.specs.Arc.{arc_value};
 ghost use Rattle.esm_env.specs.Makes.{IsMade, OthersStay};
-ghost use Rattle.esm_env.specs.Scopes.{read_in, scope_in};
+ghost use Rattle.esm_env.specs.Scopes.{read_in, read_end_in, whole_of, scope_in};
 ghost use Rattle.esm_env.specs.Calls.{told_read, read_own, IsScope, IsTarget, IsWrittenIn, IsInitialised, scopes_of};
 ghost use Rattle.esm_env.specs.Cells.{read_cell};
 ghost use Rattle.esm_env.specs.Slots.{slot_in, cell_in};
@@ -102,12 +102,37 @@ impl Envs {
             Read::Unset => Read::Unset,
             Read::Undeclared => match self.import(m, name) {
                 Some(Target::Cell(of, local)) => self.read_own(*of, local.as_str()),
-                Some(Target::Whole(of)) => match self.scope(*of) {
-                    Some(scope) => Read::Value(&scope.namespace),
-                    None => Read::Undeclared,
-                },
+                Some(Target::Whole(of)) => self.read_namespace(*of),
                 None => Read::Undeclared,
             },
+        }
+    }
+
+    /// Reads a name of a module at which a resolution ends: its own, or the namespace that it imports as a whole. It
+    /// doesn't allocate.
+    ///
+    /// ECMA-262, ResolvedBinding Records.
+    pub fn read_end(&self, m: ModuleId, name: &str) -> Read<'_>
+        ensures { told_read result ≡ read_end_in (scopes_of self.now) m.0 name.now }
+    {
+        match self.read_own(m, name) {
+            Read::Value(value) => Read::Value(value),
+            Read::Unset => Read::Unset,
+            Read::Undeclared => match self.import(m, name) {
+                Some(Target::Whole(of)) => self.read_namespace(*of),
+                Some(Target::Cell(_, _)) => Read::Undeclared,
+                None => Read::Undeclared,
+            },
+        }
+    }
+
+    /// The namespace of a module, as a value.
+    fn read_namespace(&self, m: ModuleId) -> Read<'_>
+        ensures { told_read result ≡ whole_of (scope_in (scopes_of self.now) m.0) }
+    {
+        match self.scope(m) {
+            Some(scope) => Read::Value(&scope.namespace),
+            None => Read::Undeclared,
         }
     }
 

@@ -1,5 +1,5 @@
 //! Laws of the definitions, each the contract of a function without effect.
-ghost use Rattle.esm_env.specs.Laws.{ReadsOne, BeginsUnset, ReadsRight, WritesRight, MadeFits};
+ghost use Rattle.esm_env.specs.Laws.{ReadsOne, BeginsUnset, ReadsRight, EndsRight, WritesRight, MadeFits};
 
 /// An import is bound to one thing at most, and a name, and a member of a namespace, reads as one thing.
 pub fn one_reading()
@@ -26,4 +26,9 @@ pub fn made_fits()
 /// fit as before.
 pub fn writes_right()
     ensures { WritesRight }
+{}
+
+/// Over such scopes, what is read where a resolution ends is the member of the namespace that is asked for.
+pub fn ends_right()
+    ensures { EndsRight }
 {}

@@ -2,6 +2,7 @@
 #![tactic(auto)]
 
 mod envs;
+mod functions;
 mod index;
 pub mod laws;
 mod lookups;

@@ -4,6 +4,7 @@ ghost use Rattle.esm_env.specs.Scopes.{IsImport, IsWritten, StaysOrWrites};
 ghost use Rattle.esm_env.specs.Slots.{IsPlace};
 ghost use Rattle.esm_env.specs.declared.scope.Wrote.TheVariants as wrote;
 
+use crate::functions::function_places;
 use crate::index::{import_places, slot_places};
 use crate::scope::{ModuleScope, Target, Wrote};
 use crate::slots::{Slot, is_set, write_at};
@@ -29,6 +30,7 @@ impl ModuleScope {
     {
         let slot_places = slot_places(alloc, slots.as_slice())?;
         let import_places = import_places(alloc, imports.as_slice())?;
+        let functions = function_places(alloc, &tree)?;
         let scope = ModuleScope {
             namespace: Value::Namespace(m),
             tree,
@@ -36,6 +38,7 @@ impl ModuleScope {
             imports,
             slot_places,
             import_places,
+            functions,
         };
         Ok(scope)
     }

@@ -72,6 +72,13 @@ impl Errors {
         Ok(id)
     }
 
+    /// How many error values were made: their ids are below it. It doesn't allocate.
+    pub fn len(&self) -> u64
+        ensures { result ≡ length self.now }
+    {
+        self.made.len() as u64
+    }
+
     /// What is known of an error value that was made. It doesn't allocate.
     pub fn fault(&self, id: ErrorId) -> &Fault
         requires { id.0 < length self.now }
