@@ -19,3 +19,4 @@ pub mod SomeMove
 pub mod SomeSegment
 pub mod SomeBody
 pub mod Outcomes
+pub mod LevelNames

@@ -42,13 +42,13 @@ module _ {I : Type 0} (modules : I → Modules ℕ) (linked : I → ℕ → Bool
 
   -- what was linked and known is so still, and scopes are those of the modules still
   pub record KeepsModules (o after : Outer ℕ I) : Type 0 where
-    pub fits : fits after
+    pub whole : fits after
     pub keeps : (v : Value ℕ) → IsKnown (modules o.imports) (linked o.imports) v → IsKnown (modules after.imports) (linked after.imports) v
     pub scopes : (e : Scopes) → AreScopesOf (modules o.imports) (linked o.imports) e → AreScopesOf (modules after.imports) (linked after.imports) e
 
   -- what bodies rely on: what fits stays so by all that bodies do to promises and errors, and import() has one outcome
   pub record IsLawful : Type 0 where
-    pub linked : (o : Outer ℕ I) → fits o → AreLinked (modules o.imports) (linked o.imports)
+    pub links : (o : Outer ℕ I) → fits o → AreLinked (modules o.imports) (linked o.imports)
     pub errors : (o : Outer ℕ I) (es : Errors) → fits o → fits (record o { errors = es })
     pub makes : (o : Outer ℕ I) → fits o → fits (record o { promises = make o.promises [] })
     pub settles : (o : Outer ℕ I) (p : ℕ) (how : Settled (Value ℕ)) → Holds (IsKnown (modules o.imports) (linked o.imports)) ⊥ (given_by how)

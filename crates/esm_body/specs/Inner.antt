@@ -2,3 +2,5 @@ pub mod Contexts
 pub mod Log
 pub mod Stack
 pub mod World
+pub mod Names
+pub mod Displayed

@@ -13,6 +13,7 @@ use std::alloc::Global;
 pub trait Importer: ExportGraph + Drop {
     ghost use Rattle.std.specs.Prelude.{◌≡◌, ℕ, Bool, List};
     ghost use Rattle.esm_env.specs.Modules.{Modules};
+    ghost use Rattle.esm_resolve.specs.Graph.{AreAllSound};
     ghost use Rattle.esm_promise.specs.Outer.{Outer};
     ghost use Rattle.std.specs.Prelude.{Result};
     ghost use Rattle.esm_base.specs.declared.limits.Limit.{Limit};
@@ -51,6 +52,9 @@ pub trait Importer: ExportGraph + Drop {
 
     /// Exports are resolved over the modules.
     ghost same_graph: { (i : Self) → IsGraphOf (modules i) (Self.graph i) };
+
+    /// Exports can be resolved from each module.
+    ghost sound: { (i : Self) → AreAllSound (Self.graph i) };
 
     /// What bodies rely on.
     ghost lawful: { IsLawful modules linked fits begins };

@@ -1,12 +1,17 @@
 //! Bodies of modules: statements, scopes, calls, awaits, and what starts, runs and resumes a body.
 #![tactic(auto)]
 
+mod displays;
 mod engine;
 mod importer;
+mod imports;
 mod inside;
 pub mod laws;
 mod log;
+mod members;
+mod names;
 mod work;
+mod world;
 
 pub use engine::{Engine, Event};
 pub use importer::{Importer, Outer};

@@ -1,6 +1,6 @@
 -- Promises that are made are there; jobs are added at the end, and taken from the front.
 use Rattle.std.proofs.Common.{◌≡◌, ℕ, zero, suc, List, [], ◌∷◌, ◌++◌, length, slice_get, slice_set, refl, ap, ◌∙◌}
-use Rattle.std.specs.Prelude.{Option, Some, None}
+use Rattle.std.specs.Prelude.{Some}
 use Rattle.esm_values.specs.Value.{Value}
 use Rattle.esm_promise.specs.Reactions.{Reaction}
 use Rattle.esm_promise.specs.Promises.{Promise, Pending, Done, Fulfilled, register_by, triggered, first_job, settled_by}

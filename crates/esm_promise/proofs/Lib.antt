@@ -1,3 +1,4 @@
 pub mod Settling
 pub mod InOrder
 pub mod Renamed
+pub mod Queue

@@ -5,8 +5,8 @@ use Rattle.std.proofs.lemmas.List.{map-append}
 use Rattle.std.proofs.lemmas.Option.{slice_get-map}
 use Rattle.esm_values.specs.Value.{Value}
 use Rattle.esm_promise.specs.Reactions.{Reaction}
-use Rattle.esm_promise.specs.Promises.{Promise, Pending, Done, Job, job, Settled, Promises, make, make_fulfilled, first_job, next_job, register, register_by, settle, settled, settled_by, triggered, is_pending, is_pending_by}
-use Rattle.esm_promise.specs.Renaming.{renamed_value, renamed_reaction, renamed_settled, renamed_promise, renamed_job, renamed, renamed_taken, FollowsNames}
+use Rattle.esm_promise.specs.Promises.{Promise, Pending, Done, Job, job, Settled, Promises, first_job, register, register_by, settle, settled_by, triggered, is_pending_by}
+use Rattle.esm_promise.specs.Renaming.{renamed_reaction, renamed_settled, renamed_promise, renamed_job, renamed, renamed_taken, FollowsNames}
 
 longer : {A B : Type 0} (f : A → B) (xs : List A) → length (map f xs) ≡ length xs
 longer f [] = refl
@@ -49,7 +49,7 @@ module _ {M N : Type 0} (name : M → N) where
   settle_follows : (ps : Before) (p : ℕ) (how : Settled (Value M)) → renamed name (settle ps p how) ≡ settle (renamed name ps) p (renamed_settled name how)
   settle_follows ps p how =
       let jobs : map (renamed_job name) (ps.jobs ++ triggered p (slice_get ps.all p)) ≡ map (renamed_job name) ps.jobs ++ triggered p (slice_get (map (renamed_promise name) ps.all) p) =
-          map-append (renamed_job name) ps.jobs _ ∙ ap (λ js. map (renamed_job name) ps.jobs ++ js) (triggers p (slice_get ps.all p) ∙ ap (triggered p) (sym (slice_get-map (renamed_promise name) ps.all p))) in
+      map-append (renamed_job name) ps.jobs _ ∙ ap (λ js. map (renamed_job name) ps.jobs ++ js) (triggers p (slice_get ps.all p) ∙ ap (triggered p) (sym (slice_get-map (renamed_promise name) ps.all p))) in
       ap (λ all. record { all = all; jobs = map (renamed_job name) (ps.jobs ++ triggered p (slice_get ps.all p)) }) (set_there (renamed_promise name) ps.all p (Done how))
       ∙ ap (λ js. record { all = slice_set (map (renamed_promise name) ps.all) p (Done (renamed_settled name how)); jobs = js }) jobs
 

@@ -3,7 +3,7 @@ use Rattle.std.proofs.Common.{◌≡◌, ℕ, zero, suc, true, List, [], ◌∷�
 use Rattle.std.specs.Prelude.{is_some}
 use Rattle.esm_values.specs.Value.{Value}
 use Rattle.esm_promise.specs.Reactions.{Reaction}
-use Rattle.esm_promise.specs.Promises.{Promise, Pending, Done, Job, job, Settled, Fulfilled, Promises, make, make_fulfilled, first_job, register, register_by, settle, settled, settled_by, triggered, is_pending, is_pending_by}
+use Rattle.esm_promise.specs.Promises.{Promise, Pending, Done, Job, job, Settled, Fulfilled, make, make_fulfilled, first_job, register, register_by, settle, settled, settled_by, triggered, is_pending, is_pending_by}
 use Rattle.esm_promise.specs.Code.{Numbered}
 use Rattle.esm_promise.specs.Laws.{AreSettled, StaysSettled, SettlesOnce, JobsAreOfSettled}
 

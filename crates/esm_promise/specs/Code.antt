@@ -1,5 +1,5 @@
 -- The code's reactions, results, promises and jobs as those of the language, whose modules have numbers.
-use Rattle.std.specs.Prelude.{◌≡◌, ℕ, List, map, length, sum_by, Option, Some, None}
+use Rattle.std.specs.Prelude.{◌≡◌, ℕ, Option, Some, None}
 use Rattle.std.specs.Option.{option_map, option_copied}
 use Rattle.std.specs.Borrow.{Bor}
 use Rattle.esm_values.specs.Value.{Value}

@@ -1,5 +1,5 @@
 -- Modules by other names: what the numbers of modules name, in values, reactions and promises.
-use Rattle.std.specs.Prelude.{◌≡◌, ℕ, List, [], map, Option, Some, None}
+use Rattle.std.specs.Prelude.{◌≡◌, ℕ, List, map}
 use Rattle.std.specs.Option.{option_map}
 use Rattle.esm_values.specs.Value as value
 use Rattle.esm_values.specs.Value.{Value}

@@ -4,7 +4,7 @@ ghost use Rattle.std.specs.VecDeque.{deque_len, deque_capacity};
 ghost use Rattle.esm_values.specs.Code.{value_of};
 ghost use Rattle.esm_promise.specs.Promises as spec;
 ghost use Rattle.esm_promise.specs.Code.{reaction_of, settled_of, told, IsTaken};
-ghost use Rattle.esm_promise.specs.Inner.Queue.{jobs_for};
+ghost use Rattle.esm_promise.specs.Inner.Queue.{jobs_for, AddsReaction};
 
 use crate::reaction::{Reaction, Settled};
 use esm_base::Memory;
@@ -122,15 +122,17 @@ impl Promises {
         }
         self.jobs.reserve(self.waiting + 1)?;
         let Promises { all, jobs, waiting } = self;
-        match &mut all[at] {
-            Promise::Pending(reactions) => {
-                reactions.push(reaction)?;
-                *waiting += 1;
-            }
-            Promise::Done(_how) => jobs.push_back_reserved(Job {
+        let added = match add_reaction(&mut all[at], reaction) {
+            Ok(added) => added,
+            Err(end) => return Err(end),
+        };
+        if added {
+            *waiting += 1;
+        } else {
+            jobs.push_back_reserved(Job {
                 reaction,
                 promise: on,
-            }),
+            });
         }
         Ok(())
     }
@@ -196,6 +198,19 @@ impl Promises {
         } else {
             false
         }
+    }
+}
+
+/// Adds a reaction to a promise, unless it is settled. Tells whether it was added.
+fn add_reaction(promise: &mut Promise, reaction: Reaction) -> Result<bool, Memory>
+    ensures { AddsReaction promise.old reaction result promise.new }
+{
+    match promise {
+        Promise::Pending(reactions) => {
+            reactions.push(reaction)?;
+            Ok(true)
+        }
+        Promise::Done(_how) => Ok(false),
     }
 }
 

@@ -1,5 +1,6 @@
 -- What is kept of promises, and how many reactions wait.
-use Rattle.std.specs.Prelude.{ℕ, List, map, length, sum_by}
+use Rattle.std.specs.Prelude.{◌≡◌, ℕ, Bool, true, false, List, [], ◌∷◌, ◌++◌, map, length, Result, Ok, Err}
+use Rattle.esm_base.specs.declared.memory.Memory.{Memory}
 use Rattle.esm_values.specs.Value.{Value}
 use Rattle.esm_values.specs.declared.value.PromiseId.{PromiseId}
 use Rattle.esm_promise.specs.Reactions as reaction
@@ -28,3 +29,19 @@ waiting (kept.Done how) = 0
 -- the jobs of reactions to a promise
 abbrev pub jobs_for : PromiseId → List Reaction → List Job
 jobs_for p rs = map (λ r. record { reaction = r; promise = p }) rs
+
+-- a promise with one reaction more
+abbrev pub HasAdded : Promise → Reaction → Promise → Type 0
+HasAdded (kept.Pending rs) r (kept.Pending ss) = ss.items ≡ rs.items ++ r ∷ []
+HasAdded (kept.Pending rs) r (kept.Done how) = ⊥
+HasAdded (kept.Done how) r new = ⊥
+
+abbrev pub IsDone : Promise → Type 0
+IsDone (kept.Pending rs) = ⊥
+IsDone (kept.Done how) = Unit {0}
+
+-- a reaction is added to a promise that is pending, and a settled one stays as it is
+abbrev pub AddsReaction : Promise → Reaction → Result Bool Memory → Promise → Type 0
+AddsReaction old r (Ok true) new = HasAdded old r new
+AddsReaction old r (Ok false) new = IsDone old × (new ≡ old)
+AddsReaction old r (Err end) new = promise_of new ≡ promise_of old
