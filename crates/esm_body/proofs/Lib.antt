@@ -20,3 +20,8 @@ pub mod SomeSegment
 pub mod SomeBody
 pub mod Outcomes
 pub mod LevelNames
+pub mod Alike
+pub mod Levels
+pub mod Moved
+pub mod Led
+pub mod Follows

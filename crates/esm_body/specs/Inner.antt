@@ -4,3 +4,4 @@ pub mod Stack
 pub mod World
 pub mod Names
 pub mod Displayed
+pub mod Chains
