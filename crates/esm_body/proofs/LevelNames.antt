@@ -153,9 +153,9 @@ place_first (s ∷ ss) (suc at) x d h n e =
 place_no_by : (b : Bool) (o : Option ℕ) → b ≡ false → o ≡ None → (if b then Some 0 else option_map suc o) ≡ None
 place_no_by b o e h = rw (e, h) refl
 
-pub place_no : (slots : List Slot) (x : List ℕ) (d : Slot) → NoneBefore slots (length slots) x → slot_place slots x ≡ None
-place_no [] x d n = refl
-place_no (s ∷ ss) x d n = place_no_by (bytes_eq s.name x) (slot_place ss x) (n 0 (omega arith) d) (place_no ss x d (λ i lt d. n (suc i) (omega (arith, lt)) d))
+pub place_no : (slots : List Slot) (x : List ℕ) → NoneBefore slots (length slots) x → slot_place slots x ≡ None
+place_no [] x n = refl
+place_no (s ∷ ss) x n = place_no_by (bytes_eq s.name x) (slot_place ss x) (n 0 (omega arith) s) (place_no ss x (λ i lt d. n (suc i) (omega (arith, lt)) d))
 
 pub none_more : (slots : List Slot) (at : ℕ) (x : List ℕ) → NoneBefore slots at x → ((d : Slot) → bytes_eq (get_or slots at d).name x ≡ false) → NoneBefore slots (at + 1) x
 none_more slots at x n e i lt d = by (borrow_cases i at lt)

@@ -25,3 +25,5 @@ pub mod Levels
 pub mod Moved
 pub mod Led
 pub mod Follows
+pub mod Asked
+pub mod Shown

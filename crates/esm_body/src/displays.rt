@@ -4,7 +4,7 @@ ghost use Rattle.esm_env.specs.Calls.{scopes_of};
 ghost use Rattle.esm_tree.specs.Flat.{item_of};
 ghost use Rattle.esm_values.specs.Code.{value_of, values_of};
 ghost use Rattle.esm_values.specs.Errors as spec;
-ghost use Rattle.esm_body.specs.Inner.Displayed.{IsFunctionText, IsKeys, IsShown, AreShown, IsSpecifier, item_name, name_told};
+ghost use Rattle.esm_body.specs.Inner.Displayed.{IsKeys, IsShown, AreShown, IsSpecifier, item_name, name_told};
 
 use crate::importer::Importer;
 use esm_base::{Memory, ModuleId, Text};
@@ -54,7 +54,8 @@ fn function_name(envs: &Envs, id: FuncId) -> &str
 fn shown_error(alloc: Global, errors: &Errors, id: ErrorId) -> Result<Text, Memory>
     ensures { IfOk result (λ text. text ≡ spec.error_text errors.now id.0) }
 {
-    if id.0 < errors.len() {
+    let at = id.0;
+    if at < errors.len() {
         error_text(alloc, errors, id)
     } else {
         Text::copy(alloc, "")
@@ -66,8 +67,8 @@ fn keys_of<I: Importer>(alloc: Global, imports: &I, m: ModuleId) -> Result<Vec<T
     ensures { IfOk result (λ keys. IsKeys (I.modules imports.now) (I.linked imports.now) m.0
         keys.items) }
 {
-    esm_resolve::laws::shared_set();
-    if m.0 < imports.size() {
+    let at = m.0;
+    if at < imports.size() {
         namespace_keys(alloc, imports, m)
     } else {
         Ok(Vec::new(alloc))

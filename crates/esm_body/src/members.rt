@@ -59,7 +59,8 @@ fn read_member<I: Importer>(
         (scopes_of envs.now) m.0 name.now (found_reading found)) }
 {
     esm_env::laws::ends_right();
-    if m.0 < imports.size() {
+    let at = m.0;
+    if at < imports.size() {
         let resolution = resolve_export(alloc, imports, m, name)?;
         read_resolved(envs, resolution)
     } else {
@@ -91,7 +92,8 @@ fn error_member_of(
 fn error_message(alloc: Global, errors: &Errors, id: ErrorId) -> Result<RcText, Memory>
     ensures { IfOk result (λ text. text ≡ spec.error_message errors.now id.0) }
 {
-    if id.0 < errors.len() {
+    let at = id.0;
+    if at < errors.len() {
         let text = errors.fault(id).message.clone()?;
         Ok(text)
     } else {
@@ -103,7 +105,8 @@ fn error_message(alloc: Global, errors: &Errors, id: ErrorId) -> Result<RcText, 
 fn error_name(alloc: Global, errors: &Errors, id: ErrorId) -> Result<RcText, Memory>
     ensures { IfOk result (λ text. text ≡ spec.error_name errors.now id.0) }
 {
-    if id.0 < errors.len() {
+    let at = id.0;
+    if at < errors.len() {
         RcText::copy(alloc, kind_name(errors.fault(id).kind))
     } else {
         RcText::copy(alloc, "")

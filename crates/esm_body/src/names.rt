@@ -24,7 +24,7 @@ pub(crate) enum Found {
 
 /// What is read, owned.
 pub(crate) fn owned(read: Read<'_>) -> Result<Found, Memory>
-    ensures { IfOk result (λ found. found_reading found ≡ told_read read) }
+    ensures { IfOk result (λ found. found_reading found ≡ told_read read.entry) }
 {
     match read {
         Read::Value(value) => {
