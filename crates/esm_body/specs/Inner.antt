@@ -5,3 +5,4 @@ pub mod World
 pub mod Names
 pub mod Displayed
 pub mod Chains
+pub mod Written

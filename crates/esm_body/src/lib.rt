@@ -12,6 +12,7 @@ mod members;
 mod names;
 mod work;
 mod world;
+mod writes;
 
 pub use engine::{Engine, Event};
 pub use importer::{Importer, Outer};

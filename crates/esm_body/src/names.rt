@@ -37,7 +37,7 @@ pub(crate) fn owned(read: Read<'_>) -> Result<Found, Memory>
 }
 
 /// The place of a name among those of a block.
-fn place(slots: &[Slot], name: &str) -> Option<usize>
+pub(crate) fn place(slots: &[Slot], name: &str) -> Option<usize>
     ensures { IsSlotPlace slots.now name.now result }
 {
     for at in 0..slots.len() {
