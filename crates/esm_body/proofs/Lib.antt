@@ -19,6 +19,7 @@ pub mod SomeMove
 pub mod SomeSegment
 pub mod SomeBody
 pub mod Outcomes
+pub mod LevelNames
 pub mod Alike
 pub mod Levels
 pub mod Moved
@@ -35,3 +36,5 @@ pub mod NamedMoves
 pub mod NamedBodies
 pub mod FitOutcomes
 pub mod LawfulFits
+pub mod Asked
+pub mod Shown

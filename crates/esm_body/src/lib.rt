@@ -3,13 +3,19 @@
 
 mod blocks;
 mod catching;
+mod displays;
 mod engine;
 mod importer;
+mod imports;
 mod inside;
 pub mod laws;
 mod log;
 mod scopes;
+mod members;
+mod names;
 mod work;
+mod world;
+mod writes;
 
 pub use engine::{Engine, Event};
 pub use importer::{Importer, Outer};
