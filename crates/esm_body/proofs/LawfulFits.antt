@@ -13,7 +13,7 @@ use Rattle.esm_body.specs.State.{State, Importing}
 use Rattle.esm_body.specs.Bodies.{StartsBody, RunsBody, ResumesBody, given_by}
 use Rattle.esm_body.specs.Fits.{Knows, FitsState, StaysFit}
 use Rattle.esm_body.specs.Importers.{IsLawful}
-use Rattle.esm_body.proofs.LinkedRead.{linked_read}
+use Rattle.esm_body.proofs.Lawful.{begins_some, begins_one}
 use Rattle.esm_body.proofs.OneAct.{BeginsOne}
 use Rattle.esm_body.proofs.SomeAct.{BeginsSome}
 use Rattle.esm_body.proofs.SomeBody.{RanKnown}
@@ -21,17 +21,10 @@ use Rattle.esm_body.proofs.FitOutcomes.{start_fits, run_fits, resume_fits}
 
 module _ {I : Type 0} (modules : I → Modules ℕ) (linked : I → ℕ → Bool) (fits : Outer ℕ I → Type 0) (begins : Importing ℕ I) (agrees : SharedSetAgrees) (ends : SharedSetEnds) (lawful : IsLawful modules linked fits begins) where
   pub lawful_one : BeginsOne begins
-  lawful_one = record { one = λ {o} {x} {y} {m} {text} {p} {r} {s} a b. lawful.one o x y m text p r s a b }
+  lawful_one = begins_one modules linked fits begins lawful
 
   pub lawful_some : BeginsSome modules linked fits begins
-  lawful_some = record {
-    readable = λ o f. linked_read (modules o.imports) (linked o.imports) agrees ends (lawful.links o f);
-    errors = lawful.errors;
-    makes = lawful.makes;
-    settles = lawful.settles;
-    awaits = lawful.awaits;
-    some = λ o m text p f. let s = lawful.some o m text p f in (s.0, (s.1.0, (s.1.1.0, (s.1.1.1.whole, s.1.1.1.keeps))));
-  }
+  lawful_some = begins_some modules linked fits begins lawful agrees ends
 
   abbrev W : Type 0
   W = State ℕ I

@@ -36,5 +36,4 @@ pub mod NamedMoves
 pub mod NamedBodies
 pub mod FitOutcomes
 pub mod LawfulFits
-pub mod Asked
 pub mod Shown

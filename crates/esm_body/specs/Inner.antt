@@ -6,4 +6,3 @@ pub mod Names
 pub mod Displayed
 pub mod Chains
 pub mod Slots
-pub mod Written

@@ -6,16 +6,12 @@ mod catching;
 mod displays;
 mod engine;
 mod importer;
-mod imports;
 mod inside;
 pub mod laws;
 mod log;
 mod scopes;
-mod members;
 mod names;
 mod work;
-mod world;
-mod writes;
 
 pub use engine::{Engine, Event};
 pub use importer::{Importer, Outer};
