@@ -1,5 +1,5 @@
 -- What bodies ask of the world, and what is answered, follows the names of modules.
-use Rattle.std.proofs.Common.{◌≡◌, ℕ, ◌+◌, Bool, true, false, ◌&&◌, nat_eq, List, [], ◌∷◌, ◌++◌, map, Option, Some, None, refl, ap, subst, sym, ◌∙◌, length}
+use Rattle.std.proofs.Common.{◌≡◌, ℕ, ◌+◌, Bool, true, false, ◌&&◌, nat_eq, List, [], ◌∷◌, map, Option, Some, None, refl, ap, subst, sym, ◌∙◌, length}
 use Rattle.std.specs.Prelude.{Result, Ok, Err, nat_lt, codes}
 use Rattle.std.specs.Option.{option_map}
 use Rattle.std.specs.Str.{bytes_eq}
@@ -10,27 +10,27 @@ use Rattle.esm_tree.specs.Syntax.{Item}
 use Rattle.esm_values.specs.Value.{Value, Undefined, Truth, Text, Func, Error, Namespace, Promise}
 use Rattle.esm_values.specs.Errors.{Errors}
 use Rattle.esm_values.specs.Display.{printed_line, function_text}
-use Rattle.esm_values.specs.Completion.{Completion, Normal, Throw}
+use Rattle.esm_values.specs.Completion.{Completion, Normal}
 use Rattle.esm_values.specs.Acts.{Act, AnswerTo}
 use Rattle.esm_values.specs.Acts.{Act as act}
 use Rattle.esm_values.specs.Operators.{values, look_of, text_of}
 use Rattle.esm_values.specs.Value.{same_value}
-use Rattle.esm_values.specs.Naming.{Naming, renamed_value, mapped_completion, mapped_act, mapped_answer, mapped_result, LooksAlike, ActsFollow}
-use Rattle.esm_promise.specs.Promises.{Promises, Settled, Fulfilled, Rejected, make, settle, next_promise}
+use Rattle.esm_values.specs.Naming.{Naming, renamed_value, mapped_act, mapped_result, LooksAlike, ActsFollow}
+use Rattle.esm_promise.specs.Promises.{Promises, Rejected, make, settle, next_promise}
 use Rattle.esm_promise.specs.Reactions.{Reaction}
 use Rattle.esm_promise.specs.Renaming.{renamed}
 use Rattle.esm_promise.proofs.Renamed as promises
 use Rattle.esm_promise.specs.Outer.{Outer}
 use Rattle.esm_env.specs.Declarations.{function_at}
-use Rattle.esm_env.specs.Modules.{Modules, function_name, name_by}
-use Rattle.esm_env.specs.Cells.{Cell, Cells, Reading, read_cell}
+use Rattle.esm_env.specs.Modules.{Modules, name_by}
+use Rattle.esm_env.specs.Cells.{Cell, Reading}
 use Rattle.esm_env.specs.Cells.{Reading as reading}
 use Rattle.esm_env.specs.Writing.{Writing, writing_of}
 use Rattle.esm_env.specs.Writing.{Writing as writing}
-use Rattle.esm_env.specs.Naming.{AreNamed, renamed_cells, renamed_reading, renamed_writing, WritesFollow}
+use Rattle.esm_env.specs.Naming.{AreNamed, renamed_reading, renamed_writing, WritesFollow}
 use Rattle.esm_env.proofs.Named as env
 use Rattle.esm_body.specs.Scopes.{Scope, in_scopes}
-use Rattle.esm_body.specs.State.{State, Importing, Answered, take_steps, steps_by, add_line, line_by}
+use Rattle.esm_body.specs.State.{State, Importing, Answered, steps_by, add_line, line_by}
 use Rattle.esm_body.specs.Acts.{Inner, Displays, DisplaysAll, ReadsBy, ReadsMemberOf, BeginsBy, AnswersAct, Performs, modules_of, member_by, read_answer, over_scopes, import_answer, with_outer, refuse_import, set_at, write_in, write_name, scope_write, module_write}
 use Rattle.esm_body.specs.Naming.{mapped_scope, renamed_outer, renamed_state, ImportsFollow}
 use Rattle.esm_body.proofs.NamedRests.{of_cell, in_scopes_follow, set_follows, set_scopes_follow}
@@ -152,10 +152,11 @@ module _ {M N I J : Type 0} (names : Naming M N) (image : I → J) (same : M →
   members m w (Text u) x r p = ap (told (act.Member (Text u) x)) p
   members m w (Func n i) x r p = ap (told (act.Member (Func n i) x)) p
   members m w (Error e) x r p = ap (told (act.Member (Error e) x)) p ∙ (λ i. (Ok (Normal (members_by (bytes_eq x (codes "message")) (bytes_eq x (codes "name")) w.state.outer.errors e i)), ren_inner w))
-  members m w (Namespace n) x r p =
-      (renamed_reading names p.0,
-      ((env.follows_names names same other).reads (modules_of modules w.state) (modules_of images (ren w.state)) (E w.state)).members w.state.cells n x p.0 p.1,
-      ap (told (act.Member (Namespace n) x)) p.2 ∙ read_told w x p.0)
+  members m w (Namespace n) x r p = (
+    renamed_reading names p.0,
+    ((env.follows_names names same other).reads (modules_of modules w.state) (modules_of images (ren w.state)) (E w.state)).members w.state.cells n x p.0 p.1,
+    ap (told (act.Member (Namespace n) x)) p.2 ∙ read_told w x p.0,
+  )
   members m w (Promise q) x r p = ap (told (act.Member (Promise q) x)) p
 
   -- ---- texts
@@ -217,20 +218,23 @@ module _ {M N I J : Type 0} (names : Naming M N) (image : I → J) (same : M →
       ap (told (act.Import v)) p
       ∙ (λ i. (Ok (Promise (next_is w.state.outer.promises i)), record (ren_inner w) { state = record (ren w.state) { outer = record { promises = refused w.state.outer.promises (Error (length w.state.outer.errors)) i; errors = (refuse_import w.state).outer.errors; imports = image w.state.outer.imports } } }))
   begins_by m w v (Some text) r p =
-      let b = imports _ p.1 m text (next_promise w.state.outer.promises) p.0 p.2 in
-      (p.0, renamed_outer names image p.1,
-      subst (λ (q : Promises (Reaction N) (Value N) × ℕ). others (record { promises = q.0; errors = w.state.outer.errors; imports = image w.state.outer.imports }) (names.name m) text q.1 p.0 (renamed_outer names image p.1))
-      (λ i. ((promises.follows_names names.name).makes w.state.outer.promises [] i, next_is w.state.outer.promises i)) b,
-      ap (told (act.Import v)) p.3 ∙ imported w v p.1 p.0)
+      let b = imports _ p.1 m text (next_promise w.state.outer.promises) p.0 p.2 in (
+        p.0,
+        renamed_outer names image p.1,
+        subst (λ (q : Promises (Reaction N) (Value N) × ℕ). others (record { promises = q.0; errors = w.state.outer.errors; imports = image w.state.outer.imports }) (names.name m) text q.1 p.0 (renamed_outer names image p.1))
+            (λ i. ((promises.follows_names names.name).makes w.state.outer.promises [] i, next_is w.state.outer.promises i)) b,
+        ap (told (act.Import v)) p.3 ∙ imported w v p.1 p.0,
+      )
 
   -- ---- calls on the world
 
   answers : (m : M) (w : Inner M I) (a : Act (Value M)) (r : Answered (AnswerTo a) (Inner M I)) → AnswersAct same modules begins m w a r
       → AnswersAct other images others (names.name m) (ren_inner w) (mapped_act V a) (told a r)
-  answers m w (act.Read x) r p =
-      (renamed_reading names p.0,
-      subst (λ o. ReadsBy other images others (names.name m) (ren w.state) x o (renamed_reading names p.0)) (sym (in_scopes_follow V w.scopes x)) (reads_by m w.state x (in_scopes w.scopes x) p.0 p.1),
-      ap (told (act.Read x)) p.2 ∙ read_told w x p.0)
+  answers m w (act.Read x) r p = (
+    renamed_reading names p.0,
+    subst (λ o. ReadsBy other images others (names.name m) (ren w.state) x o (renamed_reading names p.0)) (sym (in_scopes_follow V w.scopes x)) (reads_by m w.state x (in_scopes w.scopes x) p.0 p.1),
+    ap (told (act.Read x)) p.2 ∙ read_told w x p.0,
+  )
   answers m w (act.Member v x) r p = members m w v x r p
   answers m w (act.Display v) r p = (p.0, displays w.state v p.0 p.1, ap (told (act.Display v)) p.2)
   answers m w (act.Print vs) r p =

@@ -10,7 +10,7 @@ use Rattle.esm_values.specs.Value.{Value, Undefined, Truth, Text, Func, Error, N
 use Rattle.esm_values.specs.Ran.{Ran}
 use Rattle.esm_values.specs.Ran.{Ran as ran}
 use Rattle.esm_values.specs.Naming.{Naming}
-use Rattle.esm_promise.specs.Promises.{Promises, Settled, Fulfilled, Rejected, settle, register, make_fulfilled, next_promise}
+use Rattle.esm_promise.specs.Promises.{Promises, Settled, Fulfilled, Rejected, register, make_fulfilled, next_promise}
 use Rattle.esm_promise.specs.Reactions.{Reaction, Await}
 use Rattle.esm_promise.specs.Renaming.{renamed, renamed_settled}
 use Rattle.esm_promise.proofs.Renamed as promises
@@ -23,8 +23,8 @@ use Rattle.esm_body.specs.Rest.{Rest, whole, fill_rest}
 use Rattle.esm_body.specs.State.{Event, Begins, Ends, Throws, Standing, State, Importing, Answered, event_line, add_line, event_behind, note_by, note}
 use Rattle.esm_body.specs.Acts.{modules_of}
 use Rattle.esm_body.specs.Segment.{Ended, Normal, Thrown, Awaiting, Stopped, Segment}
-use Rattle.esm_body.specs.Bodies.{Taken, behind, take_by, take_standing, await_on, stand, settle_done, segment_end, ran_by, body_end, given_by, url_in, whole_body, StartsBody, RunsBody, without_standing, ResumesBody}
-use Rattle.esm_body.specs.Naming.{mapped_end, renamed_active, renamed_event, renamed_standing, renamed_ended, ImportsFollow, BodiesFollow, FollowsNames}
+use Rattle.esm_body.specs.Bodies.{Taken, behind, take_by, take_standing, await_on, stand, settle_done, segment_end, ran_by, body_end, given_by, url_in, whole_body, StartsBody, RunsBody, ResumesBody}
+use Rattle.esm_body.specs.Naming.{mapped_end, renamed_event, renamed_standing, renamed_ended, ImportsFollow, FollowsNames}
 use Rattle.esm_body.proofs.NamedRests.{fill_follows, whole_follows}
 use Rattle.esm_body.proofs.NamedActs.{line_follows}
 use Rattle.esm_body.proofs.NamedMoves.{F, R, Rr, segments_follow}

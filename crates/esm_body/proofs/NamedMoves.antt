@@ -1,18 +1,17 @@
 -- Rewritings of bodies, and segments, follow the names of modules.
 use Rattle.std.proofs.Common.{◌≡◌, ℕ, suc, Bool, true, false, List, [], ◌∷◌, map, Option, Some, None, refl, ap, subst, sym, ◌∙◌, length}
-use Rattle.std.specs.Prelude.{Result, Ok, Err, nat_lt}
+use Rattle.std.specs.Prelude.{nat_lt}
 use Rattle.std.specs.Option.{option_map}
 use Rattle.esm_base.specs.declared.limits.Limit.{Limit}
 use Rattle.esm_base.specs.declared.limits.TheConstants.{MAX_CALL_DEPTH}
 use Rattle.esm_base.specs.Lists.{IsSameness}
 use Rattle.esm_tree.specs.Syntax.{Item, Stmts}
 use Rattle.esm_values.specs.Value.{Value, Undefined, Truth, Text, Func, Error, Namespace, Promise}
-use Rattle.esm_values.specs.Acts.{Act as act}
-use Rattle.esm_values.specs.Plans.{Rewritten, inside, Follows}
+use Rattle.esm_values.specs.Plans.{Rewritten}
 use Rattle.esm_values.specs.Plans.{Rewritten as comes}
 use Rattle.esm_values.specs.Plans.{Plan as plan}
 use Rattle.esm_values.specs.Operators.{values, look_of, is_true}
-use Rattle.esm_values.specs.Naming.{Naming, renamed_value, mapped_rewritten, LooksAlike, ActsFollow}
+use Rattle.esm_values.specs.Naming.{Naming, mapped_rewritten, LooksAlike, ActsFollow}
 use Rattle.esm_expr_eval.specs.Terms.{Term}
 use Rattle.esm_expr_eval.specs.Terms.Term.{Val, Fails}
 use Rattle.esm_expr_eval.specs.Naming.{mapped_term}
@@ -21,18 +20,17 @@ use Rattle.esm_env.specs.Declarations.{FunctionCode, function_at}
 use Rattle.esm_env.specs.Modules.{Modules, function_of}
 use Rattle.esm_env.specs.Naming.{AreNamed}
 use Rattle.esm_env.proofs.Named as env
-use Rattle.esm_body.specs.Scopes.{Scope}
-use Rattle.esm_body.specs.Rest.{Rest, Part, end, more, whole, begin, branch, fill_rest}
+use Rattle.esm_body.specs.Rest.{Rest, end, more, begin, branch}
 use Rattle.esm_body.specs.Rest.{Part as part}
 use Rattle.esm_body.specs.Rest.{Use as use_of}
 use Rattle.esm_body.specs.State.{State, Importing}
-use Rattle.esm_body.specs.Acts.{Inner, Performs, modules_of, set_name, write_name}
+use Rattle.esm_body.specs.Acts.{Inner, Performs, modules_of, write_name}
 use Rattle.esm_body.specs.BodyRewriting.{RewrittenBody, On, Gives, Waits, within, caught, wrote, own_url, RewritesBody}
-use Rattle.esm_body.specs.Segment.{Active, active, Ended, Normal, Thrown, Awaiting, Stopped, Next, Goes, Over, called_by, called, call_by, return_to, throw_to, wait_by, next_by, too_deep, RewritesOutermost, Segment}
+use Rattle.esm_body.specs.Segment.{Active, active, Ended, Next, Goes, Over, called_by, called, call_by, return_to, next_by, too_deep, Segment}
 use Rattle.esm_body.specs.Segment.{Segment as segment}
-use Rattle.esm_body.specs.Naming.{mapped_scope, mapped_rest, mapped_part, renamed_active, renamed_ended, ImportsFollow}
+use Rattle.esm_body.specs.Naming.{mapped_scope, mapped_rest, renamed_active, renamed_ended, ImportsFollow}
 use Rattle.esm_body.proofs.NamedRests.{fill_follows, whole_follows, call_scope_follows, handler_follows, begin_follows, branch_follows}
-use Rattle.esm_body.proofs.NamedActs.{V, ren, ren_inner, look_alike, acts_follow, sets, told_write, writes}
+use Rattle.esm_body.proofs.NamedActs.{V, ren, ren_inner, look_alike, acts_follow, sets, writes}
 
 module _ {M N I J : Type 0} (names : Naming M N) (image : I → J) (same : M → M → Bool) (other : N → N → Bool) (modules : I → Modules M) (images : J → Modules N)
     (begins : Importing M I) (others : Importing N J) (s : IsSameness same) (t : IsSameness other) (k : (i : I) → AreNamed names (modules i) (images (image i))) (imports : ImportsFollow names image begins others) where

@@ -1,9 +1,8 @@
 -- Modules by other names: what bodies do follows.
-use Rattle.std.specs.Prelude.{◌≡◌, ℕ, Bool, List, map, Option, Result}
+use Rattle.std.specs.Prelude.{ℕ, Bool, List, map, Result}
 use Rattle.std.specs.Option.{option_map}
 use Rattle.esm_base.specs.declared.limits.Limit.{Limit}
 use Rattle.esm_base.specs.Lists.{IsSameness}
-use Rattle.esm_tree.specs.Syntax.{Stmts}
 use Rattle.esm_values.specs.Value.{Value}
 use Rattle.esm_values.specs.Ran as ran
 use Rattle.esm_values.specs.Ran.{Ran}

@@ -9,8 +9,8 @@ mod importer;
 mod inside;
 pub mod laws;
 mod log;
-mod scopes;
 mod names;
+mod scopes;
 mod work;
 
 pub use engine::{Engine, Event};
