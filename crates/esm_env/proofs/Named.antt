@@ -1,5 +1,5 @@
 -- What names read as, and what is written, follows the names of modules.
-use Rattle.std.proofs.Common.{◌≡◌, ◌⊎◌, inl, inr, ℕ, ◌<◌, Bool, true, false, ◌&&◌, cond, List, [], ◌∷◌, Option, Some, None, All, Contains, refl, ap, subst, sym, ◌∙◌, length}
+use Rattle.std.proofs.Common.{◌≡◌, ℕ, ◌<◌, Bool, true, false, ◌&&◌, List, [], ◌∷◌, Option, Some, None, All, refl, ap, subst, sym, ◌∙◌, length}
 use Rattle.std.specs.Prelude.{if◌then◌else◌, is_some}
 use Rattle.std.specs.Option.{option_map}
 use Rattle.std.specs.Str.{bytes_eq}
@@ -11,27 +11,23 @@ use Rattle.esm_tree.specs.declared.node.Wanted.TheVariants as wanted
 use Rattle.esm_ast.specs.Entries.{import_named, entries_of}
 use Rattle.esm_ast.specs.declared.entries.ImportEntry.{ImportEntry}
 use Rattle.esm_ast.proofs.Requests.{names_requests}
-use Rattle.esm_resolve.specs.Graph.{IsReached}
 use Rattle.esm_resolve.specs.declared.graph.Resolution.{Resolution}
 use Rattle.esm_resolve.specs.declared.graph.Resolution.TheVariants as resolutions
-use Rattle.esm_resolve.specs.declared.graph.Binding.{Binding}
 use Rattle.esm_resolve.specs.declared.graph.Binding.TheVariants as bindings
-use Rattle.esm_resolve.specs.Resolution.{module_id, pair_of, IsResolutionOf}
+use Rattle.esm_resolve.specs.Resolution.{pair_of, IsResolutionOf}
 use Rattle.esm_resolve.specs.Keys.{AreNamespaceKeysOf}
 use Rattle.esm_resolve.specs.Renumbered.{renumbered}
 use Rattle.esm_resolve.proofs.Renumbered.{follows_numbers, end_home}
-use Rattle.esm_values.specs.Value.{Value, Func, Namespace, Undefined}
+use Rattle.esm_values.specs.Value.{Value}
 use Rattle.esm_values.specs.Naming.{Naming, renamed_value}
 use Rattle.esm_env.specs.Declarations.{Initial, initial}
 use Rattle.esm_env.specs.Declarations.{Initial as initially}
 use Rattle.esm_env.specs.Modules.{Modules, entries, graph, Exports}
 use Rattle.esm_env.specs.Cells.{Cell, Cells, write_cell, or_function, cell_by, cell_at, Reading, read_value, read_cell}
-use Rattle.esm_env.specs.Cells.{Reading as reading}
 use Rattle.esm_env.specs.Bindings.{Target, CellOf, WholeOf, import_as, whole_only, whole_by, own_by, target_of, Binds}
 use Rattle.esm_env.specs.Reading.{read_target, IsReadingOf, read_member, IsMemberOf}
-use Rattle.esm_env.specs.Writing.{Writing, write_by, constant_by, write_at, writing_of}
-use Rattle.esm_env.specs.Writing.{Writing as writing}
-use Rattle.esm_env.specs.Naming.{AreNamed, renamed_in, renamed_cells, renamed_reading, renamed_writing, ReadsFollow, WritesFollow, FollowsNames}
+use Rattle.esm_env.specs.Writing.{write_by, constant_by, write_at, writing_of}
+use Rattle.esm_env.specs.Naming.{AreNamed, renamed_in, renamed_cells, renamed_reading, renamed_writing, FollowsNames}
 
 true_false : (b : Bool) → b ≡ true → b ≡ false → ⊥
 true_false true h k = cc

@@ -56,7 +56,8 @@ module _ {M N : Type 0} (names : Naming M N) where
   module _ (same : M → M → Bool) (other : N → N → Bool) where
     pub record WritesFollow (g : Modules M) (h : Modules N) : Type 0 where
       pub cells : (cells : Cells M) (m : M) (x : List ℕ) (v : values.Value M)
-          → write_cell other (renamed_cells cells) (names.name m) x (renamed_value names.name v) ≡ renamed_cells (write_cell same cells m x v)
+          → write_cell other (renamed_cells cells) (names.name m) x (renamed_value names.name v)
+          ≡ renamed_cells (write_cell same cells m x v)
       pub writes : (cells : Cells M) (m : M) (x : List ℕ) (v : values.Value M)
           → writing_of other h (renamed_cells cells) (names.name m) x (renamed_value names.name v)
           ≡ renamed_writing (writing_of same g cells m x v)

@@ -1,6 +1,6 @@
 -- A rewriting follows where values stand for others.
-use Rattle.std.proofs.Common.{◌≡◌, ℕ, Bool, true, false, List, [], ◌∷◌, ◌++◌, map, Option, Some, None, refl, ap, subst, sym, ◌∙◌}
-use Rattle.std.specs.Prelude.{Result, Ok, Err, nat_lt, length, if◌then◌else◌, not, codes, ◌/◌}
+use Rattle.std.proofs.Common.{◌≡◌, ℕ, Bool, true, false, List, [], map, Option, Some, None, refl, ap, subst, sym, ◌∙◌}
+use Rattle.std.specs.Prelude.{Ok, Err, nat_lt, length, if◌then◌else◌, not, codes, ◌/◌}
 use Rattle.esm_base.specs.declared.limits.TheConstants.{MAX_TEXT_BYTES}
 use Rattle.esm_values.specs.declared.limits.TheConstants.{BYTES_PER_STEP}
 use Rattle.esm_values.specs.declared.errors.FaultKind.{FaultKind}
@@ -12,18 +12,18 @@ use Rattle.esm_values.specs.Plans.{Acting, Rewritten, inside, Plan, Follows}
 use Rattle.esm_values.specs.Plans.{Rewritten as comes}
 use Rattle.esm_values.specs.Plans.{Plan as plan}
 use Rattle.esm_values.specs.Plans.{Follows as follow}
-use Rattle.esm_values.specs.Operators.{Look, Values, Textual, is_true, compare, sum, operand, made, joined, complete, faults, error_of, new_error, to_text, to_text_by, textual}
+use Rattle.esm_values.specs.Operators.{Look, Values, Textual, is_true, compare, sum, operand, made, joined, complete, faults, error_of, new_error, to_text_by, textual}
 use Rattle.esm_values.specs.Operators.{Look as look}
 use Rattle.esm_values.specs.Operators.{Textual as text}
-use Rattle.esm_values.specs.Naming.{mapped_completion, mapped_act, mapped_answer, mapped_result, mapped_rewritten, LooksAlike, ActsFollow}
-use Rattle.esm_expr_eval.specs.Terms.{Term, Terms, Compared, LinkTerms}
+use Rattle.esm_values.specs.Naming.{mapped_completion, mapped_act, mapped_answer, mapped_rewritten, LooksAlike, ActsFollow}
+use Rattle.esm_expr_eval.specs.Terms.{Term, Terms, LinkTerms}
 use Rattle.esm_expr_eval.specs.Terms.{Term as term}
 use Rattle.esm_expr_eval.specs.Terms.{Terms as terms}
 use Rattle.esm_expr_eval.specs.Terms.{Compared as pairs}
 use Rattle.esm_expr_eval.specs.Terms.{LinkTerms as links}
 use Rattle.esm_expr_eval.specs.Rewriting.{AreValues, or_on, and_on, enters, called, printed, error_made, import_begun, Rewrites, RewritesIn}
 use Rattle.esm_expr_eval.specs.Ends.{TermEnd, Leads}
-use Rattle.esm_expr_eval.specs.Naming.{mapped_term, mapped_terms, mapped_compared, mapped_links, mapped_end, RewritingFollows, FollowsNames}
+use Rattle.esm_expr_eval.specs.Naming.{mapped_term, mapped_terms, mapped_compared, mapped_links, mapped_end, FollowsNames}
 
 -- ---- plans
 

@@ -1,7 +1,6 @@
 -- Resolutions, exported names and keys follow a renumbering of the modules.
-use Rattle.std.proofs.Common.{◌≡◌, ◌⊎◌, inl, inr, ℕ, Bool, true, false, cond, nat_eq, List, [], ◌∷◌, ◌++◌, map, Contains, Option, Some, None, codes, refl, ap, subst, sym, ◌∙◌, arith}
-use Rattle.std.specs.Prelude.{not, ◌||◌, filter}
-use Rattle.std.specs.List.{flat_map, list_any}
+use Rattle.std.proofs.Common.{◌≡◌, ◌⊎◌, inl, inr, ℕ, Bool, true, false, cond, nat_eq, List, [], ◌∷◌, ◌++◌, map, Contains, Option, Some, None, codes, refl, ap, subst, sym, ◌∙◌}
+use Rattle.std.specs.Prelude.{◌||◌, filter}
 use Rattle.std.specs.Option.{option_or, option_map}
 use Rattle.std.specs.Str.{bytes_eq}
 use Rattle.std.proofs.lemmas.Bool.{eqb-true, eq-eqb}
