@@ -66,7 +66,7 @@ module _ (stmts : List Statement) where
 
 module _ (stmts : List Statement) where
   -- one more part is done first
-  front_push : (ws : List Work) (one : Work) (rest : Rest CodeValue) → in_front stmts (ws ++ one ∷ []) rest ≡ more (part_of stmts one) (in_front stmts ws rest)
+  pub front_push : (ws : List Work) (one : Work) (rest : Rest CodeValue) → in_front stmts (ws ++ one ∷ []) rest ≡ more (part_of stmts one) (in_front stmts ws rest)
   front_push [] one rest = refl
   front_push (v ∷ ws) one rest = front_push ws one (more (part_of stmts v) rest)
 

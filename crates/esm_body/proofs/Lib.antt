@@ -37,3 +37,5 @@ pub mod NamedBodies
 pub mod FitOutcomes
 pub mod LawfulFits
 pub mod Shown
+pub mod CallLemmas
+pub mod StartLemmas

@@ -24,7 +24,7 @@ use std::alloc::Global;
 use std::sync::Arc;
 
 /// Adds work, where there is memory.
-fn is_pushed(work: &mut Vec<Work>, one: Work) -> bool
+pub(crate) fn is_pushed(work: &mut Vec<Work>, one: Work) -> bool
     ensures { IsTrue result → work.new.items ≡ work.old.items ++ one ∷ [] }
 {
     work.push(one).is_ok()
@@ -47,7 +47,7 @@ fn block_work(alloc: Global, ids: &[StmtId]) -> Result<Vec<Work>, Stop>
 }
 
 /// Adds a level, where there is memory.
-fn is_begun(levels: &mut Vec<Level>, level: Level) -> bool
+pub(crate) fn is_begun(levels: &mut Vec<Level>, level: Level) -> bool
     ensures { IsTrue result → levels.new.items ≡ levels.old.items ++ level ∷ [] }
 {
     levels.push(level).is_ok()

@@ -2,6 +2,7 @@
 #![tactic(auto)]
 
 mod blocks;
+mod calls;
 mod catching;
 mod displays;
 mod engine;
@@ -11,6 +12,7 @@ pub mod laws;
 mod log;
 mod names;
 mod scopes;
+mod starts;
 mod work;
 
 pub use engine::{Engine, Event};
