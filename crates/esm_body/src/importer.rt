@@ -1,0 +1,75 @@
+// What lies outside of bodies.
+ghost use Rattle.std.specs.Prelude.{◌≡◌};
+
+use crate::log::Stop;
+use esm_base::ModuleId;
+use esm_env::Envs;
+use esm_promise::Promises;
+use esm_resolve::ExportGraph;
+use esm_values::{Errors, PromiseId};
+use std::alloc::Global;
+
+/// The modules that are there, and what begins an `import()`.
+pub trait Importer: ExportGraph + Drop {
+    ghost use Rattle.std.specs.Prelude.{◌≡◌, ℕ, Bool, List};
+    ghost use Rattle.esm_env.specs.Modules.{Modules};
+    ghost use Rattle.esm_resolve.specs.Graph.{AreAllSound};
+    ghost use Rattle.esm_promise.specs.Outer.{Outer};
+    ghost use Rattle.std.specs.Prelude.{Result};
+    ghost use Rattle.esm_base.specs.declared.limits.Limit.{Limit};
+    ghost use Rattle.esm_body.specs.Importers.{Begun, MayBegin, outer_with, IsGraphOf, IsLawful};
+
+    /// The modules that are there.
+    ghost modules: { Self → Modules ℕ };
+
+    /// Which of them are linked.
+    ghost linked: { Self → ℕ → Bool };
+
+    /// What holds of promises, errors and modules between two calls.
+    ghost fits: { Outer ℕ Self → Type 0 };
+
+    /// How an `import()` begins.
+    ghost begins: { Outer ℕ Self → ℕ → List ℕ → ℕ → Result (Unit {0}) Limit → Outer ℕ Self
+        → Type 0 };
+
+    /// Begins an `import()` of a specifier that stands written in the referrer, whose promise is there.
+    fn begin(
+        &mut self,
+        alloc: Global,
+        promises: &mut Promises,
+        errors: &mut Errors,
+        referrer: ModuleId,
+        specifier: &str,
+        promise: PromiseId,
+    ) -> Result<(), Stop>
+        ensures { MayBegin modules linked fits begins (outer_with promises.old errors.old self.old)
+            referrer.0 promise.0 → Begun begins (outer_with promises.old errors.old self.old)
+            referrer.0 specifier.now promise.0 result
+            (outer_with promises.new errors.new self.new) };
+
+    /// The URL of a module.
+    fn url(&self, m: ModuleId) -> &str
+        ensures { result.now ≡ (modules self.now).url m.0 };
+
+    /// Exports are resolved over the modules.
+    ghost same_graph: { (i : Self) → IsGraphOf (modules i) (Self.graph i) };
+
+    /// Exports can be resolved from each module.
+    ghost sound: { (i : Self) → AreAllSound (Self.graph i) };
+
+    /// What bodies rely on.
+    ghost lawful: { IsLawful modules linked fits begins };
+}
+
+/// What bodies read and write beside the engine.
+#[derive(Drop)]
+pub struct Outer<'a, I: Importer> {
+    /// Promises and jobs.
+    pub promises: &'a mut Promises,
+    /// Error values.
+    pub errors: &'a mut Errors,
+    /// The cells of modules.
+    pub envs: &'a mut Envs,
+    /// The modules.
+    pub imports: &'a mut I,
+}
