@@ -11,7 +11,8 @@ use Rattle.esm_env.specs.Cells.{Cell, Reading, read_cell}
 use Rattle.esm_env.specs.Slots.{valued_by}
 use Rattle.esm_env.specs.Scopes.{Scopes, read_or, read_in}
 use Rattle.esm_body.specs.Scopes.{Scope, NamedCell, cell_by, in_scope, in_scopes}
-use Rattle.esm_body.specs.Inner.Stack.{slot_of, scope_of_level, scopes_round}
+use Rattle.esm_body.specs.Inner.Slots.{slot_of}
+use Rattle.esm_body.specs.Inner.Stack.{scope_of_level, scopes_round}
 use Rattle.esm_body.specs.Inner.Names.{seen_slot, reading_in, slot_place, place_in, place_at, NoneFrom, IsFound}
 use Rattle.esm_body.specs.declared.work.Slot.{Slot}
 use Rattle.esm_body.specs.declared.work.Level.{Level}
@@ -69,7 +70,7 @@ cell_at_place (s ∷ ss) x = back s ss x _ (place_by s ss x (bytes_eq s.name x) 
 
 -- ---- all levels
 
-scopes_last : (ss : List (Scope CodeValue)) (s : Scope CodeValue) (x : List ℕ) → in_scopes (ss ++ s ∷ []) x ≡ option_or (in_scopes ss x) (in_scope s x)
+pub scopes_last : (ss : List (Scope CodeValue)) (s : Scope CodeValue) (x : List ℕ) → in_scopes (ss ++ s ∷ []) x ≡ option_or (in_scopes ss x) (in_scope s x)
 scopes_last [] s x = or_none (in_scope s x)
   where
     or_none : (o : Option (Cell CodeValue)) → option_or o None ≡ o

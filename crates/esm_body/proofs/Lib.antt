@@ -37,3 +37,4 @@ pub mod NamedBodies
 pub mod FitOutcomes
 pub mod LawfulFits
 pub mod Shown
+pub mod NamesWritten

@@ -12,6 +12,7 @@ mod log;
 mod scopes;
 mod names;
 mod work;
+mod writes;
 
 pub use engine::{Engine, Event};
 pub use importer::{Importer, Outer};
