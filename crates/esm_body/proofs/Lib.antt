@@ -36,5 +36,8 @@ pub mod NamedMoves
 pub mod NamedBodies
 pub mod FitOutcomes
 pub mod LawfulFits
+pub mod MemberRead
+pub mod Asked
+pub mod WorldActs
 pub mod Shown
 pub mod NamesWritten

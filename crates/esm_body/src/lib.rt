@@ -10,8 +10,11 @@ mod inside;
 pub mod laws;
 mod log;
 mod scopes;
+mod imports;
+mod members;
 mod names;
 mod work;
+mod world;
 mod writes;
 
 pub use engine::{Engine, Event};
