@@ -70,7 +70,7 @@ cell_at_place (s ∷ ss) x = back s ss x _ (place_by s ss x (bytes_eq s.name x) 
 
 -- ---- all levels
 
-scopes_last : (ss : List (Scope CodeValue)) (s : Scope CodeValue) (x : List ℕ) → in_scopes (ss ++ s ∷ []) x ≡ option_or (in_scopes ss x) (in_scope s x)
+pub scopes_last : (ss : List (Scope CodeValue)) (s : Scope CodeValue) (x : List ℕ) → in_scopes (ss ++ s ∷ []) x ≡ option_or (in_scopes ss x) (in_scope s x)
 scopes_last [] s x = or_none (in_scope s x)
   where
     or_none : (o : Option (Cell CodeValue)) → option_or o None ≡ o

@@ -36,6 +36,10 @@ pub mod NamedMoves
 pub mod NamedBodies
 pub mod FitOutcomes
 pub mod LawfulFits
+pub mod MemberRead
+pub mod Asked
+pub mod WorldActs
 pub mod Shown
 pub mod CallLemmas
 pub mod StartLemmas
+pub mod NamesWritten

@@ -7,3 +7,4 @@ pub mod Displayed
 pub mod Chains
 pub mod Slots
 pub mod Calls
+pub mod Written

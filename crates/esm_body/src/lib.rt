@@ -7,13 +7,17 @@ mod catching;
 mod displays;
 mod engine;
 mod importer;
+mod imports;
 mod inside;
 pub mod laws;
 mod log;
+mod members;
 mod names;
 mod scopes;
 mod starts;
 mod work;
+mod world;
+mod writes;
 
 pub use engine::{Engine, Event};
 pub use importer::{Importer, Outer};
