@@ -170,7 +170,7 @@ module _ {W U V : Type 0} (R : W → U → Type 0) where
     follows_alike (asks k) r (follows.stops {why = stops.Limit l} h) (follows.stops g) = let o = alike.stopped r h g in (let e = o.0 in cc, o.1)
     follows_alike (asks k) r (follows.stops {why = stops.Memory} h) g = tt
 
-    module _ (values : Values V) (url : W → List ℕ) (other_url : U → List ℕ) (urls : (w : W) (u : U) → R w u → other_url u ≡ url w) where
+    module _ (values : Values V) (url : W → List ℕ) (other_url : U → List ℕ) where
       abbrev One : W → Term V → Rewritten V Stop (Term V) → W → Type 0
       One = Rewrites values url acts
 
@@ -202,79 +202,79 @@ module _ {W U V : Type 0} (R : W → U → Type 0) where
       and_alike r v (more e es) = (refl, r)
 
       mutual
-        pub step_alike : {w x : W} {u y : U} {t : Term V} {c : Rewritten V Stop (Term V)} {d : Rewritten V Limit (Term V)} → R w u → One w t c x → Two u t d y → Agrees c x d y
-        step_alike r fails fails = (refl, r)
-        step_alike r (name a) (name b) = follows_alike (asks (λ v. complete_alike values (λ v. Val v) v)) r a b
-        step_alike r (or_in {es = es} s) (or_in t) = agrees_inside (λ e. Or e es) _ _ _ _ (step_alike r s t)
-        step_alike r (or_in s) or = absurd (no_one s)
-        step_alike r or (or_in t) = absurd (no_two t)
-        step_alike r (or {v = v} {es = es}) or = or_alike r v es
-        step_alike r (and_in {es = es} s) (and_in t) = agrees_inside (λ e. And e es) _ _ _ _ (step_alike r s t)
-        step_alike r (and_in s) and = absurd (no_one s)
-        step_alike r and (and_in t) = absurd (no_two t)
-        step_alike r (and {v = v} {es = es}) and = and_alike r v es
-        step_alike r (equal_in {cs = cs} s) (equal_in t) = agrees_inside (λ e. Equal e cs) _ _ _ _ (step_alike r s t)
-        step_alike r (equal_in s) (equal_right t) = absurd (no_one s)
-        step_alike r (equal_in s) equal = absurd (no_one s)
-        step_alike r (equal_in s) equal_end = absurd (no_one s)
-        step_alike r (equal_right s) (equal_in t) = absurd (no_two t)
-        step_alike r (equal_right {v = v} {b = b} {cs = cs} s) (equal_right t) = agrees_inside (λ e. Equal (Val v) (compared b e cs)) _ _ _ _ (step_alike r s t)
-        step_alike r (equal_right s) equal = absurd (no_one s)
-        step_alike r equal (equal_in t) = absurd (no_two t)
-        step_alike r equal (equal_right t) = absurd (no_two t)
-        step_alike r equal equal = (refl, r)
-        step_alike r equal_end (equal_in t) = absurd (no_two t)
-        step_alike r equal_end equal_end = (refl, r)
-        step_alike r (sum_in {es = es} s) (sum_in t) = agrees_inside (λ e. Sum e es) _ _ _ _ (step_alike r s t)
-        step_alike r (sum_in s) (sum_right t) = absurd (no_one s)
-        step_alike r (sum_in s) (joins b) = absurd (no_one s)
-        step_alike r (sum_in s) sum_end = absurd (no_one s)
-        step_alike r (sum_right s) (sum_in t) = absurd (no_two t)
-        step_alike r (sum_right {v = v} {es = es} s) (sum_right t) = agrees_inside (λ e. Sum (Val v) (more e es)) _ _ _ _ (step_alike r s t)
-        step_alike r (sum_right s) (joins b) = absurd (no_one s)
-        step_alike r (joins a) (sum_in t) = absurd (no_two t)
-        step_alike r (joins a) (sum_right t) = absurd (no_two t)
-        step_alike r (joins {a = p} {b = q} {es = es} a) (joins b) = follows_alike (sum_alike values p q (λ v. Sum (Val v) es)) r a b
-        step_alike r sum_end (sum_in t) = absurd (no_two t)
-        step_alike r sum_end sum_end = (refl, r)
-        step_alike r (not_in s) (not_in t) = agrees_inside (λ e. Not e) _ _ _ _ (step_alike r s t)
-        step_alike r (not_in s) not_of = absurd (no_one s)
-        step_alike r not_of (not_in t) = absurd (no_two t)
-        step_alike r not_of not_of = (refl, r)
-        step_alike r (post_in {ls = ls} s) (post_in t) = agrees_inside (λ e. Post e ls) _ _ _ _ (step_alike r s t)
-        step_alike r (post_in s) (member_of b) = absurd (no_one s)
-        step_alike r (post_in s) (arguments t) = absurd (no_one s)
-        step_alike r (post_in s) (call_of q b) = absurd (no_one s)
-        step_alike r (post_in s) post_end = absurd (no_one s)
-        step_alike r (member_of a) (post_in t) = absurd (no_two t)
-        step_alike r (member_of {ls = ls} a) (member_of b) = follows_alike (asks (λ c. complete_alike values (λ v. Post (Val v) ls) c)) r a b
-        step_alike r (arguments s) (post_in t) = absurd (no_two t)
-        step_alike r (arguments {f = f} {ls = ls} s) (arguments t) = agrees_inside (λ es. Post (Val f) (call es ls)) _ _ _ _ (steps_alike r s t)
-        step_alike r (arguments s) (call_of q b) = absurd (no_ones q s)
-        step_alike r (call_of p a) (post_in t) = absurd (no_two t)
-        step_alike r (call_of p a) (arguments t) = absurd (no_twos p t)
-        step_alike {u = u} {y = y} {d = d} r (call_of {f = f} {vs = vs} {ls = ls} p a) (call_of q b) =
+        pub step_alike : {w x : W} {u y : U} {t : Term V} {c : Rewritten V Stop (Term V)} {d : Rewritten V Limit (Term V)} → R w u → other_url u ≡ url w → One w t c x → Two u t d y → Agrees c x d y
+        step_alike r h fails fails = (refl, r)
+        step_alike r h (name a) (name b) = follows_alike (asks (λ v. complete_alike values (λ v. Val v) v)) r a b
+        step_alike r h (or_in {es = es} s) (or_in t) = agrees_inside (λ e. Or e es) _ _ _ _ (step_alike r h s t)
+        step_alike r h (or_in s) or = absurd (no_one s)
+        step_alike r h or (or_in t) = absurd (no_two t)
+        step_alike r h (or {v = v} {es = es}) or = or_alike r v es
+        step_alike r h (and_in {es = es} s) (and_in t) = agrees_inside (λ e. And e es) _ _ _ _ (step_alike r h s t)
+        step_alike r h (and_in s) and = absurd (no_one s)
+        step_alike r h and (and_in t) = absurd (no_two t)
+        step_alike r h (and {v = v} {es = es}) and = and_alike r v es
+        step_alike r h (equal_in {cs = cs} s) (equal_in t) = agrees_inside (λ e. Equal e cs) _ _ _ _ (step_alike r h s t)
+        step_alike r h (equal_in s) (equal_right t) = absurd (no_one s)
+        step_alike r h (equal_in s) equal = absurd (no_one s)
+        step_alike r h (equal_in s) equal_end = absurd (no_one s)
+        step_alike r h (equal_right s) (equal_in t) = absurd (no_two t)
+        step_alike r h (equal_right {v = v} {b = b} {cs = cs} s) (equal_right t) = agrees_inside (λ e. Equal (Val v) (compared b e cs)) _ _ _ _ (step_alike r h s t)
+        step_alike r h (equal_right s) equal = absurd (no_one s)
+        step_alike r h equal (equal_in t) = absurd (no_two t)
+        step_alike r h equal (equal_right t) = absurd (no_two t)
+        step_alike r h equal equal = (refl, r)
+        step_alike r h equal_end (equal_in t) = absurd (no_two t)
+        step_alike r h equal_end equal_end = (refl, r)
+        step_alike r h (sum_in {es = es} s) (sum_in t) = agrees_inside (λ e. Sum e es) _ _ _ _ (step_alike r h s t)
+        step_alike r h (sum_in s) (sum_right t) = absurd (no_one s)
+        step_alike r h (sum_in s) (joins b) = absurd (no_one s)
+        step_alike r h (sum_in s) sum_end = absurd (no_one s)
+        step_alike r h (sum_right s) (sum_in t) = absurd (no_two t)
+        step_alike r h (sum_right {v = v} {es = es} s) (sum_right t) = agrees_inside (λ e. Sum (Val v) (more e es)) _ _ _ _ (step_alike r h s t)
+        step_alike r h (sum_right s) (joins b) = absurd (no_one s)
+        step_alike r h (joins a) (sum_in t) = absurd (no_two t)
+        step_alike r h (joins a) (sum_right t) = absurd (no_two t)
+        step_alike r h (joins {a = p} {b = q} {es = es} a) (joins b) = follows_alike (sum_alike values p q (λ v. Sum (Val v) es)) r a b
+        step_alike r h sum_end (sum_in t) = absurd (no_two t)
+        step_alike r h sum_end sum_end = (refl, r)
+        step_alike r h (not_in s) (not_in t) = agrees_inside (λ e. Not e) _ _ _ _ (step_alike r h s t)
+        step_alike r h (not_in s) not_of = absurd (no_one s)
+        step_alike r h not_of (not_in t) = absurd (no_two t)
+        step_alike r h not_of not_of = (refl, r)
+        step_alike r h (post_in {ls = ls} s) (post_in t) = agrees_inside (λ e. Post e ls) _ _ _ _ (step_alike r h s t)
+        step_alike r h (post_in s) (member_of b) = absurd (no_one s)
+        step_alike r h (post_in s) (arguments t) = absurd (no_one s)
+        step_alike r h (post_in s) (call_of q b) = absurd (no_one s)
+        step_alike r h (post_in s) post_end = absurd (no_one s)
+        step_alike r h (member_of a) (post_in t) = absurd (no_two t)
+        step_alike r h (member_of {ls = ls} a) (member_of b) = follows_alike (asks (λ c. complete_alike values (λ v. Post (Val v) ls) c)) r a b
+        step_alike r h (arguments s) (post_in t) = absurd (no_two t)
+        step_alike r h (arguments {f = f} {ls = ls} s) (arguments t) = agrees_inside (λ es. Post (Val f) (call es ls)) _ _ _ _ (steps_alike r h s t)
+        step_alike r h (arguments s) (call_of q b) = absurd (no_ones q s)
+        step_alike r h (call_of p a) (post_in t) = absurd (no_two t)
+        step_alike r h (call_of p a) (arguments t) = absurd (no_twos p t)
+        step_alike {u = u} {y = y} {d = d} r h (call_of {f = f} {vs = vs} {ls = ls} p a) (call_of q b) =
             follows_alike (called_alike values f vs ls) r a (subst (λ vs. Follows other u (called values f vs ls) d y) (values_one p q) b)
-        step_alike r post_end (post_in t) = absurd (no_two t)
-        step_alike r post_end post_end = (refl, r)
-        step_alike r (print_in s) (print_in t) = agrees_inside (λ es. Print es) _ _ _ _ (steps_alike r s t)
-        step_alike r (print_in s) (print q b) = absurd (no_ones q s)
-        step_alike r (print p a) (print_in t) = absurd (no_twos p t)
-        step_alike {u = u} {y = y} {d = d} r (print {vs = vs} p a) (print q b) =
+        step_alike r h post_end (post_in t) = absurd (no_two t)
+        step_alike r h post_end post_end = (refl, r)
+        step_alike r h (print_in s) (print_in t) = agrees_inside (λ es. Print es) _ _ _ _ (steps_alike r h s t)
+        step_alike r h (print_in s) (print q b) = absurd (no_ones q s)
+        step_alike r h (print p a) (print_in t) = absurd (no_twos p t)
+        step_alike {u = u} {y = y} {d = d} r h (print {vs = vs} p a) (print q b) =
             follows_alike (printed_alike values vs) r a (subst (λ vs. Follows other u (printed values vs) d y) (values_one p q) b)
-        step_alike r (error_in s) (error_in t) = agrees_inside (λ e. NewError e) _ _ _ _ (step_alike r s t)
-        step_alike r (error_in s) (error b) = absurd (no_one s)
-        step_alike r (error a) (error_in t) = absurd (no_two t)
-        step_alike r (error {v = v} a) (error b) = follows_alike (error_made_alike values v) r a b
-        step_alike r (import_in s) (import_in t) = agrees_inside (λ e. Import e) _ _ _ _ (step_alike r s t)
-        step_alike r (import_in s) (begins b) = absurd (no_one s)
-        step_alike r (begins a) (import_in t) = absurd (no_two t)
-        step_alike r (begins {v = v} a) (begins b) = follows_alike (import_alike values v) r a b
-        step_alike {w = w} {u = u} r own_url own_url = (ap (λ t. Val (values.text t)) (urls w u r), r)
+        step_alike r h (error_in s) (error_in t) = agrees_inside (λ e. NewError e) _ _ _ _ (step_alike r h s t)
+        step_alike r h (error_in s) (error b) = absurd (no_one s)
+        step_alike r h (error a) (error_in t) = absurd (no_two t)
+        step_alike r h (error {v = v} a) (error b) = follows_alike (error_made_alike values v) r a b
+        step_alike r h (import_in s) (import_in t) = agrees_inside (λ e. Import e) _ _ _ _ (step_alike r h s t)
+        step_alike r h (import_in s) (begins b) = absurd (no_one s)
+        step_alike r h (begins a) (import_in t) = absurd (no_two t)
+        step_alike r h (begins {v = v} a) (begins b) = follows_alike (import_alike values v) r a b
+        step_alike r h own_url own_url = (ap (λ t. Val (values.text t)) h, r)
 
-        pub steps_alike : {w x : W} {u y : U} {es : Terms V} {c : Rewritten V Stop (Terms V)} {d : Rewritten V Limit (Terms V)} → R w u
+        pub steps_alike : {w x : W} {u y : U} {es : Terms V} {c : Rewritten V Stop (Terms V)} {d : Rewritten V Limit (Terms V)} → R w u → other_url u ≡ url w
             → RewritesIn values url acts w es c x → RewritesIn values other_url other u es d y → Agrees c x d y
-        steps_alike r (first {es = es} s) (first t) = agrees_inside (λ e. more e es) _ _ _ _ (step_alike r s t)
-        steps_alike r (first s) (later t) = absurd (no_one s)
-        steps_alike r (later s) (first t) = absurd (no_two t)
-        steps_alike r (later {v = v} s) (later t) = agrees_inside (λ es. more (Val v) es) _ _ _ _ (steps_alike r s t)
+        steps_alike r h (first {es = es} s) (first t) = agrees_inside (λ e. more e es) _ _ _ _ (step_alike r h s t)
+        steps_alike r h (first s) (later t) = absurd (no_one s)
+        steps_alike r h (later s) (first t) = absurd (no_two t)
+        steps_alike r h (later {v = v} s) (later t) = agrees_inside (λ es. more (Val v) es) _ _ _ _ (steps_alike r h s t)

@@ -165,15 +165,7 @@ module _ {I : Type 0} (modules : I → Modules ℕ) (linked : I → ℕ → Bool
     stopped = λ {w} {x} {u} {y} {a} {l} {s} t h g. performed w x u y a (Err l) s t h g;
   }
 
-  urls : (x : Inside I) (u : Inner ℕ I) → Stands x u → own_url nat_eq modules begins first.now.at.0 u ≡ url_inside modules linked fits begins x
-  urls x u t =
-      subst (λ (u : Inner ℕ I). (modules u.state.outer.imports).url first.now.at.0 ≡ (modules x.imports.now).url x.now.at.0) t.seen
-      (ap (λ (n : Activation). (modules x.imports.now).url n.at.0) (sym t.same.now))
-
   -- ---- where an evaluation leads
-
-  abbrev One : Inside I → Term V → TermEnd V Stop → Inside I → Type 0
-  One = Leads numbered (url_inside modules linked fits begins) (ActsInside modules linked fits begins)
 
   abbrev pub Rewrites' : Inner ℕ I → Term V → Rewritten V Limit (Term V) → Inner ℕ I → Type 0
   Rewrites' = Rewrites numbered (own_url nat_eq modules begins first.now.at.0) Does
@@ -216,12 +208,6 @@ module _ {I : Type 0} (modules : I → Modules ℕ) (linked : I → ℕ → Bool
   abbrev Agree : Rewritten V Stop (Term V) → Inside I → Rewritten V Limit (Term V) → Inner ℕ I → Type 0
   Agree = Agrees Stands
 
-  -- what the definitions rewrite to, which the code's rewriting agrees with
-  found : {x y : Inside I} {t : Term V} {c : Rewritten V Stop (Term V)} (u : Inner ℕ I) → Stands x u → Rewrites numbered (url_inside modules linked fits begins) (ActsInside modules linked fits begins) x t c y → Found u t
-      → (d : Rewritten V Limit (Term V)) × ((v : Inner ℕ I) × (Rewrites'' u t d v × (Arrives sight numbered (own_url nat_eq modules begins first.now.at.0) Guarded guarded u (size t) d v × Agree c y d v)))
-  found {x = x} {y = y} {c = c} u s r (inl w) = absurd (no_step numbered (url_inside modules linked fits begins) (ActsInside modules linked fits begins) (subst (λ t. Rewrites numbered (url_inside modules linked fits begins) (ActsInside modules linked fits begins) x t c y) w.1 r))
-  found u s r (inr (comes d v q l)) = (d, (v, (q, (l, step_alike Stands (ActsInside modules linked fits begins) Guarded acts_alike numbered (url_inside modules linked fits begins) (own_url nat_eq modules begins first.now.at.0) urls s r q))))
-
   values_alike : {x : Inside I} {u : Inner ℕ I} (v : V) → Stands x u → Led u (Val v) (end.Value v) x
   values_alike {x} {u} v s = (subst (λ z. Two u (Val v) (end.Value v) z) (sym s.seen) value, (s.same, s.made))
 
@@ -255,19 +241,37 @@ module _ {I : Type 0} (modules : I → Modules ℕ) (linked : I → ℕ → Bool
   stops_by y u t l (Stops k) v r h a =
       (subst (λ z. Two u t (end.Stopped l) z) (sym a.1.seen) (stopped (weak _ _ _ _ (subst (λ k. Rewrites'' u t (Stops k) v) a.0 r)) h.scopes), (a.1.same, a.1.made))
 
-  -- where the code's evaluation ends, that of the definitions ends
-  pub led : {x y : Inside I} {t : Term V} {e : TermEnd V Stop} → One x t e y → (u : Inner ℕ I) → Stands x u → Fit u → Holds (K u) ⊥ t → Led u t e y
-  led (leads.value {v = v}) u s f h = values_alike v s
-  led {y = y} {t = t} {e = e} (leads.goes {mid = mid} {rest = rest} r more) u s f h =
-      let o = found u s r (come sight numbered (own_url nat_eq modules begins first.now.at.0) Guarded guarded u f t h) in
-      goes_by mid y u t rest e (λ u' s' f' h'. led more u' s' f' h') o.0 o.1.0 o.1.1.0 o.1.1.1.0 o.1.1.1.1
-  led {y = y} {t = t} (leads.throws {v = v} r) u s f h =
-      let o = found u s r (come sight numbered (own_url nat_eq modules begins first.now.at.0) Guarded guarded u f t h) in
-      throws_by y u t v o.0 o.1.0 o.1.1.0 o.1.1.1.0 o.1.1.1.1
-  led {y = y} {t = t} (leads.calls {rest = rest} {f = g} {vs = vs} r) u s f h =
-      let o = found u s r (come sight numbered (own_url nat_eq modules begins first.now.at.0) Guarded guarded u f t h) in
-      calls_by y u t g vs rest o.0 o.1.0 o.1.1.0 o.1.1.1.0 o.1.1.1.1
-  led {y = y} {t = t} (leads.stopped {why = stops.Limit l} r) u s f h =
-      let o = found u s r (come sight numbered (own_url nat_eq modules begins first.now.at.0) Guarded guarded u f t h) in
-      stops_by y u t l o.0 o.1.0 o.1.1.0 o.1.1.1.0 o.1.1.1.1
-  led (leads.stopped {why = stops.Memory} r) u s f h = tt
+  -- shows says that the URL that the code gives of a linked module is the module's
+  module _ (urls : I → ℕ → List ℕ) (shows : (o : Outer ℕ I) (m : ℕ) → fits o → linked o.imports m ≡ true → urls o.imports m ≡ (modules o.imports).url m) where
+    abbrev One : Inside I → Term V → TermEnd V Stop → Inside I → Type 0
+    One = Leads numbered (url_inside urls) (ActsInside modules linked fits begins)
+
+    own_is : (x : Inside I) (u : Inner ℕ I) → Stands x u → Fit u → own_url nat_eq modules begins first.now.at.0 u ≡ url_inside urls x
+    own_is x u t f =
+        let k : Fit (inner_of x) = subst Fit (sym t.seen) f in
+        let e : urls x.imports.now first.now.at.0 ≡ (modules x.imports.now).url first.now.at.0 = shows (inner_of x).state.outer first.now.at.0 k.state.whole k.home in
+        subst (λ (u : Inner ℕ I). own_url nat_eq modules begins first.now.at.0 u ≡ url_inside urls x) t.seen
+        (sym (ap (λ (n : Activation). urls x.imports.now n.at.0) t.same.now ∙ e))
+
+    -- what the definitions rewrite to, which the code's rewriting agrees with
+    found : {x y : Inside I} {t : Term V} {c : Rewritten V Stop (Term V)} (u : Inner ℕ I) → Stands x u → Fit u → Rewrites numbered (url_inside urls) (ActsInside modules linked fits begins) x t c y → Found u t
+        → (d : Rewritten V Limit (Term V)) × ((v : Inner ℕ I) × (Rewrites'' u t d v × (Arrives sight numbered (own_url nat_eq modules begins first.now.at.0) Guarded guarded u (size t) d v × Agree c y d v)))
+    found {x = x} {y = y} {c = c} u s f r (inl w) = absurd (no_step numbered (url_inside urls) (ActsInside modules linked fits begins) (subst (λ t. Rewrites numbered (url_inside urls) (ActsInside modules linked fits begins) x t c y) w.1 r))
+    found {x = x} u s f r (inr (comes d v q l)) = (d, (v, (q, (l, step_alike Stands (ActsInside modules linked fits begins) Guarded acts_alike numbered (url_inside urls) (own_url nat_eq modules begins first.now.at.0) s (own_is x u s f) r q))))
+
+    -- where the code's evaluation ends, that of the definitions ends
+    pub led : {x y : Inside I} {t : Term V} {e : TermEnd V Stop} → One x t e y → (u : Inner ℕ I) → Stands x u → Fit u → Holds (K u) ⊥ t → Led u t e y
+    led (leads.value {v = v}) u s f h = values_alike v s
+    led {y = y} {t = t} {e = e} (leads.goes {mid = mid} {rest = rest} r more) u s f h =
+        let o = found u s f r (come sight numbered (own_url nat_eq modules begins first.now.at.0) Guarded guarded u f t h) in
+        goes_by mid y u t rest e (λ u' s' f' h'. led more u' s' f' h') o.0 o.1.0 o.1.1.0 o.1.1.1.0 o.1.1.1.1
+    led {y = y} {t = t} (leads.throws {v = v} r) u s f h =
+        let o = found u s f r (come sight numbered (own_url nat_eq modules begins first.now.at.0) Guarded guarded u f t h) in
+        throws_by y u t v o.0 o.1.0 o.1.1.0 o.1.1.1.0 o.1.1.1.1
+    led {y = y} {t = t} (leads.calls {rest = rest} {f = g} {vs = vs} r) u s f h =
+        let o = found u s f r (come sight numbered (own_url nat_eq modules begins first.now.at.0) Guarded guarded u f t h) in
+        calls_by y u t g vs rest o.0 o.1.0 o.1.1.0 o.1.1.1.0 o.1.1.1.1
+    led {y = y} {t = t} (leads.stopped {why = stops.Limit l} r) u s f h =
+        let o = found u s f r (come sight numbered (own_url nat_eq modules begins first.now.at.0) Guarded guarded u f t h) in
+        stops_by y u t l o.0 o.1.0 o.1.1.0 o.1.1.1.0 o.1.1.1.1
+    led (leads.stopped {why = stops.Memory} r) u s f h = tt

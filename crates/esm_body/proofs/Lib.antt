@@ -36,6 +36,7 @@ pub mod NamedMoves
 pub mod NamedBodies
 pub mod FitOutcomes
 pub mod LawfulFits
+pub mod LinkedGraph
 pub mod MemberRead
 pub mod Asked
 pub mod WorldActs

@@ -1,6 +1,6 @@
 -- What the code reads at the end of a resolution is the member of the namespace.
 use Rattle.std.proofs.Common.{◌≡◌, ℕ, ◌<◌, ◌≤◌, Bool, true, false, List, [], ◌∷◌, Option, Some, None, refl, ap, subst, sym, ◌∙◌, arith}
-use Rattle.std.specs.Prelude.{Contains, if◌then◌else◌}
+use Rattle.std.specs.Prelude.{⊤, Contains, if◌then◌else◌}
 use Rattle.std.specs.Option.{option_or}
 use Rattle.std.specs.Str.{bytes_eq}
 use Rattle.std.specs.List.{AllByRecursion}
@@ -11,6 +11,7 @@ use Rattle.esm_tree.specs.declared.node.Wanted.TheVariants as wanted
 use Rattle.esm_ast.specs.declared.entries.LocalExport.{LocalExport}
 use Rattle.esm_ast.specs.declared.entries.IndirectExport.{IndirectExport}
 use Rattle.esm_resolve.specs.Graph.{Graph}
+use Rattle.esm_resolve.specs.Renumbered.{FollowsNumbers, renumbered}
 use Rattle.esm_resolve.specs.Resolution.{End, module_id, pair_of, local_export, wanted_of, indirect_export, end_by, LeadsTo, IsResolutionOf}
 use Rattle.esm_resolve.specs.declared.graph.Binding.TheVariants as bindings
 use Rattle.esm_resolve.specs.declared.graph.Resolution.{Resolution}
@@ -31,9 +32,9 @@ use Rattle.esm_env.specs.Scopes.{Scopes, scope_in, import_of, cells_of, read_end
 use Rattle.esm_env.specs.Faithful.{HasScope}
 use Rattle.esm_env.specs.Laws.{EndsRight}
 use Rattle.esm_body.specs.Fits.{AreLinked}
-use Rattle.esm_body.specs.Importers.{AreScopesOf, IsGraphOf}
+use Rattle.esm_body.specs.Importers.{AreScopesOf, HasLinked}
 use Rattle.esm_body.specs.Inner.Displayed.{IsMember, end_reading}
-use Rattle.esm_body.proofs.Resolved.{good, resolved_good}
+use Rattle.esm_body.proofs.LinkedGraph.{renumbers, end_linked}
 
 -- ---- an end at a binding is a local export
 
@@ -90,34 +91,42 @@ local_at_end g from id x l =
 
 -- ---- what is read there
 
-module _ (g : Modules ℕ) (linked : ℕ → Bool) (e : Scopes) (right : EndsRight) (a : AreScopesOf g linked e) (h : AreLinked g linked) (named : (m : ℕ) → g.named m ≡ m) where
-  local_read : (id : ModuleId) (y : List ℕ) → linked id.0 ≡ true → IsThere (graph g) id y
-      → end_reading e (resolutions.One id (bindings.Local y)) ≡ read_member g (cells_of e) (target_of g (resolutions.One id (bindings.Local y)))
+-- the end of the code's resolution is linked, and so it has its number among the modules
+abbrev EndLinked : (ℕ → Bool) → Resolution → Type 0
+EndLinked linked resolutions.Missing = ⊤
+EndLinked linked (resolutions.One id b) = linked id.0 ≡ true
+EndLinked linked resolutions.Ambiguous = ⊤
+
+module _ (g : Modules ℕ) (linked : ℕ → Bool) (e : Scopes) (right : EndsRight) (a : AreScopesOf g linked e) (h : AreLinked g linked) where
+  local_read : (id : ModuleId) (y : List ℕ) → linked id.0 ≡ true → IsThere (graph g) (module_id (g.number id.0)) y
+      → end_reading e (resolutions.One id (bindings.Local y)) ≡ read_member g (cells_of e) (target_of g (resolutions.One (module_id (g.number id.0)) (bindings.Local y)))
   local_read id y k f =
       let s = a.made id.0 k in
-      let there : Contains (entries g id.0).locals f.0 = subst (λ n. Contains (entries g n).locals f.0) (named id.0) f.1.0 in
+      let there : Contains (entries g id.0).locals f.0 = subst (λ n. Contains (entries g n).locals f.0) (h.named id.0 k) f.1.0 in
       let scope : HasScope e (import_of (scope_in e id.0) f.0.local) = subst (λ o. HasScope e (import_of o f.0.local)) (sym s.1) (a.bound id.0 s.0 k s.1 f.0.local) in
       let q = right g e id.0 s.0 f.0 a.faithful s.1 scope there in
       subst (λ z. defined (read_end_in e id.0 z) ≡ read_member g (cells_of e) (own_by g id.0 z (initial (g.tree id.0) z))) f.1.1 q
-      ∙ ap (λ n. read_member g (cells_of e) (own_by g n y (initial (g.tree n) y))) (sym (named id.0))
+      ∙ ap (λ n. read_member g (cells_of e) (own_by g n y (initial (g.tree n) y))) (sym (h.named id.0 k))
 
-  ends_read : (m : ℕ) (x : List ℕ) (r : Resolution) → linked m ≡ true → Exports g m x r → end_reading e r ≡ read_member g (cells_of e) (target_of g r)
+  ends_read : (m : ℕ) (x : List ℕ) (r : Resolution) → EndLinked linked r → Exports g m x (renumbered g.number r)
+      → end_reading e r ≡ read_member g (cells_of e) (target_of g (renumbered g.number r))
   ends_read m x resolutions.Missing l i = refl
-  ends_read m x (resolutions.One id (bindings.Local y)) l i =
-      let k = resolved_good g linked h (g.number m) x (resolutions.One id (bindings.Local y)) (good g linked h m l) i in
-      local_read id y (subst (λ n. linked n ≡ true) (named id.0) k.is_linked) (local_at_end (graph g) (pair_of (g.number m) x) id y i.0)
-  ends_read m x (resolutions.One id bindings.Whole) l i = ap (λ n. reading.Value (value.Namespace n)) (sym (named id.0))
+  ends_read m x (resolutions.One id (bindings.Local y)) l i = local_read id y l (local_at_end (graph g) (pair_of (g.number m) x) (module_id (g.number id.0)) y i.0)
+  ends_read m x (resolutions.One id bindings.Whole) l i = ap (λ n. reading.Value (value.Namespace n)) (sym (h.named id.0 l))
   ends_read m x resolutions.Ambiguous l i = refl
 
-module _ (g : Modules ℕ) (h : Graph) (linked : ℕ → Bool) (e : Scopes) (same : IsGraphOf g h) where
-  pub member_is : EndsRight → (m : ℕ) (x : List ℕ) (r : Resolution) (read : Reading CodeValue) → IsResolutionOf h (pair_of m x) r → read ≡ end_reading e r → IsMember g linked e m x read
-  member_is right m x r read i q = λ a links l.
-      let j : Exports g m x r = subst (λ n. IsResolutionOf (graph g) (pair_of n x) r) (sym (same.number m)) (subst (λ h. IsResolutionOf h (pair_of m x) r) same.graph i) in
-      subst (IsMemberOf g (cells_of e) m x) (sym (q ∙ ends_read g linked e right a links same.named m x r l j)) (member r j)
+module _ (g : Modules ℕ) (h : Graph) (urls : ℕ → List ℕ) (linked : ℕ → Bool) (e : Scopes) (same : AreLinked g linked → HasLinked g linked h urls) where
+  end_is : FollowsNumbers → (right : EndsRight) (a : AreScopesOf g linked e) (links : AreLinked g linked) (m : ℕ) (x : List ℕ) (r : Resolution)
+      → linked m ≡ true → IsResolutionOf h (pair_of m x) r → EndLinked linked r
+  end_is follows right a links m x resolutions.Missing l i = tt
+  end_is follows right a links m x (resolutions.One id b) l i = end_linked g linked h urls links (same links) follows m x id b l i
+  end_is follows right a links m x resolutions.Ambiguous l i = tt
+
+  pub member_is : FollowsNumbers → EndsRight → (m : ℕ) (x : List ℕ) (r : Resolution) (read : Reading CodeValue) → IsResolutionOf h (pair_of m x) r → read ≡ end_reading e r → IsMember g linked e m x read
+  member_is follows right m x r read i q = λ a links l.
+      let j : Exports g m x (renumbered g.number r) = follows.resolution h (graph g) g.number m x r (renumbers g linked h urls links (same links) m l) i in
+      let k = end_is follows right a links m x r l i in
+      subst (IsMemberOf g (cells_of e) m x) (sym (q ∙ ends_read g linked e right a links m x r k j)) (member (renumbered g.number r) j)
 
   pub member_not : (m : ℕ) (x : List ℕ) (read : Reading CodeValue) → h.size ≤ m → IsMember g linked e m x read
-  member_not m x read le = λ a links l.
-      let b = links.below m l in
-      let n = same.number m in
-      let s : h.size ≡ g.size = ap (λ (h : Graph). h.size) same.graph in
-      absurd (omega (arith, b, n, s, le))
+  member_not m x read le = λ a links l. let b = (same links).below m l in absurd (omega (arith, b, le))

@@ -1,7 +1,7 @@
 -- What setting and writing a name come to.
 use Rattle.std.proofs.Common.{◌≡◌, ℕ, nat_eq, zero, suc, ◌+◌, ◌<◌, ◌≤◌, Bool, true, false, List, [], ◌∷◌, ◌++◌, map, length, refl, ap, subst, sym, ◌∙◌, arith, get_or, slice_set, eqb, ◌⊎◌, inl, inr, MutBor}
 use Rattle.std.proofs.lemmas.Bool.Decides.{eqb_tells}
-use Rattle.std.specs.Prelude.{Option, Some, None, Result, Ok, Err, IfOk, option_map, if◌then◌else◌, ⊤}
+use Rattle.std.specs.Prelude.{Option, Some, None, is_some, Result, Ok, Err, IfOk, option_map, if◌then◌else◌, ⊤}
 use Rattle.esm_base.specs.declared.memory.Memory.{Memory}
 use Rattle.std.specs.Arc.{arc_value}
 use Rattle.std.specs.Option.{option_or}
@@ -332,6 +332,7 @@ like_scopes g linked e late a faithful like = record {
   made = λ m l. let s = a.made m l in scope_late e late like m s.0 s.1;
   bound = λ m t l k x. let s = scope_early e late like m t k in
       rw s.2 (has_late e late like (import_in s.0.imports.items x) (a.bound m s.0 l s.1 x));
+  imports = λ m t l k x. let s = scope_early e late like m t k in (λ j. is_some (import_in (s.2 j).items x)) ∙ a.imports m s.0 l s.1 x;
 }
 
 abbrev Stays : Wrote → Type 0
@@ -424,7 +425,9 @@ module _ {I : Type 0} (modules : I → Modules ℕ) (linked : I → ℕ → Bool
       → WritesTo w.now.levels.items (scopes_of w.envs.now) w.now.at.0 x v result after.now.levels.items (scopes_of after.envs.now)
       → Throws x result w.errors.now told after.errors.now → WritesName modules linked fits begins w x v told after
   writes_name w after x v result (Err end) right like to t = tt
-  writes_name w after x v result (Ok told) right like to t = (like, λ scopes home.
+  writes_name w after x v result (Ok told) right like to t = (like, λ scopes here.
+      let s = scopes.made w.now.at.0 here in
+      let home = (s.0, s.1, scopes.imports w.now.at.0 s.0 here s.1) in
       let r = writes_is modules linked begins w.engine.now w.promises.now w.imports.now (scopes_round w.now.levels.items) (scopes_round after.now.levels.items)
         (scopes_of w.envs.now) (scopes_of after.envs.now) w.now.at.0 x v result w.errors.now after.errors.now told right scopes home
         (in_scopes (scopes_round w.now.levels.items) x) to.1 t in

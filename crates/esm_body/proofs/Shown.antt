@@ -6,15 +6,17 @@ use Rattle.std.specs.Str.{IsUtf8}
 use Rattle.std.specs.Prelude.{Result, Ok, Err, IfOk}
 use Rattle.esm_resolve.specs.Graph.{Graph}
 use Rattle.esm_resolve.specs.Keys.{AreNamespaceKeysOf}
+use Rattle.esm_resolve.specs.Renumbered.{FollowsNumbers}
 use Rattle.esm_values.specs.Errors.{Errors}
 use Rattle.esm_values.specs.Code.{CodeValue, value_of, values_of}
 use Rattle.esm_values.specs.declared.value.Value.{Value}
 use Rattle.esm_env.specs.Modules.{Modules, graph}
 use Rattle.esm_env.specs.Scopes.{Scopes}
 use Rattle.esm_body.specs.Fits.{AreLinked}
-use Rattle.esm_body.specs.Importers.{IsGraphOf}
+use Rattle.esm_body.specs.Importers.{HasLinked}
 use Rattle.esm_body.specs.Inner.Displayed.{IsShown, AreShown, IsKeys}
 use Rattle.esm_body.proofs.KeysThere.{keys_utf8}
+use Rattle.esm_body.proofs.LinkedGraph.{renumbers}
 
 module _ (g : Modules ℕ) (linked : ℕ → Bool) (e : Scopes) (errors : Errors) where
   -- where what is left is shown so, all is
@@ -37,17 +39,14 @@ module _ (g : Modules ℕ) (linked : ℕ → Bool) (e : Scopes) (errors : Errors
 
 -- ---- keys
 
-pub keys_are : (g : Modules ℕ) (h : Graph) (linked : ℕ → Bool) (m : ℕ) (keys : List (List ℕ)) → IsGraphOf g h → AreNamespaceKeysOf h m keys → IsKeys g linked m keys
-keys_are g h linked m keys same k = λ links is.
-    let a = subst (λ n. AreNamespaceKeysOf (graph g) n keys) (sym (same.number m)) (subst (λ h. AreNamespaceKeysOf h m keys) same.graph k) in
-    (a, keys_utf8 g linked links m keys is a)
+module _ (g : Modules ℕ) (h : Graph) (urls : ℕ → List ℕ) (linked : ℕ → Bool) (same : AreLinked g linked → HasLinked g linked h urls) (m : ℕ) (keys : List (List ℕ)) where
+  pub keys_are : FollowsNumbers → AreNamespaceKeysOf h m keys → IsKeys g linked m keys
+  keys_are follows k = λ links is.
+      let a = follows.keys h (graph g) g.number m keys (renumbers g linked h urls links (same links) m is) k in
+      (a, keys_utf8 g linked links m keys is a)
 
-pub keys_not : (g : Modules ℕ) (h : Graph) (linked : ℕ → Bool) (m : ℕ) (keys : List (List ℕ)) → IsGraphOf g h → h.size ≤ m → IsKeys g linked m keys
-keys_not g h linked m keys same le = λ links is.
-    let b = links.below m is in
-    let n = same.number m in
-    let s : h.size ≡ g.size = ap (λ (h : Graph). h.size) same.graph in
-    absurd (omega (arith, b, n, s, le))
+  pub keys_not : h.size ≤ m → IsKeys g linked m keys
+  keys_not le = λ links is. let b = (same links).below m is in absurd (omega (arith, b, le))
 
 pub weaker : {A E : Type 0} (P Q : A → Type 0) → ((x : A) → P x → Q x) → (r : Result A E) → IfOk r P → IfOk r Q
 weaker P Q k (Ok x) h = k x h

@@ -1,5 +1,5 @@
 -- What lies outside of bodies, as the code has it: the modules that are there, and what begins an import().
-use Rattle.std.specs.Prelude.{◌≡◌, ℕ, Bool, true, List, [], Some, Result, Ok, Err}
+use Rattle.std.specs.Prelude.{◌≡◌, ◌<◌, ℕ, Bool, true, List, [], length, Some, Result, Ok, Err}
 use Rattle.std.specs.Arc.{arc_value}
 use Rattle.esm_base.specs.declared.limits.Limit.{Limit}
 use Rattle.esm_resolve.specs.Graph.{Graph}
@@ -9,8 +9,8 @@ use Rattle.esm_expr_eval.specs.Ready.{Holds}
 use Rattle.esm_promise.specs.Code.{Numbered}
 use Rattle.esm_promise.specs.Promises.{Settled, make, settle, is_pending}
 use Rattle.esm_promise.specs.Outer.{Outer}
-use Rattle.esm_env.specs.Modules.{Modules, graph}
-use Rattle.esm_env.specs.Faithful.{IsFaithful, HasScope}
+use Rattle.esm_env.specs.Modules.{Modules, entries}
+use Rattle.esm_env.specs.Faithful.{IsFaithful, HasScope, HasImports}
 use Rattle.esm_env.specs.Scopes.{Scopes, scope_in, import_in}
 use Rattle.esm_env.specs.declared.scope.ModuleScope.{ModuleScope}
 use Rattle.esm_body.specs.State.{Importing}
@@ -22,18 +22,21 @@ use Rattle.esm_body.specs.declared.log.Stop.TheVariants as stops
 abbrev pub outer_with : {I : Type 0} → Numbered → Errors → I → Outer ℕ I
 outer_with promises errors imports = record { promises = promises; errors = errors; imports = imports }
 
--- as a graph the modules have their own numbers
-pub record IsGraphOf (g : Modules ℕ) (h : Graph) : Type 0 where
-  pub graph : h ≡ graph g
-  pub number : (m : ℕ) → g.number m ≡ m
-  pub named : (m : ℕ) → g.named m ≡ m
+-- the code has what is linked: its entries, the targets of its requests and its URL, by ids. Of other ids nothing is said, and as a
+-- graph the modules may have other numbers
+pub record HasLinked (g : Modules ℕ) (linked : ℕ → Bool) (h : Graph) (urls : ℕ → List ℕ) : Type 0 where
+  pub below : (m : ℕ) → linked m ≡ true → m < h.size
+  pub entries : (m : ℕ) → linked m ≡ true → h.entries m ≡ entries g m
+  pub target : (m request : ℕ) → linked m ≡ true → request < length (entries g m).requests → h.target m request ≡ g.target m request
+  pub url : (m : ℕ) → linked m ≡ true → urls m ≡ g.url m
 
--- the scopes that were made are those of the modules, and each linked module has one
+-- the scopes that were made are those of the modules, and each linked module has one, in which each import is bound
 pub record AreScopesOf (g : Modules ℕ) (linked : ℕ → Bool) (e : Scopes) : Type 0 where
   pub faithful : IsFaithful g e
   pub trees : (m : ℕ) (s : ModuleScope) → scope_in e m ≡ Some s → (arc_value s.tree).items ≡ g.tree m
   pub made : (m : ℕ) → linked m ≡ true → (s : ModuleScope) × (scope_in e m ≡ Some s)
   pub bound : (m : ℕ) (s : ModuleScope) → linked m ≡ true → scope_in e m ≡ Some s → (x : List ℕ) → HasScope e (import_in s.imports.items x)
+  pub imports : (m : ℕ) (s : ModuleScope) → linked m ≡ true → scope_in e m ≡ Some s → HasImports g m s
 
 module _ {I : Type 0} (modules : I → Modules ℕ) (linked : I → ℕ → Bool) (fits : Outer ℕ I → Type 0) (begins : Importing ℕ I) where
   -- a module that is linked begins an import() whose promise was made

@@ -67,6 +67,7 @@ fn keys_of<I: Importer>(alloc: Global, imports: &I, m: ModuleId) -> Result<Vec<T
     ensures { IfOk result (λ keys. IsKeys (I.modules imports.now) (I.linked imports.now) m.0
         keys.items) }
 {
+    esm_resolve::laws::follows_numbers();
     let at = m.0;
     if at < imports.size() {
         namespace_keys(alloc, imports, m)

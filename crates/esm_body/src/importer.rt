@@ -13,17 +13,21 @@ use std::alloc::Global;
 pub trait Importer: ExportGraph + Drop {
     ghost use Rattle.std.specs.Prelude.{◌≡◌, ℕ, Bool, List};
     ghost use Rattle.esm_env.specs.Modules.{Modules};
+    ghost use Rattle.esm_body.specs.Fits.{AreLinked};
     ghost use Rattle.esm_resolve.specs.Graph.{AreAllSound};
     ghost use Rattle.esm_promise.specs.Outer.{Outer};
     ghost use Rattle.std.specs.Prelude.{Result};
     ghost use Rattle.esm_base.specs.declared.limits.Limit.{Limit};
-    ghost use Rattle.esm_body.specs.Importers.{Begun, MayBegin, outer_with, IsGraphOf, IsLawful};
+    ghost use Rattle.esm_body.specs.Importers.{Begun, MayBegin, outer_with, HasLinked, IsLawful};
 
     /// The modules that are there.
     ghost modules: { Self → Modules ℕ };
 
     /// Which of them are linked.
     ghost linked: { Self → ℕ → Bool };
+
+    /// The URL that it gives of each id.
+    ghost urls: { Self → ℕ → List ℕ };
 
     /// What holds of promises, errors and modules between two calls.
     ghost fits: { Outer ℕ Self → Type 0 };
@@ -49,12 +53,13 @@ pub trait Importer: ExportGraph + Drop {
 
     /// The URL of a module.
     fn url(&self, m: ModuleId) -> &str
-        ensures { result.now ≡ (modules self.now).url m.0 };
+        ensures { result.now ≡ urls self.now m.0 };
 
-    /// Exports are resolved over the modules.
-    ghost same_graph: { (i : Self) → IsGraphOf (modules i) (Self.graph i) };
+    /// What is linked is there, by ids. It may have other numbers in the graph of the modules.
+    ghost has_linked: { (i : Self) → AreLinked (modules i) (linked i)
+        → HasLinked (modules i) (linked i) (Self.graph i) (urls i) };
 
-    /// Exports can be resolved from each module.
+    /// Exports can be resolved from each id that is there.
     ghost sound: { (i : Self) → AreAllSound (Self.graph i) };
 
     /// What bodies rely on.

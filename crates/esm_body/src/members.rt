@@ -59,6 +59,7 @@ fn read_member<I: Importer>(
         (scopes_of envs.now) m.0 name.now (found_reading found)) }
 {
     esm_env::laws::ends_right();
+    esm_resolve::laws::follows_numbers();
     let at = m.0;
     if at < imports.size() {
         let resolution = resolve_export(alloc, imports, m, name)?;

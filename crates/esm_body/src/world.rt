@@ -17,7 +17,7 @@ impl<'a, I: Importer> World for Inside<'a, I> {
 
     ghost acts = { ActsInside I.modules I.linked I.fits I.begins };
 
-    ghost url_of = { url_inside I.modules };
+    ghost url_of = { url_inside I.urls };
 
     fn read(&mut self, name: &str) -> Result<Out, Stop> {
         esm_env::laws::reads_right();

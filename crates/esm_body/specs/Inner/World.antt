@@ -24,6 +24,10 @@ state_in w = state_of w.engine.now (scopes_of w.envs.now) w.promises.now w.error
 abbrev pub inner_of : {I : Type 0} → Inside I → Inner ℕ I
 inner_of w = record { scopes = scopes_round w.now.levels.items; state = state_in w }
 
+-- the URL that is given of the module in which the code stands written
+abbrev pub url_inside : {I : Type 0} → (I → ℕ → List ℕ) → Inside I → List ℕ
+url_inside urls w = urls w.imports.now w.now.at.0
+
 -- it holds the same code still, and the same loans
 pub record IsSame {I : Type 0} (w after : Inside I) : Type 0 where
   pub now : after.now ≡ w.now
@@ -68,6 +72,3 @@ module _ {I : Type 0} (modules : I → Modules ℕ) (linked : I → ℕ → Bool
   ActsInside w a (Ok answer) after = Answers w a (Ok answer) after
   ActsInside w a (Err (stops.Limit limit)) after = Answers w a (Err limit) after
   ActsInside w a (Err stops.Memory) after = Unit {0}
-
-  abbrev pub url_inside : Inside I → List ℕ
-  url_inside w = (modules w.imports.now).url w.now.at.0

@@ -12,9 +12,7 @@ use Rattle.esm_env.specs.Modules.{Modules}
 use Rattle.esm_env.specs.Calls.{scopes_of, IsWrittenIn, IsInitialised}
 use Rattle.esm_env.specs.Cells.{Cell}
 use Rattle.esm_env.specs.Slots.{valued_by}
-use Rattle.esm_env.specs.Scopes.{Scopes, own_cell, scope_in, wrote_set}
-use Rattle.esm_env.specs.Faithful.{HasImports}
-use Rattle.esm_env.specs.declared.scope.ModuleScope.{ModuleScope}
+use Rattle.esm_env.specs.Scopes.{Scopes, own_cell, wrote_set}
 use Rattle.esm_env.specs.declared.scope.Wrote.{Wrote}
 use Rattle.esm_env.specs.declared.scope.Wrote.TheVariants as wrote
 use Rattle.esm_body.specs.Scopes.{Scope, in_scopes, set_in, set_in_scopes}
@@ -139,10 +137,9 @@ pub record IsLike {I : Type 0} (w after : Inside I) : Type 0 where
   pub imports : after.imports ≡ w.imports
 
 module _ {I : Type 0} (modules : I → Modules ℕ) (linked : I → ℕ → Bool) (fits : Outer ℕ I → Type 0) (begins : Importing ℕ I) where
-  -- the module in which the code stands written has a scope in which each import is bound
+  -- the module in which the code stands written is linked
   abbrev pub HasHome : Inside I → Type 0
-  HasHome w = (s : ModuleScope) × (scope_in (scopes_of w.envs.now) w.now.at.0 ≡ Some s)
-      × HasImports (modules w.imports.now) w.now.at.0 s
+  HasHome w = linked w.imports.now w.now.at.0 ≡ true
 
   -- a write of a name is the definitions', where memory didn't run out
   abbrev pub WritesName : Inside I → List ℕ → Value → Result (Option Value) Memory → Inside I → Type 0
