@@ -38,7 +38,7 @@ use Rattle.esm_body.specs.Importers.{AreScopesOf, Begun, MayBegin, KeepsModules,
 use Rattle.esm_body.specs.View.{engine_of, state_of}
 use Rattle.esm_body.specs.Inner.Log.{TookSteps, AddedLine}
 use Rattle.esm_body.specs.Inner.Names.{reading_in, said_out, told_as, Tells}
-use Rattle.esm_body.specs.Inner.Displayed.{seen, MemberTold, NoMembers, RefusesTold, BeginsTold, BeginsAt}
+use Rattle.esm_body.specs.Inner.Displayed.{bare_state, MemberTold, NoMembers, RefusesTold, BeginsTold, BeginsAt}
 use Rattle.esm_body.specs.Inner.World.{inner_of, IsSame, KnowsAct, HasScopes, IsReady, Answers, ActsInside}
 use Rattle.esm_body.specs.declared.engine.Engine.{Engine}
 use Rattle.esm_body.specs.declared.log.Log.{Log}
@@ -65,7 +65,7 @@ less a b h = by (nat_lt a b) refl
 -- ---- display texts
 
 -- a display text depends on modules and errors alone
-pub shows_there : {I : Type 0} (modules : I → Modules ℕ) (w : State ℕ I) (v : CodeValue) (text : List ℕ) → Displays (λ g. g) (seen (modules w.outer.imports) w.outer.errors) v text → Displays modules w v text
+pub shows_there : {I : Type 0} (modules : I → Modules ℕ) (w : State ℕ I) (v : CodeValue) (text : List ℕ) → Displays (λ g. g) (bare_state (modules w.outer.imports) w.outer.errors) v text → Displays modules w v text
 shows_there modules w value.Undefined text h = h
 shows_there modules w (value.Truth b) text h = h
 shows_there modules w (value.Text t) text h = h
@@ -75,7 +75,7 @@ shows_there modules w (value.Namespace m) text h = h
 shows_there modules w (value.Promise id) text h = h
 
 pub show_all_there : {I : Type 0} (modules : I → Modules ℕ) (w : State ℕ I) (vs : List CodeValue) (texts : List (List ℕ))
-    → DisplaysAll (λ g. g) (seen (modules w.outer.imports) w.outer.errors) vs texts → DisplaysAll modules w vs texts
+    → DisplaysAll (λ g. g) (bare_state (modules w.outer.imports) w.outer.errors) vs texts → DisplaysAll modules w vs texts
 show_all_there modules w [] texts h = h
 show_all_there modules w (v ∷ vs) texts (t, ts, a, b, e) = (t, ts, shows_there modules w v t a, show_all_there modules w vs ts b, e)
 
@@ -206,21 +206,21 @@ module _ {I : Type 0} (modules : I → Modules ℕ) (linked : I → ℕ → Bool
       subst (λ q. BeginsAt modules linked fits begins (outer_with (make ps []) es i) m text q r after) n
       (subst (λ late. BeginsAt modules linked fits begins (outer_with late es i) m text p r after) e h)
 
--- ---- answers of the trait
-
-module _ {I : Type 0} (modules : I → Modules ℕ) (linked : I → ℕ → Bool) (fits : Outer ℕ I → Type 0) (begins : Importing ℕ I) where
-  pub read_acts : (w after : Inside I) (x : List ℕ) (told : Out) → Answers modules linked fits begins w (act.Read x) (Ok (said_out told)) after
-      → ActsInside modules linked fits begins w (act.Read x) (said (Ok told)) after
-  read_acts w after x (out.Value v) h = h
-  read_acts w after x (out.Thrown v) h = h
-
-  pub member_acts : (w after : Inside I) (v : CodeValue) (x : List ℕ) (told : Out) → Answers modules linked fits begins w (act.Member v x) (Ok (said_out told)) after
-      → ActsInside modules linked fits begins w (act.Member v x) (said (Ok told)) after
-  member_acts w after v x (out.Value u) h = h
-  member_acts w after v x (out.Thrown u) h = h
-
   pub begun_stops : (stop : Stop) (after : Outer ℕ I) → made ≡ make ps [] → p ≡ next_promise ps
       → (MayBegin modules linked fits begins (outer_with made es i) m p → Begun begins (outer_with made es i) m text p (Err stop) after)
       → BeginsTold modules linked fits begins (outer_with ps es i) m text (Err stop) after
   begun_stops (stops.Limit limit) after e n h = begun (Err limit) after e n h
   begun_stops stops.Memory after e n h = tt
+
+-- ---- answers of the trait
+
+module _ {I S : Type 0} (seen : I → S) (modules : S → Modules ℕ) (linked : S → ℕ → Bool) (fits : Outer ℕ S → Type 0) (begins : Importing ℕ S) where
+  pub read_acts : (w after : Inside I) (x : List ℕ) (told : Out) → Answers seen modules linked fits begins w (act.Read x) (Ok (said_out told)) after
+      → ActsInside seen modules linked fits begins w (act.Read x) (said (Ok told)) after
+  read_acts w after x (out.Value v) h = h
+  read_acts w after x (out.Thrown v) h = h
+
+  pub member_acts : (w after : Inside I) (v : CodeValue) (x : List ℕ) (told : Out) → Answers seen modules linked fits begins w (act.Member v x) (Ok (said_out told)) after
+      → ActsInside seen modules linked fits begins w (act.Member v x) (said (Ok told)) after
+  member_acts w after v x (out.Value u) h = h
+  member_acts w after v x (out.Thrown u) h = h

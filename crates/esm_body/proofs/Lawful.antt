@@ -23,10 +23,10 @@ module _ {I : Type 0} (modules : I → Modules ℕ) (linked : I → ℕ → Bool
   }
 
   -- the URL that the code gives of a linked module is the module's
-  pub shows_urls : (graphs : I → Graph) (urls : I → ℕ → List ℕ)
-      → ((i : I) → AreLinked (modules i) (linked i) → HasLinked (modules i) (linked i) (graphs i) (urls i))
-      → (o : Outer ℕ I) (m : ℕ) → fits o → linked o.imports m ≡ true → urls o.imports m ≡ (modules o.imports).url m
-  shows_urls graphs urls has o m f k = (has o.imports (law.links o f)).url m k
+  pub shows_urls : {C : Type 0} (seen : C → I) (graphs : C → Graph) (urls : C → ℕ → List ℕ)
+      → ((c : C) → AreLinked (modules (seen c)) (linked (seen c)) → HasLinked (modules (seen c)) (linked (seen c)) (graphs c) (urls c))
+      → (o : Outer ℕ I) (c : C) (m : ℕ) → fits (record o { imports = seen c }) → linked (seen c) m ≡ true → urls c m ≡ (modules (seen c)).url m
+  shows_urls seen graphs urls has o c m f k = (has c (law.links (record o { imports = seen c }) f)).url m k
 
   pub begins_one : BeginsOne begins
   begins_one = record { one = λ {o} {x} {y} {m} {text} {p} {r} {s} a b. law.one o x y m text p r s a b }

@@ -111,23 +111,23 @@ same_both a b = record {
 pub same_itself : {I : Type 0} (w : Inside I) → IsSame w w
 same_itself w = record { now = refl; alloc = refl; engine = refl; errors = refl; envs = refl; promises = refl; imports = refl }
 
-module _ {I : Type 0} (modules : I → Modules ℕ) (linked : I → ℕ → Bool) (fits : Outer ℕ I → Type 0) (begins : Importing ℕ I) (some : BeginsSome modules linked fits begins) (one : BeginsOne begins) (first : Inside I) where
-  abbrev Fit : Inner ℕ I → Type 0
+module _ {I S : Type 0} (seen : I → S) (modules : S → Modules ℕ) (linked : S → ℕ → Bool) (fits : Outer ℕ S → Type 0) (begins : Importing ℕ S) (some : BeginsSome modules linked fits begins) (one : BeginsOne begins) (first : Inside I) where
+  abbrev Fit : Inner ℕ S → Type 0
   Fit w = FitsInner nat_eq modules linked fits begins some first.now.at.0 w
 
-  abbrev K : Inner ℕ I → V → Type 0
+  abbrev K : Inner ℕ S → V → Type 0
   K w v = Known nat_eq modules linked fits begins some w.state v
 
-  abbrev Does : Acting (Inner ℕ I) V Limit
+  abbrev Does : Acting (Inner ℕ S) V Limit
   Does = Performs nat_eq modules begins first.now.at.0
 
-  abbrev Guarded : Acting (Inner ℕ I) V Limit
+  abbrev Guarded : Acting (Inner ℕ S) V Limit
   Guarded w a r after = (Fit w × lands.KnowsAct (K w) a) × Does w a r after
 
-  abbrev sight : Views (Inner ℕ I) V
+  abbrev sight : Views (Inner ℕ S) V
   sight = view nat_eq modules linked fits begins some first.now.at.0
 
-  guard : (w : Inner ℕ I) (a : Act V) → Fit w → lands.KnowsAct (K w) a → HasAnswer sight Does w a → HasAnswer sight Guarded w a
+  guard : (w : Inner ℕ S) (a : Act V) → Fit w → lands.KnowsAct (K w) a → HasAnswer sight Does w a → HasAnswer sight Guarded w a
   guard w a f k (answers r mid h l q) = answers r mid ((f, k), h) l q
   guard w a f k (told_stop why after h q) = told_stop why after ((f, k), h) q
 
@@ -143,23 +143,23 @@ module _ {I : Type 0} (modules : I → Modules ℕ) (linked : I → ℕ → Bool
   }
 
   -- the state of the definitions is that of the code, which holds the same code as at first
-  pub record Stands (x : Inside I) (u : Inner ℕ I) : Type 0 where
+  pub record Stands (x : Inside I) (u : Inner ℕ S) : Type 0 where
     pub same : IsSame first x
-    pub made : HasScopes modules linked fits begins x
-    pub seen : inner_of x ≡ u
+    pub made : HasScopes seen modules linked fits begins x
+    pub state : inner_of seen x ≡ u
 
-  ready : (x : Inside I) → IsSame first x → HasScopes modules linked fits begins x → Fit (inner_of x) → IsReady modules linked fits begins x
-  ready x s h f = record { state = f.state; scopes = f.scopes; home = subst (λ (n : Activation). linked x.imports.now n.at.0 ≡ true) (sym s.now) f.home; made = h }
+  ready : (x : Inside I) → IsSame first x → HasScopes seen modules linked fits begins x → Fit (inner_of seen x) → IsReady seen modules linked fits begins x
+  ready x s h f = record { state = f.state; scopes = f.scopes; home = subst (λ (n : Activation). linked (seen x.imports.now) n.at.0 ≡ true) (sym s.now) f.home; made = h }
 
-  performed : (x y : Inside I) (u v : Inner ℕ I) (a : Act V) (r s : Result (AnswerTo a) Limit) → Stands x u → Answers modules linked fits begins x a r y → Guarded u a s v → (s ≡ r) × Stands y v
+  performed : (x y : Inside I) (u v : Inner ℕ S) (a : Act V) (r s : Result (AnswerTo a) Limit) → Stands x u → Answers seen modules linked fits begins x a r y → Guarded u a s v → (s ≡ r) × Stands y v
   performed x y u v a r s t h g =
-      let g' : Guarded (inner_of x) a s v = subst (λ u. Guarded u a s v) (sym t.seen) g in
+      let g' : Guarded (inner_of seen x) a s v = subst (λ u. Guarded u a s v) (sym t.state) g in
       let k = h.1 (ready x t.same t.made g'.0.0) (knows_act _ a g'.0.1) in
-      let p : Does (inner_of x) a r (inner_of y) = subst (λ (n : Activation). Performs nat_eq modules begins n.at.0 (inner_of x) a r (inner_of y)) t.same.now k.0 in
-      let o = (acts_one nat_eq modules begins one first.now.at.0).one {w = inner_of x} {x = inner_of y} {y = v} {a = a} {r = r} {s = s} p g'.1 in
-      (o.0, record { same = same_both t.same h.0; made = k.1; seen = sym o.1 })
+      let p : Does (inner_of seen x) a r (inner_of seen y) = subst (λ (n : Activation). Performs nat_eq modules begins n.at.0 (inner_of seen x) a r (inner_of seen y)) t.same.now k.0 in
+      let o = (acts_one nat_eq modules begins one first.now.at.0).one {w = inner_of seen x} {x = inner_of seen y} {y = v} {a = a} {r = r} {s = s} p g'.1 in
+      (o.0, record { same = same_both t.same h.0; made = k.1; state = sym o.1 })
 
-  acts_alike : AlikeActs Stands (ActsInside modules linked fits begins) Guarded
+  acts_alike : AlikeActs Stands (ActsInside seen modules linked fits begins) Guarded
   acts_alike = record {
     answered = λ {w} {x} {u} {y} {a} {r} {s} t h g. performed w x u y a (Ok r) s t h g;
     stopped = λ {w} {x} {u} {y} {a} {l} {s} t h g. performed w x u y a (Err l) s t h g;
@@ -167,21 +167,21 @@ module _ {I : Type 0} (modules : I → Modules ℕ) (linked : I → ℕ → Bool
 
   -- ---- where an evaluation leads
 
-  abbrev pub Rewrites' : Inner ℕ I → Term V → Rewritten V Limit (Term V) → Inner ℕ I → Type 0
+  abbrev pub Rewrites' : Inner ℕ S → Term V → Rewritten V Limit (Term V) → Inner ℕ S → Type 0
   Rewrites' = Rewrites numbered (own_url nat_eq modules begins first.now.at.0) Does
 
   -- rewritings up to an end, none of which changes the scopes
-  pub data Two : Inner ℕ I → Term V → TermEnd V Limit → Inner ℕ I → Type 0 where
-    value : {w : Inner ℕ I} {v : V} → Two w (Val v) (end.Value v) w
-    goes : {w mid after : Inner ℕ I} {t rest : Term V} {e : TermEnd V Limit} → Rewrites' w t (Goes rest) mid → mid.scopes ≡ w.scopes → Two mid rest e after → Two w t e after
-    throws : {w after : Inner ℕ I} {t : Term V} {v : V} → Rewrites' w t (Leaves v) after → after.scopes ≡ w.scopes → Two w t (end.Thrown v) after
-    calls : {w after : Inner ℕ I} {t rest : Term V} {f : V} {vs : List V} → Rewrites' w t (Calls f vs rest) after → after.scopes ≡ w.scopes → Two w t (end.Call f vs rest) after
-    stopped : {w after : Inner ℕ I} {t : Term V} {why : Limit} → Rewrites' w t (Stops why) after → after.scopes ≡ w.scopes → Two w t (end.Stopped why) after
+  pub data Two : Inner ℕ S → Term V → TermEnd V Limit → Inner ℕ S → Type 0 where
+    value : {w : Inner ℕ S} {v : V} → Two w (Val v) (end.Value v) w
+    goes : {w mid after : Inner ℕ S} {t rest : Term V} {e : TermEnd V Limit} → Rewrites' w t (Goes rest) mid → mid.scopes ≡ w.scopes → Two mid rest e after → Two w t e after
+    throws : {w after : Inner ℕ S} {t : Term V} {v : V} → Rewrites' w t (Leaves v) after → after.scopes ≡ w.scopes → Two w t (end.Thrown v) after
+    calls : {w after : Inner ℕ S} {t rest : Term V} {f : V} {vs : List V} → Rewrites' w t (Calls f vs rest) after → after.scopes ≡ w.scopes → Two w t (end.Call f vs rest) after
+    stopped : {w after : Inner ℕ S} {t : Term V} {why : Limit} → Rewrites' w t (Stops why) after → after.scopes ≡ w.scopes → Two w t (end.Stopped why) after
 
-  abbrev Rewrites'' : Inner ℕ I → Term V → Rewritten V Limit (Term V) → Inner ℕ I → Type 0
+  abbrev Rewrites'' : Inner ℕ S → Term V → Rewritten V Limit (Term V) → Inner ℕ S → Type 0
   Rewrites'' = Rewrites numbered (own_url nat_eq modules begins first.now.at.0) Guarded
 
-  weak : (w : Inner ℕ I) (t : Term V) (c : Rewritten V Limit (Term V)) (after : Inner ℕ I) → Rewrites'' w t c after → Rewrites numbered (own_url nat_eq modules begins first.now.at.0) Does w t c after
+  weak : (w : Inner ℕ S) (t : Term V) (c : Rewritten V Limit (Term V)) (after : Inner ℕ S) → Rewrites'' w t c after → Rewrites numbered (own_url nat_eq modules begins first.now.at.0) Does w t c after
   weak w t c after r = weaker numbered (own_url nat_eq modules begins first.now.at.0) Guarded Does (λ w a r after h. h.1) r
 
   -- the same end, where memory didn't run out
@@ -192,26 +192,26 @@ module _ {I : Type 0} (modules : I → Modules ℕ) (linked : I → ℕ → Bool
   Ends (end.Stopped (stops.Limit l)) P = P (end.Stopped l)
   Ends (end.Stopped stops.Memory) P = Unit {0}
 
-  abbrev pub Led : Inner ℕ I → Term V → TermEnd V Stop → Inside I → Type 0
-  Led u t e x = Ends e (λ d. Two u t d (inner_of x) × (IsSame first x × HasScopes modules linked fits begins x))
+  abbrev pub Led : Inner ℕ S → Term V → TermEnd V Stop → Inside I → Type 0
+  Led u t e x = Ends e (λ d. Two u t d (inner_of seen x) × (IsSame first x × HasScopes seen modules linked fits begins x))
 
-  before : (u mid : Inner ℕ I) (t rest : Term V) (x : Inside I) → Rewrites'' u t (Goes rest) mid → mid.scopes ≡ u.scopes → (e : TermEnd V Stop) → Led mid rest e x → Led u t e x
+  before : (u mid : Inner ℕ S) (t rest : Term V) (x : Inside I) → Rewrites'' u t (Goes rest) mid → mid.scopes ≡ u.scopes → (e : TermEnd V Stop) → Led mid rest e x → Led u t e x
   before u mid t rest x r k (end.Value v) h = (goes (weak _ _ _ _ r) k h.0, h.1)
   before u mid t rest x r k (end.Thrown v) h = (goes (weak _ _ _ _ r) k h.0, h.1)
   before u mid t rest x r k (end.Call f vs s) h = (goes (weak _ _ _ _ r) k h.0, h.1)
   before u mid t rest x r k (end.Stopped (stops.Limit l)) h = (goes (weak _ _ _ _ r) k h.0, h.1)
   before u mid t rest x r k (end.Stopped stops.Memory) h = tt
 
-  abbrev Found : Inner ℕ I → Term V → Type 0
+  abbrev Found : Inner ℕ S → Term V → Type 0
   Found u t = Here sight numbered (own_url nat_eq modules begins first.now.at.0) Guarded guarded u t
 
-  abbrev Agree : Rewritten V Stop (Term V) → Inside I → Rewritten V Limit (Term V) → Inner ℕ I → Type 0
+  abbrev Agree : Rewritten V Stop (Term V) → Inside I → Rewritten V Limit (Term V) → Inner ℕ S → Type 0
   Agree = Agrees Stands
 
-  values_alike : {x : Inside I} {u : Inner ℕ I} (v : V) → Stands x u → Led u (Val v) (end.Value v) x
-  values_alike {x} {u} v s = (subst (λ z. Two u (Val v) (end.Value v) z) (sym s.seen) value, (s.same, s.made))
+  values_alike : {x : Inside I} {u : Inner ℕ S} (v : V) → Stands x u → Led u (Val v) (end.Value v) x
+  values_alike {x} {u} v s = (subst (λ z. Two u (Val v) (end.Value v) z) (sym s.state) value, (s.same, s.made))
 
-  goes_by : (mid y : Inside I) (u : Inner ℕ I) (t rest : Term V) (e : TermEnd V Stop) → ((u : Inner ℕ I) → Stands mid u → Fit u → Holds (K u) ⊥ rest → Led u rest e y) → (d : Rewritten V Limit (Term V)) (v : Inner ℕ I) → Rewrites'' u t d v
+  goes_by : (mid y : Inside I) (u : Inner ℕ S) (t rest : Term V) (e : TermEnd V Stop) → ((u : Inner ℕ S) → Stands mid u → Fit u → Holds (K u) ⊥ rest → Led u rest e y) → (d : Rewritten V Limit (Term V)) (v : Inner ℕ S) → Rewrites'' u t d v
       → Arrives sight numbered (own_url nat_eq modules begins first.now.at.0) Guarded guarded u (size t) d v → Agree (Goes rest) mid d v → Led u t e y
   goes_by mid y u t rest e again (Goes b) v r l a =
       before u v t rest y (subst (λ b. Rewrites'' u t (Goes b) v) a.0 r) l.1.0.took.scopes e (again v a.1 l.1.0.fits (subst (λ b. Holds (K v) ⊥ b) a.0 l.1.1.0))
@@ -219,48 +219,48 @@ module _ {I : Type 0} (modules : I → Modules ℕ) (linked : I → ℕ → Bool
   goes_by mid y u t rest e again (Calls g us b) v r l a = absurd a
   goes_by mid y u t rest e again (Stops why) v r l a = absurd a
 
-  throws_by : (y : Inside I) (u : Inner ℕ I) (t : Term V) (w : V) (d : Rewritten V Limit (Term V)) (v : Inner ℕ I) → Rewrites'' u t d v → Arrives sight numbered (own_url nat_eq modules begins first.now.at.0) Guarded guarded u (size t) d v → Agree (Leaves w) y d v → Led u t (end.Thrown w) y
+  throws_by : (y : Inside I) (u : Inner ℕ S) (t : Term V) (w : V) (d : Rewritten V Limit (Term V)) (v : Inner ℕ S) → Rewrites'' u t d v → Arrives sight numbered (own_url nat_eq modules begins first.now.at.0) Guarded guarded u (size t) d v → Agree (Leaves w) y d v → Led u t (end.Thrown w) y
   throws_by y u t w (Goes b) v r h a = absurd a
   throws_by y u t w (Leaves x) v r h a =
-      (subst (λ z. Two u t (end.Thrown w) z) (sym a.1.seen) (throws (weak _ _ _ _ (subst (λ x. Rewrites'' u t (Leaves x) v) a.0 r)) h.1.0.took.scopes), (a.1.same, a.1.made))
+      (subst (λ z. Two u t (end.Thrown w) z) (sym a.1.state) (throws (weak _ _ _ _ (subst (λ x. Rewrites'' u t (Leaves x) v) a.0 r)) h.1.0.took.scopes), (a.1.same, a.1.made))
   throws_by y u t w (Calls g us b) v r h a = absurd a
   throws_by y u t w (Stops why) v r h a = absurd a
 
-  calls_by : (y : Inside I) (u : Inner ℕ I) (t : Term V) (f : V) (vs : List V) (rest : Term V) (d : Rewritten V Limit (Term V)) (v : Inner ℕ I) → Rewrites'' u t d v → Arrives sight numbered (own_url nat_eq modules begins first.now.at.0) Guarded guarded u (size t) d v → Agree (Calls f vs rest) y d v → Led u t (end.Call f vs rest) y
+  calls_by : (y : Inside I) (u : Inner ℕ S) (t : Term V) (f : V) (vs : List V) (rest : Term V) (d : Rewritten V Limit (Term V)) (v : Inner ℕ S) → Rewrites'' u t d v → Arrives sight numbered (own_url nat_eq modules begins first.now.at.0) Guarded guarded u (size t) d v → Agree (Calls f vs rest) y d v → Led u t (end.Call f vs rest) y
   calls_by y u t f vs rest (Goes b) v r h a = absurd a
   calls_by y u t f vs rest (Leaves x) v r h a = absurd a
   calls_by y u t f vs rest (Calls g us b) v r h a =
       let r' : Rewrites'' u t (Calls f vs rest) v = subst (λ (c : Rewritten V Limit (Term V)). Rewrites'' u t c v) (λ i. Calls (a.0 i) (a.1 i) (a.2 i)) r in
-      (subst (λ z. Two u t (end.Call f vs rest) z) (sym a.3.seen) (calls (weak _ _ _ _ r') h.1.0.took.scopes), (a.3.same, a.3.made))
+      (subst (λ z. Two u t (end.Call f vs rest) z) (sym a.3.state) (calls (weak _ _ _ _ r') h.1.0.took.scopes), (a.3.same, a.3.made))
   calls_by y u t f vs rest (Stops why) v r h a = absurd a
 
-  stops_by : (y : Inside I) (u : Inner ℕ I) (t : Term V) (l : Limit) (d : Rewritten V Limit (Term V)) (v : Inner ℕ I) → Rewrites'' u t d v → Arrives sight numbered (own_url nat_eq modules begins first.now.at.0) Guarded guarded u (size t) d v → Agree (Stops (stops.Limit l)) y d v → Led u t (end.Stopped (stops.Limit l)) y
+  stops_by : (y : Inside I) (u : Inner ℕ S) (t : Term V) (l : Limit) (d : Rewritten V Limit (Term V)) (v : Inner ℕ S) → Rewrites'' u t d v → Arrives sight numbered (own_url nat_eq modules begins first.now.at.0) Guarded guarded u (size t) d v → Agree (Stops (stops.Limit l)) y d v → Led u t (end.Stopped (stops.Limit l)) y
   stops_by y u t l (Goes b) v r h a = absurd a
   stops_by y u t l (Leaves x) v r h a = absurd a
   stops_by y u t l (Calls g us b) v r h a = absurd a
   stops_by y u t l (Stops k) v r h a =
-      (subst (λ z. Two u t (end.Stopped l) z) (sym a.1.seen) (stopped (weak _ _ _ _ (subst (λ k. Rewrites'' u t (Stops k) v) a.0 r)) h.scopes), (a.1.same, a.1.made))
+      (subst (λ z. Two u t (end.Stopped l) z) (sym a.1.state) (stopped (weak _ _ _ _ (subst (λ k. Rewrites'' u t (Stops k) v) a.0 r)) h.scopes), (a.1.same, a.1.made))
 
   -- shows says that the URL that the code gives of a linked module is the module's
-  module _ (urls : I → ℕ → List ℕ) (shows : (o : Outer ℕ I) (m : ℕ) → fits o → linked o.imports m ≡ true → urls o.imports m ≡ (modules o.imports).url m) where
+  module _ (urls : I → ℕ → List ℕ) (shows : (o : Outer ℕ S) (i : I) (m : ℕ) → fits (record o { imports = seen i }) → linked (seen i) m ≡ true → urls i m ≡ (modules (seen i)).url m) where
     abbrev One : Inside I → Term V → TermEnd V Stop → Inside I → Type 0
-    One = Leads numbered (url_inside urls) (ActsInside modules linked fits begins)
+    One = Leads numbered (url_inside urls) (ActsInside seen modules linked fits begins)
 
-    own_is : (x : Inside I) (u : Inner ℕ I) → Stands x u → Fit u → own_url nat_eq modules begins first.now.at.0 u ≡ url_inside urls x
+    own_is : (x : Inside I) (u : Inner ℕ S) → Stands x u → Fit u → own_url nat_eq modules begins first.now.at.0 u ≡ url_inside urls x
     own_is x u t f =
-        let k : Fit (inner_of x) = subst Fit (sym t.seen) f in
-        let e : urls x.imports.now first.now.at.0 ≡ (modules x.imports.now).url first.now.at.0 = shows (inner_of x).state.outer first.now.at.0 k.state.whole k.home in
-        subst (λ (u : Inner ℕ I). own_url nat_eq modules begins first.now.at.0 u ≡ url_inside urls x) t.seen
+        let k : Fit (inner_of seen x) = subst Fit (sym t.state) f in
+        let e : urls x.imports.now first.now.at.0 ≡ (modules (seen x.imports.now)).url first.now.at.0 = shows (inner_of seen x).state.outer x.imports.now first.now.at.0 k.state.whole k.home in
+        subst (λ (u : Inner ℕ S). own_url nat_eq modules begins first.now.at.0 u ≡ url_inside urls x) t.state
         (sym (ap (λ (n : Activation). urls x.imports.now n.at.0) t.same.now ∙ e))
 
     -- what the definitions rewrite to, which the code's rewriting agrees with
-    found : {x y : Inside I} {t : Term V} {c : Rewritten V Stop (Term V)} (u : Inner ℕ I) → Stands x u → Fit u → Rewrites numbered (url_inside urls) (ActsInside modules linked fits begins) x t c y → Found u t
-        → (d : Rewritten V Limit (Term V)) × ((v : Inner ℕ I) × (Rewrites'' u t d v × (Arrives sight numbered (own_url nat_eq modules begins first.now.at.0) Guarded guarded u (size t) d v × Agree c y d v)))
-    found {x = x} {y = y} {c = c} u s f r (inl w) = absurd (no_step numbered (url_inside urls) (ActsInside modules linked fits begins) (subst (λ t. Rewrites numbered (url_inside urls) (ActsInside modules linked fits begins) x t c y) w.1 r))
-    found {x = x} u s f r (inr (comes d v q l)) = (d, (v, (q, (l, step_alike Stands (ActsInside modules linked fits begins) Guarded acts_alike numbered (url_inside urls) (own_url nat_eq modules begins first.now.at.0) s (own_is x u s f) r q))))
+    found : {x y : Inside I} {t : Term V} {c : Rewritten V Stop (Term V)} (u : Inner ℕ S) → Stands x u → Fit u → Rewrites numbered (url_inside urls) (ActsInside seen modules linked fits begins) x t c y → Found u t
+        → (d : Rewritten V Limit (Term V)) × ((v : Inner ℕ S) × (Rewrites'' u t d v × (Arrives sight numbered (own_url nat_eq modules begins first.now.at.0) Guarded guarded u (size t) d v × Agree c y d v)))
+    found {x = x} {y = y} {c = c} u s f r (inl w) = absurd (no_step numbered (url_inside urls) (ActsInside seen modules linked fits begins) (subst (λ t. Rewrites numbered (url_inside urls) (ActsInside seen modules linked fits begins) x t c y) w.1 r))
+    found {x = x} u s f r (inr (comes d v q l)) = (d, (v, (q, (l, step_alike Stands (ActsInside seen modules linked fits begins) Guarded acts_alike numbered (url_inside urls) (own_url nat_eq modules begins first.now.at.0) s (own_is x u s f) r q))))
 
     -- where the code's evaluation ends, that of the definitions ends
-    pub led : {x y : Inside I} {t : Term V} {e : TermEnd V Stop} → One x t e y → (u : Inner ℕ I) → Stands x u → Fit u → Holds (K u) ⊥ t → Led u t e y
+    pub led : {x y : Inside I} {t : Term V} {e : TermEnd V Stop} → One x t e y → (u : Inner ℕ S) → Stands x u → Fit u → Holds (K u) ⊥ t → Led u t e y
     led (leads.value {v = v}) u s f h = values_alike v s
     led {y = y} {t = t} {e = e} (leads.goes {mid = mid} {rest = rest} r more) u s f h =
         let o = found u s f r (come sight numbered (own_url nat_eq modules begins first.now.at.0) Guarded guarded u f t h) in

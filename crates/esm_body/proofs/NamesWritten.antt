@@ -413,30 +413,30 @@ module _ {I : Type 0} (modules : I → Modules ℕ) (linked : I → ℕ → Bool
 
 -- ---- code under way
 
-module _ {I : Type 0} (modules : I → Modules ℕ) (linked : I → ℕ → Bool) (fits : Outer ℕ I → Type 0) (begins : Importing ℕ I) where
+module _ {I S : Type 0} (seen : I → S) (modules : S → Modules ℕ) (linked : S → ℕ → Bool) (fits : Outer ℕ S → Type 0) (begins : Importing ℕ S) where
   -- what the code is afterwards, over what it held before
-  abbrev Late : Inside I → MutBor Engine → MutBor Numbered → Errors → MutBor I → Inner ℕ I
-  Late after engine ps es i = record { scopes = scopes_round after.now.levels.items; state = state_of engine.now (scopes_of after.envs.now) ps.now es i.now }
+  abbrev Late : Inside I → MutBor Engine → MutBor Numbered → Errors → MutBor I → Inner ℕ S
+  Late after engine ps es i = record { scopes = scopes_round after.now.levels.items; state = state_of engine.now (scopes_of after.envs.now) ps.now es (seen i.now) }
 
-  scopes_after : (w after : Inside I) → IsLike w after → AreScopesOf (modules w.imports.now) (linked w.imports.now) (scopes_of after.envs.now) → HasScopes modules linked fits begins after
-  scopes_after w after like a = subst (λ (i : MutBor I). AreScopesOf (modules i.now) (linked i.now) (scopes_of after.envs.now)) (sym like.imports) a
+  scopes_after : (w after : Inside I) → IsLike w after → AreScopesOf (modules (seen w.imports.now)) (linked (seen w.imports.now)) (scopes_of after.envs.now) → HasScopes seen modules linked fits begins after
+  scopes_after w after like a = subst (λ (i : MutBor I). AreScopesOf (modules (seen i.now)) (linked (seen i.now)) (scopes_of after.envs.now)) (sym like.imports) a
 
   pub writes_name : (w after : Inside I) (x : List ℕ) (v : Value) (result : Wrote) (told : Result (Option Value) Memory) → WritesRight → IsLike w after
       → WritesTo w.now.levels.items (scopes_of w.envs.now) w.now.at.0 x v result after.now.levels.items (scopes_of after.envs.now)
-      → Throws x result w.errors.now told after.errors.now → WritesName modules linked fits begins w x v told after
+      → Throws x result w.errors.now told after.errors.now → WritesName seen modules linked fits begins w x v told after
   writes_name w after x v result (Err end) right like to t = tt
   writes_name w after x v result (Ok told) right like to t = (like, λ scopes here.
       let s = scopes.made w.now.at.0 here in
       let home = (s.0, s.1, scopes.imports w.now.at.0 s.0 here s.1) in
-      let r = writes_is modules linked begins w.engine.now w.promises.now w.imports.now (scopes_round w.now.levels.items) (scopes_round after.now.levels.items)
+      let r = writes_is modules linked begins w.engine.now w.promises.now (seen w.imports.now) (scopes_round w.now.levels.items) (scopes_round after.now.levels.items)
         (scopes_of w.envs.now) (scopes_of after.envs.now) w.now.at.0 x v result w.errors.now after.errors.now told right scopes home
         (in_scopes (scopes_round w.now.levels.items) x) to.1 t in
       ((λ j. (thrown told, Late after (like.engine j) (like.promises j) after.errors.now (like.imports j))) ∙ r.0, scopes_after w after like r.1))
 
   pub sets_name : (w after : Inside I) (x : List ℕ) (v : Value) → WritesRight → IsLike w after → after.errors.now ≡ w.errors.now
       → SetsTo w.now.levels.items (scopes_of w.envs.now) w.now.at.0 x v after.now.levels.items (scopes_of after.envs.now)
-      → SetsName modules linked fits begins w x v after
+      → SetsName seen modules linked fits begins w x v after
   sets_name w after x v right like errors to = (like, λ scopes own.
-      let r = sets_is modules linked begins w.engine.now w.promises.now w.imports.now (scopes_round w.now.levels.items) (scopes_round after.now.levels.items)
+      let r = sets_is modules linked begins w.engine.now w.promises.now (seen w.imports.now) (scopes_round w.now.levels.items) (scopes_round after.now.levels.items)
         (scopes_of w.envs.now) (scopes_of after.envs.now) w.now.at.0 x v w.errors.now right scopes own to.1 in
       ((λ j. Late after (like.engine j) (like.promises j) (errors j) (like.imports j)) ∙ r.0, scopes_after w after like r.1))

@@ -135,7 +135,7 @@ module _ {N I : Type 0} (same : N → N → Bool) (modules : I → Modules N) (b
 
 -- ---- the expression of a statement
 
-module _ {I : Type 0} (modules : I → Modules ℕ) (linked : I → ℕ → Bool) (fits : Outer ℕ I → Type 0) (begins : Importing ℕ I) (some : BeginsSome modules linked fits begins) (one : BeginsOne begins) (first : Inside I) where
+module _ {I S : Type 0} (seen : I → S) (modules : S → Modules ℕ) (linked : S → ℕ → Bool) (fits : Outer ℕ S → Type 0) (begins : Importing ℕ S) (some : BeginsSome modules linked fits begins) (one : BeginsOne begins) (first : Inside I) where
   -- what an evaluation's end comes to, of the whole
   abbrev pub end_in : List (Context CodeValue) → Use → Rest CodeValue → TermEnd CodeValue Limit → RewrittenBody CodeValue Limit
   end_in cs purpose rest (end.Value v) = On (comes.Goes (surrounded cs (more (Does purpose (Val v)) rest)))
@@ -143,7 +143,7 @@ module _ {I : Type 0} (modules : I → Modules ℕ) (linked : I → ℕ → Bool
   end_in cs purpose rest (end.Call f vs t) = On (comes.Calls f vs (surrounded cs (more (Does purpose t) rest)))
   end_in cs purpose rest (end.Stopped why) = On (comes.Stops why)
 
-  pub path_comes : (cs : List (Context CodeValue)) (purpose : Use) (rest : Rest CodeValue) {u after : Inner ℕ I} {t : Term CodeValue} {e : TermEnd CodeValue Limit} → Two modules linked fits begins some one first u t e after → u.scopes ≡ scopes_in cs
+  pub path_comes : (cs : List (Context CodeValue)) (purpose : Use) (rest : Rest CodeValue) {u after : Inner ℕ S} {t : Term CodeValue} {e : TermEnd CodeValue Limit} → Two seen modules linked fits begins some one first u t e after → u.scopes ≡ scopes_in cs
       → Comes nat_eq modules begins first.now.at.0 u.state (surrounded cs (more (Does purpose t) rest)) (end_in cs purpose rest e) after.state
   path_comes cs purpose rest value s = here
   path_comes cs purpose rest {u = u} (goes {mid = mid} {t = t} {rest = t'} r k more') s =

@@ -21,8 +21,8 @@ pub(crate) fn begin_import<I: Importer>(
     specifier: &str,
 ) -> Result<Value, Stop>
     ensures { BeginsTold I.modules I.linked I.fits I.begins
-        (outer_with promises.old errors.old imports.old) at.0 specifier.now result
-        (outer_with promises.new errors.new imports.new) }
+        (outer_with promises.old errors.old (I.seen imports.old)) at.0 specifier.now result
+        (outer_with promises.new errors.new (I.seen imports.new)) }
 {
     match promises.make(alloc) {
         Ok(promise) => {

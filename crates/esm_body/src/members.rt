@@ -55,7 +55,7 @@ fn read_member<I: Importer>(
     m: ModuleId,
     name: &str,
 ) -> Result<Found, Memory>
-    ensures { IfOk result (λ found. IsMember (I.modules imports.now) (I.linked imports.now)
+    ensures { IfOk result (λ found. IsMember (I.modules (I.seen imports.now)) (I.linked (I.seen imports.now))
         (scopes_of envs.now) m.0 name.now (found_reading found)) }
 {
     esm_env::laws::ends_right();
@@ -133,7 +133,7 @@ fn namespace_member<I: Importer>(
     m: ModuleId,
     name: &str,
 ) -> Result<Out, Memory>
-    ensures { MemberTold (I.modules imports.now) (I.linked imports.now) (scopes_of envs.now)
+    ensures { MemberTold (I.modules (I.seen imports.now)) (I.linked (I.seen imports.now)) (scopes_of envs.now)
         errors.old (value.Namespace m.0) name.now result errors.new }
 {
     match read_member(alloc, envs, imports, m, name) {
@@ -153,7 +153,7 @@ pub(crate) fn member_of<I: Importer>(
     of: Value,
     name: &str,
 ) -> Result<Out, Memory>
-    ensures { MemberTold (I.modules imports.now) (I.linked imports.now) (scopes_of envs.now)
+    ensures { MemberTold (I.modules (I.seen imports.now)) (I.linked (I.seen imports.now)) (scopes_of envs.now)
         errors.old (value_of of) name.now result errors.new }
 {
     match of {

@@ -15,7 +15,7 @@ impl<'a, I: Importer> World for Inside<'a, I> {
 
     type Stop = Stop;
 
-    ghost acts = { ActsInside I.modules I.linked I.fits I.begins };
+    ghost acts = { ActsInside I.seen I.modules I.linked I.fits I.begins };
 
     ghost url_of = { url_inside I.urls };
 

@@ -60,16 +60,16 @@ abbrev pub IsKeys : Modules ℕ → (ℕ → Bool) → ℕ → List (List ℕ) �
 IsKeys g linked m keys = AreLinked g linked → linked m ≡ true → AreNamespaceKeysOf (graph g) (g.number m) keys × All IsUtf8 keys
 
 -- a state in which nothing but these modules and errors is there
-abbrev pub seen : Modules ℕ → Errors → State ℕ (Modules ℕ)
-seen g errors = record { engine = opening_engine false; cells = no_cells; outer = outer_with no_promises errors g }
+abbrev pub bare_state : Modules ℕ → Errors → State ℕ (Modules ℕ)
+bare_state g errors = record { engine = opening_engine false; cells = no_cells; outer = outer_with no_promises errors g }
 
 module _ (g : Modules ℕ) (linked : ℕ → Bool) (e : Scopes) (errors : Errors) where
   -- the text is the value's display text, where its value is known
   abbrev pub IsShown : CodeValue → List ℕ → Type 0
-  IsShown v text = AreScopesOf g linked e → AreLinked g linked → IsKnown g linked v → Displays (λ g. g) (seen g errors) v text
+  IsShown v text = AreScopesOf g linked e → AreLinked g linked → IsKnown g linked v → Displays (λ g. g) (bare_state g errors) v text
 
   abbrev pub AreShown : List CodeValue → List (List ℕ) → Type 0
-  AreShown vs texts = AreScopesOf g linked e → AreLinked g linked → AllKnown (IsKnown g linked) vs → DisplaysAll (λ g. g) (seen g errors) vs texts
+  AreShown vs texts = AreScopesOf g linked e → AreLinked g linked → AllKnown (IsKnown g linked) vs → DisplaysAll (λ g. g) (bare_state g errors) vs texts
 
 -- the text of a specifier, where the value has one
 abbrev pub IsSpecifier : Errors → CodeValue → Option (List ℕ) → Type 0

@@ -18,11 +18,11 @@ use Rattle.esm_body.specs.declared.log.Stop.TheVariants as stops
 use Rattle.esm_body.specs.declared.inside.Inside.{Inside}
 
 -- what code under way reads and writes
-abbrev pub state_in : {I : Type 0} → Inside I → State ℕ I
-state_in w = state_of w.engine.now (scopes_of w.envs.now) w.promises.now w.errors.now w.imports.now
+abbrev pub state_in : {I S : Type 0} → (I → S) → Inside I → State ℕ S
+state_in seen w = state_of w.engine.now (scopes_of w.envs.now) w.promises.now w.errors.now (seen w.imports.now)
 
-abbrev pub inner_of : {I : Type 0} → Inside I → Inner ℕ I
-inner_of w = record { scopes = scopes_round w.now.levels.items; state = state_in w }
+abbrev pub inner_of : {I S : Type 0} → (I → S) → Inside I → Inner ℕ S
+inner_of seen w = record { scopes = scopes_round w.now.levels.items; state = state_in seen w }
 
 -- the URL that is given of the module in which the code stands written
 abbrev pub url_inside : {I : Type 0} → (I → ℕ → List ℕ) → Inside I → List ℕ
@@ -52,20 +52,21 @@ KnowsAct Knows (act.Fault kind message) = ⊤
 KnowsAct Knows (act.Step n) = ⊤
 KnowsAct Knows (act.Import v) = Knows v
 
-module _ {I : Type 0} (modules : I → Modules ℕ) (linked : I → ℕ → Bool) (fits : Outer ℕ I → Type 0) (begins : Importing ℕ I) where
+-- seen is what contracts see of the importer
+module _ {I S : Type 0} (seen : I → S) (modules : S → Modules ℕ) (linked : S → ℕ → Bool) (fits : Outer ℕ S → Type 0) (begins : Importing ℕ S) where
   abbrev pub HasScopes : Inside I → Type 0
-  HasScopes w = AreScopesOf (modules w.imports.now) (linked w.imports.now) (scopes_of w.envs.now)
+  HasScopes w = AreScopesOf (modules (seen w.imports.now)) (linked (seen w.imports.now)) (scopes_of w.envs.now)
 
   -- its state fits, and what it reads was made
   pub record IsReady (w : Inside I) : Type 0 where
-    pub state : FitsState modules linked fits (state_in w)
-    pub scopes : HoldScopes (Knows modules linked w.imports.now) (scopes_round w.now.levels.items)
-    pub home : linked w.imports.now w.now.at.0 ≡ true
+    pub state : FitsState modules linked fits (state_in seen w)
+    pub scopes : HoldScopes (Knows modules linked (seen w.imports.now)) (scopes_round w.now.levels.items)
+    pub home : linked (seen w.imports.now) w.now.at.0 ≡ true
     pub made : HasScopes w
 
   abbrev pub Answers : (w : Inside I) → (a : Act (Value ℕ)) → Result (AnswerTo a) Limit → Inside I → Type 0
-  Answers w a r after = IsSame w after × (IsReady w → KnowsAct (Knows modules linked w.imports.now) a
-      → Performs nat_eq modules begins w.now.at.0 (inner_of w) a r (inner_of after) × HasScopes after)
+  Answers w a r after = IsSame w after × (IsReady w → KnowsAct (Knows modules linked (seen w.imports.now)) a
+      → Performs nat_eq modules begins w.now.at.0 (inner_of seen w) a r (inner_of seen after) × HasScopes after)
 
   -- each call is one of the definitions, but where memory ran out
   abbrev pub ActsInside : Inside I → (a : Act (Value ℕ)) → Result (AnswerTo a) Stop → Inside I → Type 0

@@ -136,16 +136,16 @@ pub record IsLike {I : Type 0} (w after : Inside I) : Type 0 where
   pub promises : after.promises ≡ w.promises
   pub imports : after.imports ≡ w.imports
 
-module _ {I : Type 0} (modules : I → Modules ℕ) (linked : I → ℕ → Bool) (fits : Outer ℕ I → Type 0) (begins : Importing ℕ I) where
+module _ {I S : Type 0} (seen : I → S) (modules : S → Modules ℕ) (linked : S → ℕ → Bool) (fits : Outer ℕ S → Type 0) (begins : Importing ℕ S) where
   -- the module in which the code stands written is linked
   abbrev pub HasHome : Inside I → Type 0
-  HasHome w = linked w.imports.now w.now.at.0 ≡ true
+  HasHome w = linked (seen w.imports.now) w.now.at.0 ≡ true
 
   -- a write of a name is the definitions', where memory didn't run out
   abbrev pub WritesName : Inside I → List ℕ → Value → Result (Option Value) Memory → Inside I → Type 0
-  WritesName w x v (Ok told) after = IsLike w after × (HasScopes modules linked fits begins w → HasHome w
-      → ((thrown told, inner_of after) ≡ write_name nat_eq modules begins w.now.at.0 (inner_of w) x (value_of v))
-      × HasScopes modules linked fits begins after)
+  WritesName w x v (Ok told) after = IsLike w after × (HasScopes seen modules linked fits begins w → HasHome w
+      → ((thrown told, inner_of seen after) ≡ write_name nat_eq modules begins w.now.at.0 (inner_of seen w) x (value_of v))
+      × HasScopes seen modules linked fits begins after)
   WritesName w x v (Err end) after = Unit {0}
 
   -- outside of all blocks the module declares the name
@@ -155,6 +155,6 @@ module _ {I : Type 0} (modules : I → Modules ℕ) (linked : I → ℕ → Bool
 
   -- a declaration sets its name in the innermost block, or in the module
   abbrev pub SetsName : Inside I → List ℕ → Value → Inside I → Type 0
-  SetsName w x v after = IsLike w after × (HasScopes modules linked fits begins w → IsDeclared w x
-      → (inner_of after ≡ set_name nat_eq modules begins w.now.at.0 (inner_of w) x (value_of v))
-      × HasScopes modules linked fits begins after)
+  SetsName w x v after = IsLike w after × (HasScopes seen modules linked fits begins w → IsDeclared w x
+      → (inner_of seen after ≡ set_name nat_eq modules begins w.now.at.0 (inner_of seen w) x (value_of v))
+      × HasScopes seen modules linked fits begins after)

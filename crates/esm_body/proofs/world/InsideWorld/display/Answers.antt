@@ -3,4 +3,4 @@ use Rattle.esm_body.proofs.WorldActs.{displays}
 use Rattle.esm_body.proofs.world.InsideWorld.display.Goals as goal
 
 pub returns-in-Ok-copy : goal.returns-in-Ok-copy
-returns-in-Ok-copy g c = displays g.I.Importer.modules g.I.Importer.linked g.I.Importer.fits g.I.Importer.begins c.args.self.now (value_of c.args.of.now) c.in-Ok-copy.text g.met.I.Importer.lawful (rw (c.in-Ok-copy.ensures, c.as_str.ensures.value) c.in-Ok.ensures)
+returns-in-Ok-copy g c = displays g.I.Importer.seen g.I.Importer.modules g.I.Importer.linked g.I.Importer.fits g.I.Importer.begins c.args.self.now (value_of c.args.of.now) c.in-Ok-copy.text g.met.I.Importer.lawful (rw (c.in-Ok-copy.ensures, c.as_str.ensures.value) c.in-Ok.ensures)
