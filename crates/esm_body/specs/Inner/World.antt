@@ -34,7 +34,7 @@ pub record IsSame {I : Type 0} (w after : Inside I) : Type 0 where
   pub alloc : after.alloc ≡ w.alloc
   pub engine : after.engine.ghost_name ≡ w.engine.ghost_name
   pub errors : after.errors.ghost_name ≡ w.errors.ghost_name
-  pub envs : after.envs.ghost_name ≡ w.envs.ghost_name
+  pub envs : after.envs ≡ w.envs
   pub promises : after.promises.ghost_name ≡ w.promises.ghost_name
   pub imports : after.imports.ghost_name ≡ w.imports.ghost_name
 
