@@ -22,12 +22,12 @@ module _ (g : Modules ℕ) (linked : ℕ → Bool) (h : Graph) (urls : ℕ → L
 
   indirect_below : (m : ℕ) (e : IndirectExport) → linked m ≡ true → Contains (h.entries m).indirects e → e.request < length (entries g m).requests
   indirect_below m e k c =
-      let there : Contains (entries g m).indirects e = subst (λ (es : EntryLists). Contains es.indirects e) (has.entries m k) c in
+      let there : Contains (entries g m).indirects e = subst (λ (es : EntryLists). Contains es.indirects e) (has.same m k) c in
       All-contains (λ (e : IndirectExport). e.request < length (entries g m).requests) _ e (names_requests (g.tree m)).exports.indirects there
 
   star_below : (m star : ℕ) → linked m ≡ true → Contains (h.entries m).stars star → star < length (entries g m).requests
   star_below m star k c =
-      let there : Contains (entries g m).stars star = subst (λ (es : EntryLists). Contains es.stars star) (has.entries m k) c in
+      let there : Contains (entries g m).stars star = subst (λ (es : EntryLists). Contains es.stars star) (has.same m k) c in
       All-contains (λ s. s < length (entries g m).requests) _ star (names_requests (g.tree m)).exports.stars there
 
   target_linked : (m request : ℕ) → linked m ≡ true → request < length (entries g m).requests → linked (h.target m request) ≡ true
@@ -45,7 +45,7 @@ module _ (g : Modules ℕ) (linked : ℕ → Bool) (h : Graph) (urls : ℕ → L
 
   pub renumbers : (m : ℕ) → linked m ≡ true → Renumbers h (graph g) g.number m
   renumbers m k = record {
-    entries = λ x r. let j = reached_linked m x k r in ap (entries g) (l.named x j) ∙ sym (has.entries x j);
+    entries = λ x r. let j = reached_linked m x k r in ap (entries g) (l.named x j) ∙ sym (has.same x j);
     by_name = λ x e r c. let j = reached_linked m x k r in target_is x e.request j (indirect_below x e j c);
     by_star = λ x star r c. let j = reached_linked m x k r in target_is x star j (star_below x star j c);
     apart = λ x y r q e. sym (l.named x (reached_linked m x k r)) ∙ ap g.named e ∙ l.named y (reached_linked m y k q);
@@ -54,7 +54,7 @@ module _ (g : Modules ℕ) (linked : ℕ → Bool) (h : Graph) (urls : ℕ → L
   -- ---- the end of a resolution is linked
 
   -- the same modules, with their ids as numbers
-  by_ids : Modules ℕ
+  abbrev by_ids : Modules ℕ
   by_ids = record { url = g.url; tree = g.tree; target = g.target; size = h.size; number = λ m. m; named = λ m. m }
 
   ids_linked : AreLinked by_ids linked
@@ -62,7 +62,7 @@ module _ (g : Modules ℕ) (linked : ℕ → Bool) (h : Graph) (urls : ℕ → L
 
   ids_renumber : (m : ℕ) → linked m ≡ true → Renumbers h (graph by_ids) (λ n. n) m
   ids_renumber m k = record {
-    entries = λ x r. sym (has.entries x (reached_linked m x k r));
+    entries = λ x r. sym (has.same x (reached_linked m x k r));
     by_name = λ x e r c. let j = reached_linked m x k r in sym (has.target x e.request j (indirect_below x e j c));
     by_star = λ x star r c. let j = reached_linked m x k r in sym (has.target x star j (star_below x star j c));
     apart = λ x y r q e. e;

@@ -26,7 +26,7 @@ outer_with promises errors imports = record { promises = promises; errors = erro
 -- graph the modules may have other numbers
 pub record HasLinked (g : Modules ℕ) (linked : ℕ → Bool) (h : Graph) (urls : ℕ → List ℕ) : Type 0 where
   pub below : (m : ℕ) → linked m ≡ true → m < h.size
-  pub entries : (m : ℕ) → linked m ≡ true → h.entries m ≡ entries g m
+  pub same : (m : ℕ) → linked m ≡ true → h.entries m ≡ entries g m
   pub target : (m request : ℕ) → linked m ≡ true → request < length (entries g m).requests → h.target m request ≡ g.target m request
   pub url : (m : ℕ) → linked m ≡ true → urls m ≡ g.url m
 

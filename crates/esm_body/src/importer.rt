@@ -23,6 +23,7 @@ pub trait Importer: ExportGraph + Drop {
     /// What contracts see of it.
     ghost Seen: { Type 0 };
 
+    /// What they see of this one.
     ghost seen: { Self → Seen };
 
     /// The modules that are there.

@@ -77,17 +77,19 @@ impl<'a, I: Importer> World for Inside<'a, I> {
     fn import(&mut self, of: Value) -> Result<Value, Stop> {
         esm_promise::laws::made_pending();
         match specifier_of(self.alloc, self.errors, &of) {
-            Ok(Some(specifier)) => begin_import(
-                self.alloc,
-                self.promises,
-                self.errors,
-                self.imports,
-                self.now.at,
-                specifier.as_str(),
-            ),
-            Ok(None) => match refuse_import(self.alloc, self.promises, self.errors) {
-                Ok(promise) => Ok(promise),
-                Err(Memory) => Err(Stop::Memory),
+            Ok(specifier) => match specifier {
+                Some(specifier) => begin_import(
+                    self.alloc,
+                    self.promises,
+                    self.errors,
+                    self.imports,
+                    self.now.at,
+                    specifier.as_str(),
+                ),
+                None => match refuse_import(self.alloc, self.promises, self.errors) {
+                    Ok(promise) => Ok(promise),
+                    Err(Memory) => Err(Stop::Memory),
+                },
             },
             Err(Memory) => Err(Stop::Memory),
         }
