@@ -144,7 +144,7 @@ module _ {I : Type 0} (modules : I → Modules ℕ) (linked : I → ℕ → Bool
     line_ok text new h =
         let test = not_less MAX_LOG_BYTES (length (string_bytes engine.log.text) + length text + 1) h.0 in
         let now : Engine → List ℕ → ℕ → Option Limit → Inner ℕ I = λ engine log steps stopped.
-            record { scopes = ss; state = record (state_of engine e ps es i) { engine = record (engine_of engine) { log = log; steps = steps; stopped = stopped } } } in
+        record { scopes = ss; state = record (state_of engine e ps es i) { engine = record (engine_of engine) { log = log; steps = steps; stopped = stopped } } } in
         (λ j. (Ok tt, now engine (h.3 j) (h.1 j) (h.2 j))) ∙ ap (λ b. over_scopes (At engine ps es i) (line_by b (state_of engine e ps es i) text)) (sym test)
 
     pub line_stops : (text : List ℕ) (new : Log) → AddedLine engine.log text (Err (stops.Limit L5)) new
@@ -182,19 +182,21 @@ module _ {I : Type 0} (modules : I → Modules ℕ) (linked : I → ℕ → Bool
         → BeginsTold modules linked fits begins (outer_with ps es i) m text (Ok p) (outer_with late new k)
         → Performs nat_eq modules begins m (At engine ps es i) (act.Import v) (Ok (value_of p)) (At engine late new k) × Scoped k
     begin_performs late new k m v text p some l a h =
-        let b = h.1 (may m l) in
-        (subst (λ t. BeginsBy nat_eq modules begins m (At engine ps es i) t (Ok (value_of p), At engine late new k)) (sym some)
-        (Ok tt, outer_with late new k, b, λ j. (Ok (h.0 j), At engine late new k))),
-        scoped m text (Ok tt) (outer_with late new k) a b)
+        let b = h.1 (may m l) in (
+          (subst (λ t. BeginsBy nat_eq modules begins m (At engine ps es i) t (Ok (value_of p), At engine late new k)) (sym some)
+              (Ok tt, outer_with late new k, b, λ j. (Ok (h.0 j), At engine late new k))),
+          scoped m text (Ok tt) (outer_with late new k) a b,
+        )
 
     pub begin_stops : (late : Numbered) (new : Errors) (k : I) (m : ℕ) (v : CodeValue) (text : List ℕ) (limit : Limit) → text_of es v ≡ Some text → linked i m ≡ true → Scoped i
         → BeginsTold modules linked fits begins (outer_with ps es i) m text (Err (stops.Limit limit)) (outer_with late new k)
         → Performs nat_eq modules begins m (At engine ps es i) (act.Import v) (Err limit) (At engine late new k) × Scoped k
     begin_stops late new k m v text limit some l a h =
-        let b = h (may m l) in
-        (subst (λ t. BeginsBy nat_eq modules begins m (At engine ps es i) t (Err limit, At engine late new k)) (sym some)
-        (Err limit, outer_with late new k, b, refl)),
-        scoped m text (Err limit) (outer_with late new k) a b)
+        let b = h (may m l) in (
+          (subst (λ t. BeginsBy nat_eq modules begins m (At engine ps es i) t (Err limit, At engine late new k)) (sym some)
+              (Err limit, outer_with late new k, b, refl)),
+          scoped m text (Err limit) (outer_with late new k) a b,
+        )
 
 -- ---- a promise, and what begins over it
 

@@ -63,11 +63,12 @@ wanted_not n (wanted.Named name) id x e = absurd cc
 
 indirect_not : (to : ℕ → ℕ) (es : List IndirectExport) (name : List ℕ) → NotLocal (indirect_export to es name)
 indirect_not to [] name id x e = absurd cc
-indirect_not to (d ∷ es) name id x e = by (bytes_eq d.name name) e
+indirect_not to (d ∷ es) name id x e = by (bytes_eq d.name name) (λ q. indirect_not to es name id x q) e
   where
-    by : (b : Bool) → end_by (if b then Some (wanted_of (to d.request) d.wanted) else indirect_export to es name) ≡ Some (id, bindings.Local x) → ⊥
-    by true q = wanted_not (to d.request) d.wanted id x q
-    by false q = indirect_not to es name id x q
+    by : (b : Bool) → (end_by (indirect_export to es name) ≡ Some (id, bindings.Local x) → ⊥)
+        → end_by (if b then Some (wanted_of (to d.request) d.wanted) else indirect_export to es name) ≡ Some (id, bindings.Local x) → ⊥
+    by true later q = wanted_not (to d.request) d.wanted id x q
+    by false later q = later q
 
 abbrev IsThere : Graph → ModuleId → List ℕ → Type 0
 IsThere g id x = (l : LocalExport) × (Contains (g.entries id.0).locals l × (l.local ≡ x))

@@ -157,9 +157,11 @@ module _ (x : List ℕ) (v : CodeValue) where
 has_some : (ls : List Level) (k j : ℕ) (x : List ℕ) → Innermost ls k j x → (c : Cell CodeValue) × (in_scopes (rounds ls) x ≡ Some c)
 has_some [] k j x h = absurd (let a = h.0 in cc)
 has_some (l ∷ ls) zero j x h =
-    let c = place_some l.slots.items x j h.0 in
-    (c.0, scopes_last (rounds ls) (scope_of_level l) x
-    ∙ ap (λ o. option_or o (in_scope (scope_of_level l) x)) (lacks ls x (λ i. h.1 (suc i) (omega arith))) ∙ c.1)
+    let c = place_some l.slots.items x j h.0 in (
+      c.0,
+      scopes_last (rounds ls) (scope_of_level l) x
+          ∙ ap (λ o. option_or o (in_scope (scope_of_level l) x)) (lacks ls x (λ i. h.1 (suc i) (omega arith))) ∙ c.1,
+    )
 has_some (l ∷ ls) (suc k) j x h =
     let c = has_some ls k j x (h.0, λ i lt. h.1 (suc i) (omega (arith, lt))) in
     (c.0, scopes_last (rounds ls) (scope_of_level l) x ∙ ap (λ o. option_or o (in_scope (scope_of_level l) x)) c.1)
@@ -243,10 +245,11 @@ pub sets_block : (old : List Level) (top : ℕ) (x : List ℕ) (v : Value) (new 
 sets_block [] top x v new e m lt is h = absurd (omega (arith, lt))
 sets_block (b ∷ []) top x v new e m lt is h = absurd (omega (arith, lt))
 sets_block (b ∷ l ∷ ls) zero x v new e m lt is h = absurd (omega (arith, is))
-sets_block (b ∷ l ∷ ls) (suc k) x v new e m lt is h =
-    (only_where (place_at (b ∷ l ∷ ls) (suc k) x) (b ∷ l ∷ ls) (suc k) v new h,
-    sets_some (scopes_round (b ∷ l ∷ ls)) (scopes_round new) e m x v (not_nil (scopes_round (l ∷ ls)) (scope_of_level l))
-    (top_round b (l ∷ ls) k x v new (place_at (l ∷ ls) k x) (omega (arith, is)) refl h))
+sets_block (b ∷ l ∷ ls) (suc k) x v new e m lt is h = (
+  only_where (place_at (b ∷ l ∷ ls) (suc k) x) (b ∷ l ∷ ls) (suc k) v new h,
+  sets_some (scopes_round (b ∷ l ∷ ls)) (scopes_round new) e m x v (not_nil (scopes_round (l ∷ ls)) (scope_of_level l))
+      (top_round b (l ∷ ls) k x v new (place_at (l ∷ ls) k x) (omega (arith, is)) refl h),
+)
 
 pub sets_module : (old : List Level) (e late : Scopes) (m : ℕ) (x : List ℕ) (v : Value) → length old ≤ 1 → IsInitialised e m x v late → SetsTo old e m x v old late
 sets_module [] e late m x v le h = (tt, (h, refl))
@@ -290,10 +293,11 @@ block_scopes ls k j x v wrote.Undeclared new f h = ap scopes_round h
 
 pub writes_block : (old : List Level) (k j : ℕ) (x : List ℕ) (v : Value) (result : Wrote) (new : List Level) (e : Scopes) (m : ℕ) → IsFound old x (Some (k, j))
     → SlotWritten old k j v result new → WritesTo old e m x v result new e
-writes_block old k j x v result new e m f h =
-    (only_wrote old k j v result new h.1,
-    subst (λ o. WritesAt o (scopes_round old) e m x v result (scopes_round new) e) (sym (found_some old x (k, j) f h.0.0 h.0.1))
-    (h.0.2, refl, block_scopes old k j x v result new f h.1))
+writes_block old k j x v result new e m f h = (
+  only_wrote old k j v result new h.1,
+  subst (λ o. WritesAt o (scopes_round old) e m x v result (scopes_round new) e) (sym (found_some old x (k, j) f h.0.0 h.0.1))
+      (h.0.2, refl, block_scopes old k j x v result new f h.1),
+)
 
 pub writes_module : (old : List Level) (x : List ℕ) (v : Value) (result : Wrote) (e late : Scopes) (m : ℕ) → IsFound old x None
     → IsWrittenIn e m x v result late → WritesTo old e m x v result old late
@@ -391,24 +395,27 @@ module _ {I : Type 0} (modules : I → Modules ℕ) (linked : I → ℕ → Bool
   pub writes_is : (old new : List (Scope CodeValue)) (e late : Scopes) (m : ℕ) (x : List ℕ) (v : Value) (result : Wrote) (es es' : Errors) (told : Option Value)
       → WritesRight → AreScopesOf (modules i) (linked i) e → Home e m → (o : Option (Cell CodeValue)) → WritesAt o old e m x v result new late → ThrowsWrote x result es told es'
       → ((thrown told, At new late es') ≡ write_in nat_eq modules begins m (At old e es) x (value_of v) o) × AreScopesOf (modules i) (linked i) late
-  writes_is old new e late m x v result es es' told right a home (Some c) h t =
-      (ap (λ late. (thrown told, At new late es')) h.1
-      ∙ block_is old new e m x v es es' told c.constant c.value (subst (λ r. ScopesWrote old x v r new) h.0 h.2) (subst (λ r. ThrowsWrote x r es told es') h.0 t),
-      subst (AreScopesOf (modules i) (linked i)) (sym h.1) a)
-  writes_is old new e late m x v result es es' told right a home None h t =
-      (ap (λ new. (thrown told, At new late es')) h.1
-      ∙ module_is old e late m x v result es es' told h.0 t
-      ∙ ap (module_write nat_eq modules begins m (At old e es) x) (right.writes (modules i) e late m home.0 x v result a.faithful home.1 home.2 h.0),
-      like_scopes (modules i) (linked i) e late a (right.faithful_written (modules i) e late m x v result a.faithful h.0) (right.stays_written e late m x v result h.0))
+  writes_is old new e late m x v result es es' told right a home (Some c) h t = (
+    ap (λ late. (thrown told, At new late es')) h.1
+        ∙ block_is old new e m x v es es' told c.constant c.value (subst (λ r. ScopesWrote old x v r new) h.0 h.2) (subst (λ r. ThrowsWrote x r es told es') h.0 t),
+    subst (AreScopesOf (modules i) (linked i)) (sym h.1) a,
+  )
+  writes_is old new e late m x v result es es' told right a home None h t = (
+    ap (λ new. (thrown told, At new late es')) h.1
+        ∙ module_is old e late m x v result es es' told h.0 t
+        ∙ ap (module_write nat_eq modules begins m (At old e es) x) (right.writes (modules i) e late m home.0 x v result a.faithful home.1 home.2 h.0),
+    like_scopes (modules i) (linked i) e late a (right.faithful_written (modules i) e late m x v result a.faithful h.0) (right.stays_written e late m x v result h.0),
+  )
 
   pub sets_is : (ss new : List (Scope CodeValue)) (e late : Scopes) (m : ℕ) (x : List ℕ) (v : Value) (es : Errors)
       → WritesRight → AreScopesOf (modules i) (linked i) e → (ss ≡ [] → (c : Cell CodeValue) × (own_cell e m x ≡ Some c)) → SetsAt ss e m x v new late
       → (At new late es ≡ set_at nat_eq modules begins m ss (state_of engine e ps es i) x (value_of v)) × AreScopesOf (modules i) (linked i) late
   sets_is [] new e late m x v es right a own h =
       let c = own refl in
-      let cells = right.sets e late m x v c.0 c.1 h.0 in
-      (λ j. With (h.1 j) e es (cells j),
-      like_scopes (modules i) (linked i) e late a (right.faithful_set (modules i) e late m x v a.faithful h.0) (right.stays_set e late m x v h.0))
+      let cells = right.sets e late m x v c.0 c.1 h.0 in (
+        λ j. With (h.1 j) e es (cells j),
+        like_scopes (modules i) (linked i) e late a (right.faithful_set (modules i) e late m x v a.faithful h.0) (right.stays_set e late m x v h.0),
+      )
   sets_is (s ∷ ss) new e late m x v es right a own h = (λ j. At (h.0 j) (h.1 j) es, subst (AreScopesOf (modules i) (linked i)) (sym h.1) a)
 
 -- ---- code under way
@@ -425,18 +432,24 @@ module _ {I S : Type 0} (seen : I → S) (modules : S → Modules ℕ) (linked :
       → WritesTo w.now.levels.items (scopes_of w.envs.now) w.now.at.0 x v result after.now.levels.items (scopes_of after.envs.now)
       → Throws x result w.errors.now told after.errors.now → WritesName seen modules linked fits begins w x v told after
   writes_name w after x v result (Err end) right like to t = tt
-  writes_name w after x v result (Ok told) right like to t = (like, λ scopes here.
-      let s = scopes.made w.now.at.0 here in
-      let home = (s.0, s.1, scopes.imports w.now.at.0 s.0 here s.1) in
-      let r = writes_is modules linked begins w.engine.now w.promises.now (seen w.imports.now) (scopes_round w.now.levels.items) (scopes_round after.now.levels.items)
+  writes_name w after x v result (Ok told) right like to t = (
+    like,
+    λ scopes here.
+        let s = scopes.made w.now.at.0 here in
+        let home = (s.0, s.1, scopes.imports w.now.at.0 s.0 here s.1) in
+        let r = writes_is modules linked begins w.engine.now w.promises.now (seen w.imports.now) (scopes_round w.now.levels.items) (scopes_round after.now.levels.items)
         (scopes_of w.envs.now) (scopes_of after.envs.now) w.now.at.0 x v result w.errors.now after.errors.now told right scopes home
         (in_scopes (scopes_round w.now.levels.items) x) to.1 t in
-      ((λ j. (thrown told, Late after (like.engine j) (like.promises j) after.errors.now (like.imports j))) ∙ r.0, scopes_after w after like r.1))
+        ((λ j. (thrown told, Late after (like.engine j) (like.promises j) after.errors.now (like.imports j))) ∙ r.0, scopes_after w after like r.1),
+  )
 
   pub sets_name : (w after : Inside I) (x : List ℕ) (v : Value) → WritesRight → IsLike w after → after.errors.now ≡ w.errors.now
       → SetsTo w.now.levels.items (scopes_of w.envs.now) w.now.at.0 x v after.now.levels.items (scopes_of after.envs.now)
       → SetsName seen modules linked fits begins w x v after
-  sets_name w after x v right like errors to = (like, λ scopes own.
-      let r = sets_is modules linked begins w.engine.now w.promises.now (seen w.imports.now) (scopes_round w.now.levels.items) (scopes_round after.now.levels.items)
+  sets_name w after x v right like errors to = (
+    like,
+    λ scopes own.
+        let r = sets_is modules linked begins w.engine.now w.promises.now (seen w.imports.now) (scopes_round w.now.levels.items) (scopes_round after.now.levels.items)
         (scopes_of w.envs.now) (scopes_of after.envs.now) w.now.at.0 x v w.errors.now right scopes own to.1 in
-      ((λ j. Late after (like.engine j) (like.promises j) (errors j) (like.imports j)) ∙ r.0, scopes_after w after like r.1))
+        ((λ j. Late after (like.engine j) (like.promises j) (errors j) (like.imports j)) ∙ r.0, scopes_after w after like r.1),
+  )

@@ -70,12 +70,7 @@ fn read_member<I: Importer>(
 }
 
 /// A member of an error value: `message` and `name` are texts, empty where it wasn't made, and others undefined.
-fn error_member_of(
-    alloc: Global,
-    errors: &Errors,
-    id: ErrorId,
-    name: &str,
-) -> Result<Value, Memory>
+fn error_member_of(alloc: Global, errors: &Errors, id: ErrorId, name: &str) -> Result<Value, Memory>
     ensures { IfOk result (λ v. value_of v ≡ error_member errors.now id.0 name.now) }
 {
     if name == "message" {

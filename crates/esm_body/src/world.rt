@@ -56,7 +56,7 @@ impl<'a, I: Importer> World for Inside<'a, I> {
             values.as_slice(),
         ) {
             Ok(texts) => match printed_line(self.alloc, texts.as_slice()) {
-                Ok(line) => self.engine.log.line(line.as_str()),
+                Ok(text) => self.engine.log.line(text.as_str()),
                 Err(Memory) => Err(Stop::Memory),
             },
             Err(Memory) => Err(Stop::Memory),
