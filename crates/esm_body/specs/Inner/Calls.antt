@@ -33,11 +33,11 @@ IsOutermost work (l ∷ []) = (l.work.items ≡ work) × (l.kind ≡ k.Block)
 IsOutermost work (l ∷ m ∷ ls) = ⊥
 
 -- it stands written in this module, whose tree is this, and this remains of it
-pub record Remains (tree : Parts) (at : ℕ) (rest : Rest CodeValue) (a : Activation) : Type 0 where
-  pub at : a.at.0 ≡ at
-  pub tree : arc_value a.tree ≡ tree
-  pub rest : levels_rest tree.stmts a.levels.items ≡ rest
-  pub levels : AreLevels (length tree.stmts) a.levels.items
+pub record Remains (parts : Parts) (home : ℕ) (left : Rest CodeValue) (a : Activation) : Type 0 where
+  pub at : a.at.0 ≡ home
+  pub tree : arc_value a.tree ≡ parts
+  pub rest : levels_rest parts.stmts a.levels.items ≡ left
+  pub levels : AreLevels (length parts.stmts) a.levels.items
   pub some : 0 < length a.levels.items
 
 -- a call of the function: a scope with its parameters, and its body
