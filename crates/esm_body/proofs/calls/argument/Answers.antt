@@ -1,6 +1,4 @@
-use Rattle.std.proofs.Common.{◌∙◌}
-use Rattle.esm_body.proofs.CallLemmas.{argument_there, argument_missing}
-use Rattle.esm_body.proofs.Shown.{weaker}
+use Rattle.esm_body.proofs.CallLemmas.{argument_missing}
 use Rattle.esm_body.proofs.calls.argument.Goals as goal
 
 pub returns-else-place-values : goal.returns-else-place-values

@@ -1,4 +1,4 @@
-use Rattle.std.proofs.Common.{ap, sym, ◌∙◌, get_or, arith}
+use Rattle.std.proofs.Common.{ap, sym, ◌∙◌, get_or}
 use Rattle.esm_env.specs.Calls.{scopes_of}
 use Rattle.esm_env.specs.Scopes.{read_or, read_in}
 use Rattle.esm_body.specs.Inner.Names.{seen_slot}
