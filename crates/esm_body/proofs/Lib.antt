@@ -41,6 +41,4 @@ pub mod MemberRead
 pub mod Asked
 pub mod WorldActs
 pub mod Shown
-pub mod CallLemmas
-pub mod StartLemmas
 pub mod NamesWritten

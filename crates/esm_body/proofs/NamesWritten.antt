@@ -437,7 +437,7 @@ module _ {I S : Type 0} (seen : I → S) (modules : S → Modules ℕ) (linked :
     λ scopes here.
         let s = scopes.made w.now.at.0 here in
         let home : (t : ModuleScope) × (scope_in (scopes_of w.envs.now) w.now.at.0 ≡ Some t) × HasImports (modules (seen w.imports.now)) w.now.at.0 t =
-            (s.0, s.1, scopes.imports w.now.at.0 s.0 here s.1) in
+        (s.0, s.1, scopes.imports w.now.at.0 s.0 here s.1) in
         let r = writes_is modules linked begins w.engine.now w.promises.now (seen w.imports.now) (scopes_round w.now.levels.items) (scopes_round after.now.levels.items)
         (scopes_of w.envs.now) (scopes_of after.envs.now) w.now.at.0 x v result w.errors.now after.errors.now told right scopes home
         (in_scopes (scopes_round w.now.levels.items) x) to.1 t in

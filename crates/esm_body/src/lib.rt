@@ -2,7 +2,6 @@
 #![tactic(auto)]
 
 mod blocks;
-mod calls;
 mod catching;
 mod displays;
 mod engine;
@@ -14,7 +13,6 @@ mod log;
 mod members;
 mod names;
 mod scopes;
-mod starts;
 mod work;
 mod world;
 mod writes;
