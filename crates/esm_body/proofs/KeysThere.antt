@@ -157,6 +157,29 @@ module _ {N : Type 0} (g : Modules N) (linked : N → Bool) (l : AreLinked g lin
   first_utf8 [] h = tt
   first_utf8 (x ∷ xs) h = (h.0, filtered (λ other. not (bytes_eq x other)) _ (first_utf8 xs h.1))
 
+  -- ---- given keys
+
+  mutual
+    walk_good : {reached order : List ℕ} {x : ℕ} → StarWalk (graph g) reached x order → AllGood reached → Good' x → AllGood order
+    walk_good (known e) r k = r
+    walk_good {reached = reached} {x = x} (fresh e ws) r k = walks_good ws (good_pushed reached x r k) (targets_good x k)
+
+    walks_good : {reached order xs : List ℕ} → StarWalks (graph g) reached xs order → AllGood reached → AllGood xs → AllGood order
+    walks_good all r h = r
+    walks_good (next w ws) r h = walks_good ws (walk_good w r h.0) h.1
+
+  kept_utf8 : (m : ℕ) {names keys : List (List ℕ)} → KeepsResolved (graph g) m names keys → AllByRecursion IsUtf8 names → AllByRecursion IsUtf8 keys
+  kept_utf8 m none h = tt
+  kept_utf8 m (kept r i e k) h = (h.0, kept_utf8 m k h.1)
+  kept_utf8 m (dropped r i e k) h = kept_utf8 m k h.1
+
+  -- the keys of a linked module's namespace are UTF-8
+  pub keys_utf8 : (m : N) (keys : List (List ℕ)) → linked m ≡ true → AreNamespaceKeysOf (graph g) (g.number m) keys → All IsUtf8 keys
+  keys_utf8 m keys h a =
+      let order = walk_good a.exported.1 tt (good g linked l m h) in
+      let names = subst (AllByRecursion IsUtf8) (sym a.exported.2) (first_utf8 _ (along_utf8 (g.number m) a.exported.0 order)) in
+      All-permutation IsUtf8 a.resolved keys a.same (All-from_recursion IsUtf8 a.resolved (kept_utf8 (g.number m) a.kept names))
+
   -- ---- the keys
 
   module _ (agrees : SharedSetAgrees) (ends : SharedSetEnds) (m : ℕ) (k : Good' m) where

@@ -131,7 +131,7 @@ module _ {N : Type 0} (g : Modules N) (linked : N → Bool) (h : AreLinked g lin
   ResolvedGood (resolutions.One x b) = Good x.0
   ResolvedGood resolutions.Ambiguous = ⊤
 
-  resolved_good : (m : ℕ) (name : List ℕ) (s : Resolution) → Good m → IsResolutionOf (graph g) (pair_of m name) s → ResolvedGood s
+  pub resolved_good : (m : ℕ) (name : List ℕ) (s : Resolution) → Good m → IsResolutionOf (graph g) (pair_of m name) s → ResolvedGood s
   resolved_good m name resolutions.Missing k i = tt
   resolved_good m name (resolutions.One x b) k i = leads_good (pair_of m name) (x, b) k i.0
   resolved_good m name resolutions.Ambiguous k i = tt

@@ -1,6 +1,6 @@
 -- Laws of the definitions, over modules with numbers, where import() is a function of what it is given and changes nothing but
 -- promises, errors and the modules that are there.
-use Rattle.std.specs.Prelude.{◌≡◌, ℕ, ◌+◌, nat_eq, Bool, true, false, List, Option, Some, Result, ⊤}
+use Rattle.std.specs.Prelude.{◌≡◌, ℕ, ◌+◌, nat_eq, Bool, true, false, List, Option, Some, Result}
 use Rattle.esm_base.specs.declared.limits.Limit.{Limit}
 use Rattle.esm_values.specs.Value.{Value}
 use Rattle.esm_values.specs.Ran.{Ran}

@@ -8,4 +8,7 @@ pub mod Fits
 pub mod Bodies
 pub mod Laws
 pub mod Examples
+pub mod Importers
+pub mod Inner
+pub mod View
 pub mod Naming

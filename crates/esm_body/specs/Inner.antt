@@ -1,0 +1,9 @@
+pub mod Contexts
+pub mod Log
+pub mod Stack
+pub mod World
+pub mod Names
+pub mod Displayed
+pub mod Chains
+pub mod Slots
+pub mod Written

@@ -1,0 +1,84 @@
+// Steps and the log, with their limits.
+ghost use Rattle.std.specs.Prelude.{◌≡◌};
+ghost use Rattle.esm_body.specs.Inner.Log.{TookSteps, AddedLine};
+
+use esm_base::{Limit, MAX_LOG_BYTES, MAX_STEPS, Memory};
+use std::alloc::Global;
+
+/// Why a body doesn't go on.
+#[derive(Clone, Copy, Debug, PartialEq, Eq)]
+pub enum Stop {
+    /// A limit was passed.
+    Limit(Limit),
+    /// Memory ran out.
+    Memory,
+}
+
+/// The log, and the steps that were taken.
+#[derive(Drop)]
+pub struct Log {
+    /// The lines, each with its line feed.
+    pub text: String,
+    /// How many steps were taken.
+    pub steps: u64,
+    /// The limit that was passed.
+    pub stopped: Option<Limit>,
+}
+
+impl Log {
+    /// Without lines and steps. It doesn't allocate.
+    pub fn new(alloc: Global) -> Log {
+        Log {
+            text: String::new(alloc),
+            steps: 0,
+            stopped: None,
+        }
+    }
+
+    /// Takes steps: no more than `MAX_STEPS` are taken.
+    pub fn step(&mut self, n: u64) -> Result<(), Stop>
+        ensures { TookSteps self.old n result self.new }
+    {
+        let most = u64::from(MAX_STEPS);
+        if n > most || self.steps > most - n {
+            self.stopped = Some(Limit::L3);
+            return Err(Stop::Limit(Limit::L3));
+        }
+        self.steps = self.steps + n;
+        Ok(())
+    }
+
+    /// Adds a line: the log has no more than `MAX_LOG_BYTES` bytes.
+    pub fn line(&mut self, text: &str) -> Result<(), Stop>
+        ensures { AddedLine self.old text.now result self.new }
+    {
+        let len = text.len();
+        if len >= MAX_LOG_BYTES || self.text.len() > MAX_LOG_BYTES - 1 - len {
+            self.stopped = Some(Limit::L5);
+            return Err(Stop::Limit(Limit::L5));
+        }
+        match self.text.reserve(len + 1) {
+            Ok(()) => {}
+            Err(_) => return Err(Stop::Memory),
+        }
+        match self.text.push_str(text) {
+            Ok(()) => {}
+            Err(_) => return Err(Stop::Memory),
+        }
+        match self.text.push_str("\n") {
+            Ok(()) => Ok(()),
+            Err(_) => Err(Stop::Memory),
+        }
+    }
+}
+
+impl From<Memory> for Stop {
+    ghost use Rattle.std.specs.Prelude.{◌≡◌};
+    ghost use Rattle.esm_body.specs.declared.log.Stop.TheVariants.{Memory};
+
+    ghost from_gives = { λ _ e. e ≡ Memory };
+
+    fn from(_: Memory) -> Self {
+        Stop::Memory
+    }
+}

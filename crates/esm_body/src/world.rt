@@ -1,0 +1,101 @@
+// Code under way as the world of its expressions.
+use crate::displays::{display_text, display_texts, specifier_of};
+use crate::importer::Importer;
+use crate::imports::{begin_import, refuse_import};
+use crate::inside::Inside;
+use crate::log::Stop;
+use crate::members::member_of;
+use crate::names::{read_name, tell};
+use esm_base::Memory;
+use esm_expr_eval::{Out, World};
+use esm_values::{FaultKind, RcText, Value, printed_line};
+
+impl<'a, I: Importer> World for Inside<'a, I> {
+    ghost use Rattle.esm_body.specs.Inner.World.{ActsInside, url_inside};
+
+    type Stop = Stop;
+
+    ghost acts = { ActsInside I.seen I.modules I.linked I.fits I.begins };
+
+    ghost url_of = { url_inside I.urls };
+
+    fn read(&mut self, name: &str) -> Result<Out, Stop> {
+        esm_env::laws::reads_right();
+        match read_name(self.now.levels.as_slice(), self.envs, self.now.at, name) {
+            Ok(found) => match tell(self.alloc, self.errors, name, found) {
+                Ok(out) => Ok(out),
+                Err(Memory) => Err(Stop::Memory),
+            },
+            Err(Memory) => Err(Stop::Memory),
+        }
+    }
+
+    fn member(&mut self, of: Value, name: &str) -> Result<Out, Stop> {
+        match member_of(self.alloc, self.errors, self.envs, self.imports, of, name) {
+            Ok(out) => Ok(out),
+            Err(Memory) => Err(Stop::Memory),
+        }
+    }
+
+    fn display(&mut self, of: &Value) -> Result<RcText, Stop> {
+        match display_text(self.alloc, self.errors, self.envs, self.imports, of) {
+            Ok(text) => match RcText::copy(self.alloc, text.as_str()) {
+                Ok(text) => Ok(text),
+                Err(Memory) => Err(Stop::Memory),
+            },
+            Err(Memory) => Err(Stop::Memory),
+        }
+    }
+
+    fn print(&mut self, values: Vec<Value>) -> Result<(), Stop> {
+        match display_texts(
+            self.alloc,
+            self.errors,
+            self.envs,
+            self.imports,
+            values.as_slice(),
+        ) {
+            Ok(texts) => match printed_line(self.alloc, texts.as_slice()) {
+                Ok(text) => self.engine.log.line(text.as_str()),
+                Err(Memory) => Err(Stop::Memory),
+            },
+            Err(Memory) => Err(Stop::Memory),
+        }
+    }
+
+    fn fault(&mut self, kind: FaultKind, message: &str) -> Result<Value, Stop> {
+        match self.errors.make(self.alloc, kind, message) {
+            Ok(id) => Ok(Value::Error(id)),
+            Err(Memory) => Err(Stop::Memory),
+        }
+    }
+
+    fn step(&mut self, n: u64) -> Result<(), Stop> {
+        self.engine.log.step(n)
+    }
+
+    fn import(&mut self, of: Value) -> Result<Value, Stop> {
+        esm_promise::laws::made_pending();
+        match specifier_of(self.alloc, self.errors, &of) {
+            Ok(specifier) => match specifier {
+                Some(specifier) => begin_import(
+                    self.alloc,
+                    self.promises,
+                    self.errors,
+                    self.imports,
+                    self.now.at,
+                    specifier.as_str(),
+                ),
+                None => match refuse_import(self.alloc, self.promises, self.errors) {
+                    Ok(promise) => Ok(promise),
+                    Err(Memory) => Err(Stop::Memory),
+                },
+            },
+            Err(Memory) => Err(Stop::Memory),
+        }
+    }
+
+    fn url(&self) -> &str {
+        self.imports.url(self.now.at)
+    }
+}
