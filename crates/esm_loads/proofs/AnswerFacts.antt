@@ -106,17 +106,14 @@ module_answer L s i v u e after o open_is at h r x f =
     subst (λ m. Answers L (Request s v i) u x m) (sym r.finishes) (request o open_is (ap (thrown_by u) (sym same) ∙ h) r.enters)
 
 -- a limit stops the entering
-finish_stopped : (m : Loading) (s : ℕ) (limit : Limit) → m.stopped ≡ Some limit → (finish m s).stopped ≡ Some limit
-finish_stopped m s limit e = ap (λ (l : Loading). l.stopped) (finished_late m s (stopped_ended m s limit e)) ∙ e
-
 pub root_stops : (L : Loading) (s : ℕ) (u : Url) (e : TableEntry) (m : Loading) (limit : Limit) → L.entries u ≡ Some e → thrown_by u e ≡ None → Enters (begin L s u) s u m → m.stopped ≡ Some limit
-    → (x : TableEntry) → L.entries u ≡ Some x → (after : Loading) × Answers L (Root s) u x after × (after.stopped ≡ Some limit)
+    → (x : TableEntry) → L.entries u ≡ Some x → Answers L (Root s) u x m
 root_stops L s u e m limit at h entered stop x f =
     let same = some_is (sym at ∙ f) in
-    (finish m s, root (ap (thrown_by u) (sym same) ∙ h) entered, finish_stopped m s limit stop)
+    subst (Answers L (Root s) u x) (finished_late m s (stopped_ended m s limit stop)) (root (ap (thrown_by u) (sym same) ∙ h) entered)
 
 pub module_stops : (L : Loading) (s i : ℕ) (v u : Url) (e : TableEntry) (m : Loading) (limit : Limit) (o : OpenLoad) → open_load L s ≡ Some o → L.entries u ≡ Some e → thrown_by u e ≡ None → Enters L s u m → m.stopped ≡ Some limit
-    → (x : TableEntry) → L.entries u ≡ Some x → (after : Loading) × Answers L (Request s v i) u x after × (after.stopped ≡ Some limit)
+    → (x : TableEntry) → L.entries u ≡ Some x → Answers L (Request s v i) u x m
 module_stops L s i v u e m limit o open_is at h entered stop x f =
     let same = some_is (sym at ∙ f) in
-    (finish m s, request o open_is (ap (thrown_by u) (sym same) ∙ h) entered, finish_stopped m s limit stop)
+    subst (Answers L (Request s v i) u x) (finished_late m s (stopped_ended m s limit stop)) (request o open_is (ap (thrown_by u) (sym same) ∙ h) entered)

@@ -14,7 +14,8 @@ use Rattle.esm_realm.specs.declared.realm.Realm.{Realm}
 use Rattle.esm_import_map.specs.ImportMap.{Maps}
 use Rattle.esm_loads.specs.UrlTable.{TableEntry, Module, thrown_by, targets_in}
 use Rattle.esm_loads.specs.UrlTable as table
-use Rattle.esm_loads.specs.Loading.{PendingRequest, open_load, targets, is_fresh, ask}
+use Rattle.esm_loads.specs.Loading.{PendingRequest, open_load, targets, is_fresh, ask, ask_by}
+use Rattle.esm_loads.specs.Hosted.{stopped_by}
 use Rattle.esm_loads.specs.LoadsView.{urls_of, url_at, place_in, get_by, is_open, entries_in, entry_at, entry_by, module_of, tree_at, id_under, has_id, modules_in, is_in, is_unlinked, is_unlinked_by, is_past_new, throw_of, LoadView}
 use Rattle.esm_loads.specs.LoadsAsLoading.{loading_of, trees_of}
 use Rattle.esm_loads.specs.Fits.{AreJoined, HaveRecords, IsModuleAt, IsLoadWithin, IsStageWithin}
@@ -236,6 +237,14 @@ asked_limit maps R t u a limit place is full =
     let new = place_none (urls_of t.urls.slots) u place in
     let off : nat_lt (length (urls_of t.urls.slots)) 4096 ≡ false = ap (λ n. nat_lt n 4096) (urls_many t.urls.slots ∙ full) in
     rw (new, off) (ap (λ l. Some l) (sym is))
+
+-- one URL too many stops loading, and nothing else is done
+pub asked_full : (maps : Maps) (R : List RecordParts) (t : Loads) (u : Url) (a : PendingRequest) (limit : Limit) → place_in (urls_of t.urls.slots) u ≡ None → limit ≡ L1 → length t.urls.slots ≡ 4096 → stopped_by (loading_of maps t R) limit ≡ ask (loading_of maps t R) u a
+asked_full maps R t u a limit place is full =
+    let l = loading_of maps t R in
+    let new = place_none (urls_of t.urls.slots) u place in
+    let off : nat_lt (length (urls_of t.urls.slots)) 4096 ≡ false = ap (λ n. nat_lt n 4096) (urls_many t.urls.slots ∙ full) in
+    sym (ap (λ b. ask_by b (nat_lt (length (urls_of t.urls.slots)) 4096) l u a) new ∙ (ap (λ b. ask_by false b l u a) off ∙ ap (stopped_by l) (sym is)))
 
 pub found_within : (ss : List Slot) (u : Url) (at : Option ℕ) → at ≡ place_in (urls_of ss) u → (n : ℕ) → n ≡ length ss → IfSome at (λ k. k < n)
 found_within ss u None e n f = tt

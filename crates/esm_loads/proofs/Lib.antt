@@ -1,6 +1,7 @@
 pub mod ArrivedEntry
 pub mod ArriveFacts
 pub mod Arrived
+pub mod FillFacts
 pub mod LoadedFacts
 pub mod ReadFacts
 pub mod ImportFacts

@@ -1,13 +1,14 @@
 -- What the jobs of loads read.
 use Rattle.std.proofs.Common.{◌≡◌, ℕ, suc, zero, ◌<◌, ◌≤◌, true, List, [], ◌∷◌, length, map, Option, Some, None, refl, ap, subst, sym, ◌∙◌, arith}
 use Rattle.std.specs.Prelude.{slice_get}
+use Rattle.esm_base.specs.Urls.{Url}
 use Rattle.esm_base.specs.declared.module_id.ModuleId.{ModuleId}
 use Rattle.esm_realm.specs.ById as by_id
 use Rattle.esm_realm.specs.Sound.{RecordParts}
 use Rattle.esm_import_map.specs.ImportMap.{Maps}
 use Rattle.esm_loads.specs.Loading as loading
 use Rattle.esm_loads.specs.Whole.{IsWhole}
-use Rattle.esm_loads.specs.LoadsView.{LoadView, urls_of, url_at, get_by, id_in, id_by, id_under, is_unlinked, load_state, purpose_of}
+use Rattle.esm_loads.specs.LoadsView.{LoadView, urls_of, url_at, get_by, id_in, id_by, id_under, has_id, is_unlinked, load_state, purpose_of, promise_id}
 use Rattle.esm_loads.specs.LoadsAsLoading.{loading_of}
 use Rattle.esm_loads.specs.Loaded.{root_url}
 use Rattle.esm_loads.specs.Fits.{FitRecords, IsStageWithin, IsLoadWithin}

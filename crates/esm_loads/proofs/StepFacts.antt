@@ -1,6 +1,6 @@
 -- An answer to a pending request, with what the end of its load settles.
-use Rattle.std.proofs.Common.{◌≡◌, ℕ, ◌≤◌, List, ◌++◌, length, map, Some, refl, ap, sym, subst, ◌∙◌, arith}
-use Rattle.std.specs.Prelude.{slice_set, Result, OnOk}
+use Rattle.std.proofs.Common.{◌≡◌, ℕ, ◌≤◌, Bool, List, ◌++◌, length, map, Option, Some, None, refl, ap, sym, subst, ◌∙◌, arith}
+use Rattle.std.specs.Prelude.{slice_get, slice_set, Result, OnOk}
 use Rattle.esm_base.specs.declared.end.End.{End}
 use Rattle.esm_base.specs.declared.limits.Limit.{Limit}
 use Rattle.esm_base.specs.Urls.{Url}
@@ -8,24 +8,26 @@ use Rattle.esm_realm.specs.Sound.{RecordParts}
 use Rattle.esm_import_map.specs.ImportMap.{Maps, no_maps}
 use Rattle.esm_values.specs.Errors.{Errors}
 use Rattle.esm_promise.specs.Code.{Numbered}
+use Rattle.esm_promise.specs.Renaming.{renamed}
 use Rattle.esm_loads.specs.UrlTable.{TableEntry, put_at}
+use Rattle.esm_loads.specs.Loading as loading
 use Rattle.esm_loads.specs.Loading.{Loading, PendingRequest, load_of}
 use Rattle.esm_loads.specs.Load.{Answers}
-use Rattle.esm_loads.specs.Host.{Host, Answered, begin_load, settle_load, with_loading}
+use Rattle.esm_loads.specs.Host.{Host, Answered, begin_load, settle_by, settle_load, with_loading}
 use Rattle.esm_loads.specs.Host.Answered.{answered}
 use Rattle.esm_loads.specs.Arrival.{Next, next, AnswersNext}
-use Rattle.esm_loads.specs.LoadsView.{urls_of, url_at, request_of, request_by, before_linking}
+use Rattle.esm_loads.specs.LoadsView.{urls_of, url_at, request_of, request_by, before_linking, is_in, load_state, modules_in, state_of}
 use Rattle.esm_loads.specs.LoadsAsLoading.{loading_of, trees_of}
 use Rattle.esm_loads.specs.Fits.{AreJoined, HaveRecords, RecordsMatch, FitRecords}
-use Rattle.esm_loads.specs.Hosted.{host_of, StopsHost}
+use Rattle.esm_loads.specs.Hosted.{host_of, stopped_by, stopped_host, StopsHost}
+use Rattle.esm_loads.specs.Inner.Steps.{IsLoading}
 use Rattle.esm_loads.specs.Inner.Answering.{KeepsUrls}
 use Rattle.esm_loads.specs.Inner.Stepping.{Settles, IsAnsweredIn, Takes}
 use Rattle.esm_loads.specs.declared.data.Waiting.{Waiting}
 use Rattle.esm_loads.specs.declared.data.Requester.{Requester}
 use Rattle.esm_loads.specs.declared.data.Requester.TheVariants as requesters
 use Rattle.esm_loads.specs.declared.loads.Loads.{Loads}
-use Rattle.esm_loads.proofs.Places.{get_kept, on_ok}
-use Rattle.esm_loads.proofs.Tables.{settled_imports}
+use Rattle.esm_loads.proofs.Places.{get_kept, get_map, on_ok}
 use Rattle.esm_loads.proofs.Unlinks.{long_stale, matching_stale}
 use Rattle.esm_loads.proofs.EnterFacts.{old_module}
 use Rattle.esm_loads.proofs.NextFacts as next_facts
@@ -68,9 +70,28 @@ same_load us w = by w.requester
 pub settles : (h : Host) (us : List Url) (w : Waiting) (u : Url) (e : TableEntry) (l : Loading) (after : Host) → Answers h.imports (request_of us w) u e l → after ≡ settle_load (with_loading h l) w.load → Settles h (request_of us w) u e after
 settles h us w u e l after a s = record { answered = l; answers = a; settled = s ∙ ap (settle_load (with_loading h l)) (sym (same_load us w)) }
 
-pub settle_stops : (h : Host) (a : PendingRequest) (u : Url) (e : TableEntry) (limit : Limit) → ((l : Loading) × Answers h.imports a u e l × (l.stopped ≡ Some limit)) → (after : Host) × Settles h a u e after × (after.imports.stopped ≡ Some limit)
-settle_stops h a u e limit x =
-    (settle_load (with_loading h x.0) (load_of a), record { answered = x.0; answers = x.1; settled = refl }, ap (λ (l : Loading). l.stopped) (settled_imports (with_loading h x.0) (load_of a)) ∙ x.2)
+-- the end of no load is settled where the load goes on
+unsettled : (h : Host) (s : ℕ) (root : Url) (visited : Url → Bool) → slice_get h.imports.loads s ≡ Some (loading.Open root visited) → settle_load h s ≡ h
+unsettled h s root visited e = ap (settle_by h (slice_get h.imports.purposes s)) e ∙ by (slice_get h.imports.purposes s)
+  where
+    by : (o : Option loading.Purpose) → settle_by h o (Some (loading.Open root visited)) ≡ h
+    by None = refl
+    by (Some p) = refl
+
+-- a limit stops the answer, and the load goes on
+pub settle_stops : (named : ℕ → Url) (maps : Maps) (R : List RecordParts) (new : Loads) (ps : Numbered) (errors : Errors) (h : Host) (us : List Url) (w : Waiting) (u : Url) (e : TableEntry) (limit : Limit) → h.promises ≡ renamed named ps → h.errors ≡ errors
+    → Answers h.imports (request_of us w) u e (stopped_by (loading_of maps new R) limit) → IsLoading new w.load → Settles h (request_of us w) u e (stopped_host (host_of named ps errors (loading_of maps new R)) limit)
+settle_stops named maps R new ps errors h us w u e limit promises made a g =
+    let l = stopped_by (loading_of maps new R) limit in
+    let ss = new.urls.slots in
+    let at : slice_get l.loads w.load ≡ Some (loading.Open (url_at (urls_of ss) g.root) (modules_in ss (is_in g.load.visited))) =
+    get_map (load_state ss) new.loads.items w.load g.load g.at ∙ ap (λ stage. Some (state_of ss stage g.load.visited)) g.open_is in
+    record {
+      answered = l;
+      answers = a;
+      settled = ap (λ ps. record { promises = ps; errors = errors; imports = l }) (sym promises) ∙ (ap (λ errors. record { promises = h.promises; errors = errors; imports = l }) (sym made)
+          ∙ sym (ap (settle_load (with_loading h l)) (same_load us w) ∙ unsettled (with_loading h l) w.load _ _ at));
+    }
 
 -- ---- with the beginning of the load
 
@@ -83,7 +104,7 @@ began h before a u e after is s =
 
 pub next_answers : (named : ℕ → Url) (maps : Maps) (R : List RecordParts) (t mid : Loads) (w : Waiting) (j : AreJoined t (length R)) (h : HaveRecords t.urls.slots R) (x : Takes t mid w) (ps after : Numbered) (errors made : Errors) (result : Result (Unit {0}) (End Limit)) (new : Loads) (R' : List RecordParts)
     → IsAnsweredIn named maps mid ps errors R w t.delivered result new after made R'
-    → OnOk result (AnswersNext (host_of named ps errors (loading_of maps t R)) (host_of named after made (loading_of maps new R'))) × StopsHost result (AnswersNext (host_of named ps errors (loading_of maps t R)))
+    → OnOk result (AnswersNext (host_of named ps errors (loading_of maps t R)) (host_of named after made (loading_of maps new R'))) × StopsHost result (host_of named after made (loading_of maps new R')) (AnswersNext (host_of named ps errors (loading_of maps t R)))
 next_answers named maps R t mid w j h x ps after errors made result new R' given =
     let i = next_facts.taken_next maps R t (length R) j mid w h x in
     let us = urls_of t.urls.slots in
@@ -94,7 +115,7 @@ next_answers named maps R t mid w j h x ps after errors made result new R' given
     let who : Next = record { url = u; pending_request = request_of us w; entry = i.entry; others = map (request_of us) x.rest } in
     let answers_it = λ (k : Host) (a : Answered (host_of named ps errors (loading_of maps taken R)) (request_of us w) u i.entry k). next_by_answer named maps R t ps errors who i.next_is (loading_of maps taken R) i.left k a in (
       on_ok result _ _ f.0 (answers_it (host_of named after made (loading_of maps new R'))),
-      λ limit e. let s = f.1 limit e in (s.0, answers_it s.0 s.1, s.2),
+      λ limit e. answers_it _ (f.1 limit e),
     )
   where
     next_by_answer : (named : ℕ → Url) (maps : Maps) (R : List RecordParts) (t : Loads) (ps : Numbered) (errors : Errors) (who : Next) → next (loading_of maps t R) ≡ Some who → (l : Loading)

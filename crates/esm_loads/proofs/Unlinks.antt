@@ -1,23 +1,18 @@
 -- Records whose modules become Unlinked stay as they are but for the status, and a load ends.
-use Rattle.std.proofs.Common.{◌≡◌, ℕ, suc, zero, ◌+◌, ◌<◌, ◌≤◌, Bool, true, false, List, [], ◌∷◌, ◌++◌, length, map, take, Option, Some, None, refl, ap, subst, sym, ◌∙◌, arith, add-one}
-use Rattle.std.specs.Prelude.{◌||◌, ◌==◌, slice_get, slice_set, All, nat_eq}
+use Rattle.std.proofs.Common.{◌≡◌, ℕ, suc, zero, ◌+◌, ◌≤◌, Bool, true, false, List, [], ◌∷◌, ◌++◌, length, map, take, Option, Some, None, refl, ap, subst, sym, ◌∙◌, arith, add-one}
+use Rattle.std.specs.Prelude.{◌||◌, ◌==◌, slice_get, slice_set, nat_eq}
 use Rattle.std.specs.List.{list_any}
-use Rattle.std.proofs.lemmas.List.Elements.{All-head, All-tail, All-cons}
 use Rattle.esm_tree.specs.Syntax.{Item}
 use Rattle.esm_base.specs.Urls.{Url}
-use Rattle.esm_realm.specs.Laws.{AreDistinct}
-use Rattle.esm_realm.specs.Sound.{RecordParts, IsSound, IsSoundRecord, AreLoaded, parts_of, url_of}
-use Rattle.esm_realm.specs.declared.record.Record.{Record}
-use Rattle.esm_realm.specs.declared.record.ModuleStatus.{ModuleStatus}
-use Rattle.esm_realm.specs.declared.record.ModuleStatus.TheVariants.{New, Unlinked, Linking, Linked}
+use Rattle.esm_realm.specs.Sound.{RecordParts}
 use Rattle.esm_import_map.specs.ImportMap.{Maps}
 use Rattle.esm_loads.specs.Loading.{Loading, OpenLoad, open_load, finish, finish_by, has_pending, LoadComplete, is_of as asks_of, load_of}
-use Rattle.esm_loads.specs.LoadsView.{urls_of, url_at, at_url, get_by, entries_in, entry_at, entry_by, module_of, tree_at, modules_in, is_in, is_unlinked, is_past_new, load_state, LoadView, request_of, request_by, requests_in, pending_in, before_linking, status_before_linking}
+use Rattle.esm_loads.specs.LoadsView.{urls_of, url_at, at_url, get_by, entries_in, entry_at, entry_by, module_of, tree_at, modules_in, is_in, is_unlinked, load_state, LoadView, request_of, request_by, requests_in, pending_in, before_linking}
 use Rattle.esm_loads.specs.LoadsAsLoading.{loading_of, trees_of}
 use Rattle.esm_loads.specs.Fits.{AreJoined, HaveRecords, IsLoadWithin, IsStageWithin, RecordsMatch}
 use Rattle.esm_loads.specs.Inner.Flags.{root_in}
 use Rattle.esm_loads.specs.Inner.Requests.{is_of}
-use Rattle.esm_loads.specs.Inner.Steps.{after_load, set_load, is_open_stage}
+use Rattle.esm_loads.specs.Inner.Steps.{set_load, is_open_stage}
 use Rattle.esm_loads.specs.declared.data.Slot.{Slot}
 use Rattle.esm_loads.specs.declared.data.UrlState.{UrlState}
 use Rattle.esm_loads.specs.declared.data.UrlState.TheVariants as states
@@ -35,65 +30,7 @@ use Rattle.esm_loads.proofs.LoadSteps.{open_is, over_is, joined_load}
 
 -- ---- records
 
-abbrev pub unlinked_record : RecordParts → RecordParts
-unlinked_record r = record r { status = after_load r.status }
-
-abbrev pub unlink_at : List RecordParts → ℕ → List RecordParts
-unlink_at [] id = []
-unlink_at (r ∷ rs) zero = unlinked_record r ∷ rs
-unlink_at (r ∷ rs) (suc id) = r ∷ unlink_at rs id
-
-pub set_unlink : (xs : List Record) (id : ℕ) (x : Record) → slice_get xs id ≡ Some x → map parts_of (slice_set xs id (record x { status = after_load x.status })) ≡ unlink_at (map parts_of xs) id
-set_unlink [] id x e = cc
-set_unlink (y ∷ xs) zero x e = ap (λ x. unlinked_record (parts_of x) ∷ map parts_of xs) (sym (some_is e))
-set_unlink (y ∷ xs) (suc id) x e = ap (λ rs. parts_of y ∷ rs) (set_unlink xs id x e)
-
-status_unlinked : (s : ModuleStatus) → status_before_linking (after_load s) ≡ status_before_linking s
-status_unlinked New = refl
-status_unlinked Unlinked = refl
-status_unlinked Linking = refl
-status_unlinked Linked = refl
-
-pub stale_unlink : (R : List RecordParts) (id : ℕ) → map before_linking (unlink_at R id) ≡ map before_linking R
-stale_unlink [] id = refl
-stale_unlink (r ∷ R) zero = ap (λ (status : ModuleStatus). record r { status = status } ∷ map before_linking R) (status_unlinked r.status)
-stale_unlink (r ∷ R) (suc id) = ap (λ rs. before_linking r ∷ rs) (stale_unlink R id)
-
-past : (s : ModuleStatus) → is_past_new (after_load s) ≡ true
-past New = refl
-past Unlinked = refl
-past Linking = refl
-past Linked = refl
-
-zero_apart : (n : ℕ) → nat_eq (suc n) 0 ≡ false
-zero_apart n = grind arith
-
-apart_zero : (n : ℕ) → nat_eq 0 (suc n) ≡ false
-apart_zero n = grind arith
-
-next_same : (n m : ℕ) → nat_eq (suc n) (suc m) ≡ nat_eq n m
-next_same n m = grind arith
-
-pub unlinked_more : (R : List RecordParts) (id n : ℕ) → id < length R → is_unlinked (unlink_at R id) n ≡ (is_unlinked R n || nat_eq n id)
-unlinked_more [] id n l = absurd (omega arith)
-unlinked_more (q ∷ R) zero zero l = past q.status ∙ by (is_past_new q.status)
-  where
-    by : (b : Bool) → true ≡ (b || true)
-    by true = refl
-    by false = refl
-unlinked_more (q ∷ R) zero (suc n) l = sym (ap (λ b. is_unlinked R n || b) (zero_apart n) ∙ by (is_unlinked R n))
-  where
-    by : (b : Bool) → (b || false) ≡ b
-    by true = refl
-    by false = refl
-unlinked_more (q ∷ R) (suc id) zero l = sym (ap (λ b. is_past_new q.status || b) (apart_zero id) ∙ by (is_past_new q.status))
-  where
-    by : (b : Bool) → (b || false) ≡ b
-    by true = refl
-    by false = refl
-unlinked_more (q ∷ R) (suc id) (suc n) l = unlinked_more R id n (omega arith) ∙ ap (λ b. is_unlinked R n || b) (sym (next_same n id))
-
-get_stale : (first R : List RecordParts) → map before_linking R ≡ map before_linking first → (id : ℕ) (p : RecordParts) → slice_get first id ≡ Some p → (r : RecordParts) × (slice_get R id ≡ Some r) × (before_linking r ≡ before_linking p)
+pub get_stale : (first R : List RecordParts) → map before_linking R ≡ map before_linking first → (id : ℕ) (p : RecordParts) → slice_get first id ≡ Some p → (r : RecordParts) × (slice_get R id ≡ Some r) × (before_linking r ≡ before_linking p)
 get_stale first R e id p f = by R id (ap (λ rs. slice_get rs id) e ∙ get_map before_linking first id p f)
   where
     by : (R : List RecordParts) (id : ℕ) → slice_get (map before_linking R) id ≡ Some (before_linking p) → (r : RecordParts) × (slice_get R id ≡ Some r) × (before_linking r ≡ before_linking p)
@@ -113,40 +50,6 @@ matching_stale first R ss trees e h = record {
   known = λ id r f. let p = get_stale R first (sym e) id r f in h.known id p.0 p.1;
   as_many = h.as_many ∙ sym (long_stale first R e);
   entries = λ id r tree f g. let p = get_stale R first (sym e) id r f in sym (ap (λ (r : RecordParts). r.entries) p.2) ∙ h.entries id p.0 tree p.1 g;
-}
-
-urls_stale : (R : List RecordParts) → map url_of (map before_linking R) ≡ map url_of R
-urls_stale [] = refl
-urls_stale (r ∷ R) = ap (λ us. r.url ∷ us) (urls_stale R)
-
-abbrev Fits : RecordParts → Type 0
-Fits r = IsSoundRecord r.url r.entries r.targets
-
-to_stale : (R : List RecordParts) → All Fits R → All Fits (map before_linking R)
-to_stale [] h = h
-to_stale (r ∷ R) h = All-cons Fits (before_linking r) (map before_linking R) (All-head Fits r R h) (to_stale R (All-tail Fits r R h))
-
-from_stale : (R : List RecordParts) → All Fits (map before_linking R) → All Fits R
-from_stale [] h = h
-from_stale (r ∷ R) h = All-cons Fits r R (All-head Fits (before_linking r) (map before_linking R) h) (from_stale R (All-tail Fits (before_linking r) (map before_linking R) h))
-
-abbrev HasLoaded : ℕ → RecordParts → Type 0
-HasLoaded n r = AreLoaded n r.entries r.loaded
-
-loaded_to_stale : (n : ℕ) (R : List RecordParts) → All (HasLoaded n) R → All (HasLoaded n) (map before_linking R)
-loaded_to_stale n [] h = h
-loaded_to_stale n (r ∷ R) h = All-cons (HasLoaded n) (before_linking r) (map before_linking R) (All-head (HasLoaded n) r R h) (loaded_to_stale n R (All-tail (HasLoaded n) r R h))
-
-loaded_from_stale : (n : ℕ) (R : List RecordParts) → All (HasLoaded n) (map before_linking R) → All (HasLoaded n) R
-loaded_from_stale n [] h = h
-loaded_from_stale n (r ∷ R) h = All-cons (HasLoaded n) r R (All-head (HasLoaded n) (before_linking r) (map before_linking R) h) (loaded_from_stale n R (All-tail (HasLoaded n) (before_linking r) (map before_linking R) h))
-
-pub sound_stale : (first R : List RecordParts) → map before_linking R ≡ map before_linking first → IsSound first → IsSound R
-sound_stale first R e h = record {
-  few = let f = long_stale first R e in omega (arith, f, h.few);
-  differ = subst AreDistinct (sym (urls_stale first) ∙ (ap (map url_of) (sym e) ∙ urls_stale R)) h.differ;
-  each = from_stale R (subst (All Fits) (sym e) (to_stale first h.each));
-  loaded = subst (λ n. All (HasLoaded n) R) (sym (long_stale first R e)) (loaded_from_stale (length first) R (subst (All (HasLoaded (length first))) (sym e) (loaded_to_stale (length first) first h.loaded)));
 }
 
 module _ (trees : List (List Item)) where
@@ -172,10 +75,10 @@ module _ (trees : List (List Item)) where
   entries_stale first R ss e = sym (entries_by R ss) ∙ (ap (λ rs. entries_in trees rs ss) e ∙ entries_by first ss)
 
 -- one more of the modules is Unlinked
-pub one_more : (first R : List RecordParts) (ids : List ℕ) (i id : ℕ) → ((n : ℕ) → is_unlinked R n ≡ (is_unlinked first n || is_in (take i ids) n)) → slice_get ids i ≡ Some id → id < length R
-    → (n : ℕ) → is_unlinked (unlink_at R id) n ≡ (is_unlinked first n || is_in (take (i + 1) ids) n)
-one_more first R ids i id h e inside n =
-    unlinked_more R id n inside ∙ (ap (λ b. b || nat_eq n id) (h n) ∙ (by (is_unlinked first n) (is_in (take i ids) n) (nat_eq n id) ∙ ap (λ b. is_unlinked first n || b) (sym (in_push (take i ids) id n) ∙ ap (λ ids. is_in ids n) (sym next))))
+pub one_more : (first R new : List RecordParts) (ids : List ℕ) (i id : ℕ) → ((n : ℕ) → is_unlinked R n ≡ (is_unlinked first n || is_in (take i ids) n)) → slice_get ids i ≡ Some id
+    → ((n : ℕ) → is_unlinked new n ≡ (is_unlinked R n || nat_eq n id)) → (n : ℕ) → is_unlinked new n ≡ (is_unlinked first n || is_in (take (i + 1) ids) n)
+one_more first R new ids i id h e more n =
+    more n ∙ (ap (λ b. b || nat_eq n id) (h n) ∙ (by (is_unlinked first n) (is_in (take i ids) n) (nat_eq n id) ∙ ap (λ b. is_unlinked first n || b) (sym (in_push (take i ids) id n) ∙ ap (λ ids. is_in ids n) (sym next))))
   where
     take_one : (ks : List ℕ) (i k : ℕ) → slice_get ks i ≡ Some k → take (suc i) ks ≡ take i ks ++ k ∷ []
     take_one [] i k e = cc

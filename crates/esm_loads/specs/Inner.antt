@@ -10,4 +10,5 @@ pub mod Settling
 pub mod Stepping
 pub mod Asking
 pub mod Arriving
+pub mod Filling
 pub mod Reading

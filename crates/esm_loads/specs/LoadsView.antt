@@ -6,6 +6,7 @@ use Rattle.std.specs.declared.alloc.Global.{Global}
 use Rattle.std.specs.declared.sync.Arc.{Arc}
 use Rattle.esm_tree.specs.Syntax.{Item, Parts}
 use Rattle.esm_base.specs.Urls.{Url, same_url}
+use Rattle.esm_base.specs.declared.module_id.ModuleId.{ModuleId}
 use Rattle.esm_realm.specs.Sound.{RecordParts}
 use Rattle.esm_realm.specs.declared.record.ModuleStatus.{ModuleStatus}
 use Rattle.esm_realm.specs.declared.record.ModuleStatus.TheVariants.{New, Unlinked, Linking, Linked}
@@ -139,9 +140,19 @@ status_before_linking Unlinked = New
 status_before_linking Linking = Linking
 status_before_linking Linked = Linked
 
--- a record, but for whether it is New or Unlinked
+-- what requests have loaded, where the module is past Unlinked
+abbrev pub loaded_before_linking : ModuleStatus → List (Option ModuleId) → List (Option ModuleId)
+loaded_before_linking New loaded = []
+loaded_before_linking Unlinked loaded = []
+loaded_before_linking Linking loaded = loaded
+loaded_before_linking Linked loaded = loaded
+
+-- a record, but for whether it is New or Unlinked, and for what its requests have loaded where it is one of these
 abbrev pub before_linking : RecordParts → RecordParts
-before_linking r = record r { status = status_before_linking r.status }
+before_linking r = record r {
+  loaded = loaded_before_linking r.status r.loaded;
+  status = status_before_linking r.status;
+}
 
 -- ---- requests and loads
 

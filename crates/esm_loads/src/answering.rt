@@ -1,57 +1,36 @@
 // A pending request is answered. ECMA-262, FinishLoadingImportedModule and ContinueModuleLoading.
-ghost use Rattle.std.specs.Prelude.{◌≡◌, ◌<◌, ◌||◌, ℕ, length, map, Some, OnOk, slice_get};
+ghost use Rattle.std.specs.Prelude.{◌≡◌, ◌<◌, length, map, Some, Err, OnOk, slice_get};
+ghost use Rattle.esm_base.specs.declared.limits.Limit.{Limit};
+ghost use Rattle.esm_base.specs.declared.end.End.TheVariants.{Fault};
 ghost use Rattle.esm_realm.specs.Sound.{IsSound, records_of};
 ghost use Rattle.esm_import_map.specs.ImportMap.{Maps};
 ghost use Rattle.esm_loads.specs.Load.{Enters};
 ghost use Rattle.esm_loads.specs.Loading.{Loading, begin as begun, finish as finished};
 ghost use Rattle.esm_loads.specs.UrlTable.{TableEntry};
-ghost use Rattle.esm_loads.specs.LoadsView.{LoadView, urls_of, url_at, is_in, is_unlinked, request_of, is_open, before_linking};
+ghost use Rattle.esm_loads.specs.LoadsView.{LoadView, urls_of, url_at, request_of, is_open, before_linking};
 ghost use Rattle.esm_loads.specs.LoadsAsLoading.{loading_of};
-ghost use Rattle.esm_loads.specs.Fits.{AreBelow, AreJoined, HaveRecords, IsModuleAt};
-ghost use Rattle.esm_loads.specs.Inner.Steps.{IsLoading, Grown, set_load, after_load};
+ghost use Rattle.esm_loads.specs.Fits.{AreJoined, HaveRecords, IsModuleAt};
+ghost use Rattle.esm_loads.specs.Inner.Steps.{IsLoading, Grown, set_load};
 ghost use Rattle.esm_loads.specs.Inner.Flags.{begun_record};
 ghost use Rattle.esm_loads.specs.Inner.Stops.{StopsIn};
+ghost use Rattle.esm_loads.specs.Inner.Filling.{FillsNew};
 ghost use Rattle.esm_loads.specs.Inner.Answering.{Reaches, IsAnswered, MayGoOn, StopsAnswer, KeepsUrls};
 
 use crate::LoadEnd;
 use crate::data::{Requester, Stage, TargetState, Waiting};
 use crate::entering::enter;
+use crate::filling::unlink;
 use crate::loads::Loads;
 use crate::steps::{set_stage, target_state};
 use esm_base::ModuleId;
-use esm_realm::{ModuleStatus, Realm};
-
-// A New module becomes Unlinked.
-fn unlink_one(status: &mut ModuleStatus)
-    ensures { status.new ≡ after_load status.old }
-{
-    match *status {
-        ModuleStatus::New => {
-            *status = ModuleStatus::Unlinked;
-        }
-        ModuleStatus::Unlinked => {}
-        ModuleStatus::Linking => {}
-        ModuleStatus::Linked => {}
-    }
-}
-
-// Those of these modules that are New become Unlinked.
-fn unlink(ids: &[u32], realm: &mut Realm)
-    requires { AreBelow (length (records_of realm.old)) ids.now }
-    ensures same { map before_linking (records_of realm.new)
-        ≡ map before_linking (records_of realm.old) }
-    ensures unlinked { (id : ℕ) → is_unlinked (records_of realm.new) id
-        ≡ (is_unlinked (records_of realm.old) id || is_in ids.now id) }
-{
-    for i in 0..ids.len() {
-        unlink_one(&mut realm.records[ids[i] as usize].status);
-    }
-}
+use esm_realm::Realm;
 
 /// A load that goes on and has no pending request ends: those modules that it has visited and that are New become
 /// Unlinked.
 pub fn finish(loads: &mut Loads, realm: &mut Realm, load: usize)
     requires joined { AreJoined loads.old (length (records_of realm.old)) }
+    requires records { HaveRecords loads.old.urls.slots (records_of realm.old) }
+    requires sound { IsSound (records_of realm.old) }
     requires load { load < length loads.old.loads.items }
     ensures finishes { (maps : Maps) → loading_of maps loads.new (records_of realm.new)
         ≡ finished (loading_of maps loads.old (records_of realm.old)) load }
@@ -59,13 +38,15 @@ pub fn finish(loads: &mut Loads, realm: &mut Realm, load: usize)
     ensures same { map before_linking (records_of realm.new)
         ≡ map before_linking (records_of realm.old) }
     ensures kept { KeepsUrls loads.old loads.new }
+    ensures fills { FillsNew loads.new.urls.slots (records_of realm.old) (records_of realm.new) }
+    ensures sound { IsSound (records_of realm.new) }
 {
     match loads.loads[load].open_root() {
         Some(root) => {
             if loads.queues.waits(load) {
                 return;
             }
-            unlink(loads.loads[load].visited(), realm);
+            unlink(&loads.urls, loads.loads[load].visited(), realm);
             set_stage(loads, load, Stage::Complete(root));
         }
         None => {}
@@ -103,10 +84,15 @@ fn reach(
     ensures same { map before_linking (records_of realm.new)
         ≡ map before_linking (records_of realm.old) }
     ensures kept { OnOk result (KeepsUrls loads.old loads.new) }
-    ensures limit { (maps : Maps) → StopsIn result (
+    ensures fills { OnOk result
+        (FillsNew loads.new.urls.slots (records_of realm.old) (records_of realm.new)) }
+    ensures sound { IsSound (records_of realm.new) }
+    ensures limit { (maps : Maps) → StopsIn result (loading_of maps loads.new (records_of realm.new))
+        (
         Enters (loading_of maps loads.old (records_of realm.old)) load
         (url_at (urls_of loads.old.urls.slots) place)
         ) }
+    ensures going { (limit : Limit) → result ≡ Err (Fault limit) → IsLoading loads.new load }
 {
     match enter(loads, realm, load, place, id) {
         Ok(()) => {}
@@ -139,11 +125,16 @@ fn begin_and_reach(
     ensures same { map before_linking (records_of realm.new)
         ≡ map before_linking (records_of realm.old) }
     ensures kept { OnOk result (KeepsUrls loads.old loads.new) }
-    ensures limit { (maps : Maps) → StopsIn result (
+    ensures fills { OnOk result
+        (FillsNew loads.new.urls.slots (records_of realm.old) (records_of realm.new)) }
+    ensures sound { IsSound (records_of realm.new) }
+    ensures limit { (maps : Maps) → StopsIn result (loading_of maps loads.new (records_of realm.new))
+        (
         Enters (begun (loading_of maps loads.old (records_of realm.old)) load
         (url_at (urls_of loads.old.urls.slots) place)) load
         (url_at (urls_of loads.old.urls.slots) place)
         ) }
+    ensures going { (limit : Limit) → result ≡ Err (Fault limit) → IsLoading loads.new load }
 {
     begin(loads, load, place);
     match reach(loads, realm, load, place, id) {
@@ -176,10 +167,16 @@ pub fn answer(
     ensures same { map before_linking (records_of realm.new)
         ≡ map before_linking (records_of realm.old) }
     ensures kept { OnOk result (KeepsUrls loads.old loads.new) }
+    ensures fills { OnOk result
+        (FillsNew loads.new.urls.slots (records_of realm.old) (records_of realm.new)) }
+    ensures sound { IsSound (records_of realm.new) }
     ensures limit { (maps : Maps) → StopsAnswer result
         (loading_of maps loads.old (records_of realm.old))
         (request_of (urls_of loads.old.urls.slots) waiting)
-        (url_at (urls_of loads.old.urls.slots) place) }
+        (url_at (urls_of loads.old.urls.slots) place)
+        (loading_of maps loads.new (records_of realm.new)) }
+    ensures going { (limit : Limit) → result ≡ Err (Fault limit)
+        → IsLoading loads.new waiting.load }
 {
     let load = waiting.load;
     match target_state(loads, Some(place)) {

@@ -178,6 +178,7 @@ impl AskedUrls {
         ensures ok { OnOk result
             (self.new ≡ record self.old { slots = self.old.slots ++ open_slot url.now ∷ [] }) }
         ensures room { OnOk result (length self.old.slots < MAX_URLS) }
+        ensures same { (limit : Limit) → result ≡ Err (Fault limit) → self.new ≡ self.old }
         ensures limit { (limit : Limit) → result ≡ Err (Fault limit)
             → (limit ≡ Limit.L1) × (length self.old.slots ≡ MAX_URLS) }
     {

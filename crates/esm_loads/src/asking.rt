@@ -1,5 +1,5 @@
 // A load is added, and asks for its root. ECMA-262, HostLoadImportedModule of an entry and of an `import()`.
-ghost use Rattle.std.specs.Prelude.{◌≡◌, ◌<◌, length, Some, Err, IfOk, OnOk, IfSome, slice_get};
+ghost use Rattle.std.specs.Prelude.{◌≡◌, ◌<◌, length, Err, IfOk, OnOk, IfSome};
 ghost use Rattle.esm_base.specs.declared.limits.Limit.{Limit};
 ghost use Rattle.esm_base.specs.declared.end.End.TheVariants.{Fault};
 ghost use Rattle.esm_base.specs.Urls.{IsUsable};
@@ -10,6 +10,7 @@ ghost use Rattle.esm_loads.specs.Loading as loading;
 ghost use Rattle.esm_loads.specs.LoadsView.{urls_of, place_in};
 ghost use Rattle.esm_loads.specs.LoadsAsLoading.{loading_of};
 ghost use Rattle.esm_loads.specs.Fits.{FitRecords, IsFetching};
+ghost use Rattle.esm_loads.specs.Hosted.{stopped_by};
 ghost use Rattle.esm_loads.specs.Inner.Asking.{AddsLoad};
 
 use crate::LoadEnd;
@@ -44,8 +45,8 @@ pub fn ask_root(loads: &mut Loads, realm: &Realm, url: &Text, load: usize) -> Re
         ) }
     ensures fits { OnOk result (FitRecords loads.new (records_of realm.now)) }
     ensures limit { (maps : Maps) (limit : Limit) → result ≡ Err (Fault limit)
-        → (loading.ask (loading_of maps loads.old (records_of realm.now)) url.now
-        (Root load)).stopped ≡ Some limit }
+        → stopped_by (loading_of maps loads.new (records_of realm.now)) limit
+        ≡ loading.ask (loading_of maps loads.old (records_of realm.now)) url.now (Root load) }
 {
     let _ = realm;
     let at = loads.urls.find(url);

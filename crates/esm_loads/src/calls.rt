@@ -1,11 +1,12 @@
 // The calls of several loads.
-ghost use Rattle.std.specs.Prelude.{◌≡◌, ℕ, [], List, map, None, Some, Ok, Err, OnOk, true, false};
+ghost use Rattle.std.specs.Prelude.{◌≡◌, ◌<◌, ℕ, [], List, length, map, None, Some, Ok, Err, OnOk, true, false};
 ghost use Rattle.esm_base.specs.declared.limits.Limit.{Limit};
 ghost use Rattle.esm_base.specs.declared.end.End.TheVariants.{Fault};
 ghost use Rattle.esm_base.specs.Urls.{Url, has, IsUsable};
 ghost use Rattle.esm_ast.specs.Outcome.{outcome_view};
 ghost use Rattle.esm_promise.specs.Code.{Numbered};
 ghost use Rattle.esm_import_map.specs.ImportMap.{Maps};
+ghost use Rattle.esm_realm.specs.ById.{url_at};
 ghost use Rattle.esm_realm.specs.Sound.{IsSound, RecordParts, records_of};
 ghost use Rattle.esm_loads.specs.Arrival.{after_fetch, AnswersNext, next, open_asks};
 ghost use Rattle.esm_loads.specs.UrlTable.{found};
@@ -13,7 +14,7 @@ ghost use Rattle.esm_loads.specs.Loading as loading;
 ghost use Rattle.esm_loads.specs.LoadsView.{before_linking, every_form, promise_id};
 ghost use Rattle.esm_loads.specs.LoadsAsLoading.{asks_entry, loading_of, no_loading};
 ghost use Rattle.esm_loads.specs.Fits.{FitRecords, IsFetching, records_with};
-ghost use Rattle.esm_loads.specs.Hosted.{host_of, StopsAt, StopsHost};
+ghost use Rattle.esm_loads.specs.Hosted.{host_of, IsImport, StopsAt, StopsHost};
 ghost use Rattle.esm_loads.specs.Loaded.{HaveLoaded, root_url};
 ghost use Rattle.esm_loads.specs.Whole.{IsWhole};
 
@@ -22,6 +23,7 @@ use crate::arriving::arrive;
 use crate::asked_urls::AskedUrls;
 use crate::asking::{add_load, ask_root};
 use crate::data::Purpose;
+use crate::importing::import_call;
 use crate::loads::Loads;
 use crate::queues::Queues;
 use crate::reading::{import_promise, root_of_load};
@@ -107,12 +109,17 @@ impl Loads {
         ensures unchanged { result ≡ Ok false → (self.new ≡ self.old)
             × (promises.new ≡ promises.old) × (errors.new ≡ errors.old)
             × (records_of realm.new ≡ records_of realm.old) }
-        ensures limit { (named : ℕ → Url) (maps : Maps) → StopsHost result (AnswersNext
+        ensures limit { (named : ℕ → Url) (maps : Maps) → StopsHost result
+            (host_of named promises.new errors.new
+            (loading_of maps self.new (records_of realm.new)))
+            (AnswersNext
             (host_of named promises.old errors.old
             (loading_of maps self.old (records_of realm.old)))) }
         ensures fits { OnOk result (FitRecords self.new (records_of realm.new)) }
         ensures records { map before_linking (records_of realm.new)
             ≡ map before_linking (records_of realm.old) }
+        ensures loaded { (maps : Maps) → IsWhole (loading_of maps self.old (records_of realm.old))
+            → HaveLoaded (records_of realm.old) → OnOk result (HaveLoaded (records_of realm.new)) }
         ensures sound { IsSound (records_of realm.new) }
     {
         answer_next(self, realm, promises, errors)
@@ -158,6 +165,43 @@ impl Loads {
         ensures sound { IsSound (records_of realm.new) }
     {
         arrive(self, realm, errors, map, url, outcome)
+    }
+
+    /// Begins a call of `import()`, whose specifier stands in the module `referrer` and whose promise is there. It is
+    /// counted first: limit L4 comes exactly where `MAX_IMPORT_CALLS` calls were begun. A specifier that doesn't resolve
+    /// rejects the promise with a new TypeError. Else a load is added: its root is asked for, or answered at once where it
+    /// is fetched. Limit L1 comes exactly where more than `MAX_URLS` URLs are asked for.
+    ///
+    /// ECMA-262, EvaluateImportCall and ContinueDynamicImport.
+    pub fn import_call(
+        &mut self,
+        realm: &mut Realm,
+        promises: &mut Promises,
+        errors: &mut Errors,
+        import_map: &ImportMap,
+        referrer: ModuleId,
+        specifier: &str,
+        promise: PromiseId,
+    ) -> Result<(), LoadEnd>
+        requires fits { FitRecords self.old (records_of realm.old) }
+        requires sound { IsSound (records_of realm.old) }
+        requires referrer { referrer.0 < length (records_of realm.old) }
+        ensures imports { (named : ℕ → Url) → IsImport
+            (host_of named promises.old errors.old
+            (loading_of import_map.now self.old (records_of realm.old)))
+            (url_at (records_of realm.old) referrer.0) specifier.now promise.0 result
+            (host_of named promises.new errors.new
+            (loading_of import_map.now self.new (records_of realm.new))) }
+        ensures fits { OnOk result (FitRecords self.new (records_of realm.new)) }
+        ensures records { map before_linking (records_of realm.new)
+            ≡ map before_linking (records_of realm.old) }
+        ensures loaded { IsWhole (loading_of import_map.now self.old (records_of realm.old))
+            → HaveLoaded (records_of realm.old) → OnOk result (HaveLoaded (records_of realm.new)) }
+        ensures sound { IsSound (records_of realm.new) }
+    {
+        import_call(
+            self, realm, promises, errors, import_map, referrer, specifier, promise,
+        )
     }
 
     /// The root of a load that has ended with all modules loaded; none of any other load. It takes no memory.

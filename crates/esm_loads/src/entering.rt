@@ -1,5 +1,7 @@
 // A load enters a module. ECMA-262, InnerModuleLoading.
-ghost use Rattle.std.specs.Prelude.{◌≡◌, OnOk};
+ghost use Rattle.std.specs.Prelude.{◌≡◌, Err, OnOk};
+ghost use Rattle.esm_base.specs.declared.limits.Limit.{Limit};
+ghost use Rattle.esm_base.specs.declared.end.End.TheVariants.{Fault};
 ghost use Rattle.esm_realm.specs.Sound.{IsSound, records_of};
 ghost use Rattle.std.specs.Prelude.{length};
 ghost use Rattle.esm_import_map.specs.ImportMap.{Maps};
@@ -37,10 +39,12 @@ pub fn enter(
         ) }
     ensures grown { OnOk result (Grown (length (records_of realm.now)) load loads.old loads.new) }
     ensures joined { OnOk result (AreJoined loads.new (length (records_of realm.now))) }
-    ensures limit { (maps : Maps) → StopsIn result (
+    ensures limit { (maps : Maps) → StopsIn result (loading_of maps loads.new (records_of realm.now))
+        (
         Enters (loading_of maps loads.old (records_of realm.now)) load
         (url_at (urls_of loads.old.urls.slots) place)
         ) }
+    ensures going { (limit : Limit) → result ≡ Err (Fault limit) → IsLoading loads.new load }
 {
     if !is_fresh(loads, realm, load, id) {
         return Ok(());

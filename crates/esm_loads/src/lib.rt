@@ -10,6 +10,7 @@ mod data;
 mod end;
 mod entering;
 pub mod examples;
+mod filling;
 mod importing;
 pub mod laws;
 mod load_record;

@@ -16,7 +16,10 @@ ghost use Rattle.esm_loads.specs.LoadsAsLoading.{loading_of, trees_of};
 ghost use Rattle.esm_loads.specs.Fits.{AreJoined, FitRecords, HaveRecords};
 ghost use Rattle.esm_loads.specs.declared.data.Slot.{Slot};
 ghost use Rattle.esm_loads.specs.Hosted.{host_of, StopsHost};
+ghost use Rattle.esm_loads.specs.Loaded.{HaveLoaded};
+ghost use Rattle.esm_loads.specs.Whole.{IsWhole};
 ghost use Rattle.esm_loads.specs.Inner.Answering.{MayGoOn};
+ghost use Rattle.esm_loads.specs.Inner.Filling.{FillsNew};
 ghost use Rattle.esm_loads.specs.Inner.Stepping.{Takes, NothingPending, IsBegun, IsSettled, IsAnsweredIn, BeginsBy};
 
 use crate::LoadEnd;
@@ -133,6 +136,8 @@ fn respond_to(
     ensures fits { OnOk result (FitRecords loads.new (records_of realm.new)) }
     ensures same { map before_linking (records_of realm.new)
         ≡ map before_linking (records_of realm.old) }
+    ensures fills { OnOk result
+        (FillsNew loads.new.urls.slots (records_of realm.old) (records_of realm.new)) }
     ensures sound { IsSound (records_of realm.new) }
 {
     match answer(loads, realm, waiting, place) {
@@ -165,6 +170,8 @@ pub fn respond(
     ensures fits { OnOk result (FitRecords loads.new (records_of realm.new)) }
     ensures same { map before_linking (records_of realm.new)
         ≡ map before_linking (records_of realm.old) }
+    ensures fills { OnOk result
+        (FillsNew loads.new.urls.slots (records_of realm.old) (records_of realm.new)) }
     ensures sound { IsSound (records_of realm.new) }
 {
     match waiting.requester {
@@ -208,11 +215,15 @@ pub fn answer_next(
     ensures unchanged { result ≡ Ok false → (loads.new ≡ loads.old)
         × (promises.new ≡ promises.old) × (errors.new ≡ errors.old)
         × (records_of realm.new ≡ records_of realm.old) }
-    ensures limit { (named : ℕ → Url) (maps : Maps) → StopsHost result (AnswersNext
+    ensures limit { (named : ℕ → Url) (maps : Maps) → StopsHost result
+        (host_of named promises.new errors.new (loading_of maps loads.new (records_of realm.new)))
+        (AnswersNext
         (host_of named promises.old errors.old (loading_of maps loads.old (records_of realm.old)))) }
     ensures fits { OnOk result (FitRecords loads.new (records_of realm.new)) }
     ensures same { map before_linking (records_of realm.new)
         ≡ map before_linking (records_of realm.old) }
+    ensures loaded { (maps : Maps) → IsWhole (loading_of maps loads.old (records_of realm.old))
+        → HaveLoaded (records_of realm.old) → OnOk result (HaveLoaded (records_of realm.new)) }
     ensures sound { IsSound (records_of realm.new) }
 {
     let place = loads.delivered;

@@ -63,6 +63,7 @@ fn open(loads: &mut Loads, url: &Text) -> Result<usize, LoadEnd>
     ensures ok { OnOk result (loads.new ≡ add_url loads.old url.now) }
     ensures place { IfOk result (λ k. k ≡ length loads.old.urls.slots) }
     ensures room { OnOk result (length loads.old.urls.slots < MAX_URLS) }
+    ensures same { (limit : Limit) → result ≡ Err (Fault limit) → loads.new ≡ loads.old }
     ensures limit { (limit : Limit) → result ≡ Err (Fault limit)
         → (limit ≡ Limit.L1) × (length loads.old.urls.slots ≡ MAX_URLS) }
 {
@@ -92,6 +93,7 @@ pub fn ask(
         ≡ add_waiting (with_asked loads.old url.now at) (place_or loads.old at)
         (record { load = load; requester = requester })) }
     ensures room { OnOk result (at ≡ None → length loads.old.urls.slots < MAX_URLS) }
+    ensures same { (limit : Limit) → result ≡ Err (Fault limit) → loads.new ≡ loads.old }
     ensures limit { (limit : Limit) → result ≡ Err (Fault limit)
         → (at ≡ None) × (limit ≡ Limit.L1) × (length loads.old.urls.slots ≡ MAX_URLS) }
 {

@@ -7,6 +7,7 @@ use Rattle.esm_base.specs.Urls.{Url}
 use Rattle.esm_loads.specs.UrlTable.{TableEntry}
 use Rattle.esm_loads.specs.Loading.{Loading, PendingRequest, finish}
 use Rattle.esm_loads.specs.Load.{Enters, Answers}
+use Rattle.esm_loads.specs.Hosted.{stopped_by}
 use Rattle.esm_loads.specs.LoadsView.{is_open}
 use Rattle.esm_loads.specs.Inner.Steps.{IsLoading}
 use Rattle.esm_loads.specs.declared.data.Slot.{Slot}
@@ -33,10 +34,10 @@ MayGoOn l w = MayGoOnBy l w.load w.requester
 abbrev pub IsAnswered : Loading → PendingRequest → Url → Loading → Type 0
 IsAnswered l a u after = (e : TableEntry) → l.entries u ≡ Some e → Answers l a u e after
 
--- where a limit ends the call, it stops the loading by such an answer
-abbrev pub StopsAnswer : {T : Type 0} → Result T (End Limit) → Loading → PendingRequest → Url → Type 0
-StopsAnswer result l a u = (limit : Limit) → result ≡ Err (Fault limit) → (e : TableEntry) → l.entries u ≡ Some e
-    → (after : Loading) × Answers l a u e after × (after.stopped ≡ Some limit)
+-- where a limit ends the call, the loading that is left, stopped by it, is that of such an answer
+abbrev pub StopsAnswer : {T : Type 0} → Result T (End Limit) → Loading → PendingRequest → Url → Loading → Type 0
+StopsAnswer result l a u left = (limit : Limit) → result ≡ Err (Fault limit) → (e : TableEntry) → l.entries u ≡ Some e
+    → Answers l a u e (stopped_by left limit)
 
 -- some URLs more are asked for, and no module came; what belongs to other calls is the same
 pub record KeepsUrls (old new : Loads) : Type 0 where

@@ -72,7 +72,8 @@ IsGiven answers named maps old before errors records w place result new after ma
     (e : TableEntry) → (loading_of maps old records).entries (url_at (urls_of old.urls.slots) place) ≡ Some e
     → OnOk result (answers (host_of named before errors (loading_of maps old records)) (request_of (urls_of old.urls.slots) w)
     (url_at (urls_of old.urls.slots) place) e (host_of named after made (loading_of maps new more)))
-    × StopsHost result (answers (host_of named before errors (loading_of maps old records))
+    × StopsHost result (host_of named after made (loading_of maps new more))
+    (answers (host_of named before errors (loading_of maps old records))
     (request_of (urls_of old.urls.slots) w) (url_at (urls_of old.urls.slots) place) e)
 
 -- the answer to the request, behind the beginning of its load, and what the end of the load settles

@@ -2,8 +2,6 @@
 use Rattle.std.specs.Prelude.{◌≡◌, ℕ, suc, zero, ◌++◌, ◌≤◌, Bool, true, false, All, List, [], ◌∷◌, length, slice_get, Option, Some, None}
 use Rattle.std.specs.Vec.{with_item}
 use Rattle.esm_base.specs.Urls.{Url}
-use Rattle.esm_realm.specs.declared.record.ModuleStatus.{ModuleStatus}
-use Rattle.esm_realm.specs.declared.record.ModuleStatus.TheVariants.{New, Unlinked, Linking, Linked}
 use Rattle.esm_loads.specs.LoadsView.{is_open, is_in, LoadView}
 use Rattle.esm_loads.specs.Inner.Urls.{open_slot}
 use Rattle.esm_loads.specs.Inner.Requests.{push_at}
@@ -94,10 +92,3 @@ pub record Grown (records s : ℕ) (old new : Loads) : Type 0 where
   pub bytes : new.urls.bytes ≡ old.urls.bytes
   pub loads : length new.loads.items ≡ length old.loads.items
   pub fresh : freshness records s new ≤ freshness records s old
-
--- a New module becomes Unlinked
-abbrev pub after_load : ModuleStatus → ModuleStatus
-after_load New = Unlinked
-after_load Unlinked = Unlinked
-after_load Linking = Linking
-after_load Linked = Linked

@@ -1,11 +1,12 @@
 -- By what stands there.
-use Rattle.std.proofs.Common.{◌≡◌, ◌∙◌, ap, sym, subst, [], length, Some}
+use Rattle.std.proofs.Common.{◌≡◌, ◌∙◌, ap, sym, subst, refl, [], length, Some}
 use Rattle.esm_realm.specs.Sound.{records_of}
 use Rattle.esm_loads.specs.Load.{Enters, Answers}
-use Rattle.esm_loads.specs.Loading.{Loading, begin}
+use Rattle.esm_loads.specs.Loading.{begin}
 use Rattle.esm_loads.specs.LoadsView.{urls_of, url_at, request_by}
 use Rattle.esm_loads.specs.LoadsAsLoading.{loading_of, trees_of}
 use Rattle.esm_loads.specs.Fits.{AreJoined}
+use Rattle.esm_loads.specs.Hosted.{stopped_by}
 use Rattle.esm_loads.specs.Inner.Steps.{IsLoading}
 use Rattle.esm_loads.specs.Inner.Answering.{KeepsUrls, Reaches, IsAnswered, MayGoOnBy}
 use Rattle.esm_loads.specs.declared.data.Stage.TheVariants as stages
@@ -14,6 +15,7 @@ use Rattle.esm_loads.proofs.Places.{get_within}
 use Rattle.esm_loads.proofs.LoadSteps as tables
 use Rattle.esm_loads.proofs.EnterFacts as facts
 use Rattle.esm_loads.proofs.AnswerFacts as answers
+use Rattle.esm_loads.proofs.FillFacts.{fills_same}
 use Rattle.esm_loads.proofs.answering.answer.Goals as goal
 
 pub returns-in-Fetching-clause-answers : goal.returns-in-Fetching-clause-answers
@@ -25,6 +27,12 @@ returns-in-Fetching-clause-answers c maps e at =
 
 pub returns-in-Fetching-clause-kept : goal.returns-in-Fetching-clause-kept
 returns-in-Fetching-clause-kept c = answers.kept_same c.args.loads.now
+
+pub returns-in-Fetching-clause-fills : goal.returns-in-Fetching-clause-fills
+returns-in-Fetching-clause-fills c = fills_same c.args.loads.now.urls.slots (records_of c.args.realm.now)
+
+pub returns-in-Throws-clause-fills : goal.returns-in-Throws-clause-fills
+returns-in-Throws-clause-fills c = fills_same c.set_stage.new.loads.urls.slots (records_of c.args.realm.now)
 
 pub returns-in-Throws-clause-answers : goal.returns-in-Throws-clause-answers
 returns-in-Throws-clause-answers c maps =
@@ -74,9 +82,9 @@ returns-in-Err-clause-limit c maps limit e x f =
     let u = url_at us c.args.place in
     let L = loading_of maps t R in
     let stood = facts.told (trees_of t) R t.urls.slots u (Some c.args.place) (target_states.Module c.in-Module.at c.in-Module.id) c.requires.kept (facts.place_own t (length R) c.args.place c.requires.joined c.requires.place) (sym c.in-Module.is ∙ c.target_state.ensures) in
-    let stop = c.in-Err.ensures.limit maps limit e in
-    let entered = subst (λ u. Enters (begin L s u) s u stop.0) stood.4 stop.1 in
-    subst (λ r. (after : Loading) × Answers L (request_by us s r) u x after × (after.stopped ≡ Some limit)) (sym c.in-Root.is) (answers.root_stops L s u stood.0 stop.0 limit stood.1 stood.2 entered stop.2 x f)
+    let end = stopped_by (loading_of maps c.begin_and_reach.new.loads (records_of c.begin_and_reach.new.realm)) limit in
+    let entered = subst (λ u. Enters (begin L s u) s u end) stood.4 (c.in-Err.ensures.limit maps limit e) in
+    subst (λ r. Answers L (request_by us s r) u x end) (sym c.in-Root.is) (answers.root_stops L s u stood.0 end limit stood.1 stood.2 entered refl x f)
 
 pub returns-in-Ok-reach-clause-answers : goal.returns-in-Ok-reach-clause-answers
 returns-in-Ok-reach-clause-answers c maps =
@@ -103,7 +111,7 @@ returns-in-Err-reach-clause-limit c maps limit e x f =
     let L = loading_of maps t R in
     let stood = facts.told (trees_of t) R t.urls.slots u (Some c.args.place) (target_states.Module c.in-Module.at c.in-Module.id) c.requires.kept (facts.place_own t (length R) c.args.place c.requires.joined c.requires.place) (sym c.in-Module.is ∙ c.target_state.ensures) in
     let b : IsLoading t s = subst (MayGoOnBy t s) c.in-Module-requester.is c.requires.going in
-    let stop = c.in-Err-reach.ensures.limit maps limit e in
-    let entered = subst (λ u. Enters L s u stop.0) stood.4 stop.1 in
-    subst (λ r. (after : Loading) × Answers L (request_by us s r) u x after × (after.stopped ≡ Some limit)) (sym c.in-Module-requester.is)
-    (answers.module_stops L s c.in-Module-requester.request (url_at us c.in-Module-requester.referrer) u stood.0 stop.0 limit _ (tables.open_is maps R t s b.load b.at b.root b.open_is) stood.1 stood.2 entered stop.2 x f)
+    let end = stopped_by (loading_of maps c.reach.new.loads (records_of c.reach.new.realm)) limit in
+    let entered = subst (λ u. Enters L s u end) stood.4 (c.in-Err-reach.ensures.limit maps limit e) in
+    subst (λ r. Answers L (request_by us s r) u x end) (sym c.in-Module-requester.is)
+    (answers.module_stops L s c.in-Module-requester.request (url_at us c.in-Module-requester.referrer) u stood.0 end limit _ (tables.open_is maps R t s b.load b.at b.root b.open_is) stood.1 stood.2 entered refl x f)

@@ -7,6 +7,7 @@ use Rattle.esm_loads.specs.LoadsView.{urls_of, url_at}
 use Rattle.esm_loads.specs.LoadsAsLoading.{loading_of}
 use Rattle.esm_loads.specs.Fits.{AreJoined, HaveRecords, IsModuleAt}
 use Rattle.esm_loads.specs.declared.loads.Loads.{Loads}
+use Rattle.esm_loads.specs.Hosted.{stopped_by}
 use Rattle.esm_loads.specs.Inner.Flags.{begun_record}
 use Rattle.esm_loads.specs.Inner.Steps.{IsLoading}
 use Rattle.esm_loads.specs.Inner.Answering.{KeepsUrls, Reaches}
@@ -61,5 +62,5 @@ returns-in-Err-clause-limit c maps limit e =
     let v = get_within t.loads.items s c.requires.load in
     let begun = ap (λ t. loading_of maps t R) (c.begin.ensures v.0 v.1) ∙ begun_is maps R t s c.args.place in
     let url = ap (λ (t : Loads). url_at (urls_of t.urls.slots) c.args.place) (c.begin.ensures v.0 v.1) in
-    let stop = c.in-Err.ensures.limit maps limit e in
-    (stop.0, subst (λ l. Enters l s x stop.0) begun (subst (λ u. Enters (loading_of maps c.begin.new.loads R) s u stop.0) url stop.1), stop.2)
+    let end = stopped_by (loading_of maps c.reach.new.loads (records_of c.reach.new.realm)) limit in
+    subst (λ l. Enters l s x end) begun (subst (λ u. Enters (loading_of maps c.begin.new.loads R) s u end) url (c.in-Err.ensures.limit maps limit e))

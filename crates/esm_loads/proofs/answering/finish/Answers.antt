@@ -7,9 +7,11 @@ use Rattle.esm_loads.specs.LoadsView.{LoadView, is_in, is_unlinked}
 use Rattle.esm_loads.specs.LoadsAsLoading.{loading_of}
 use Rattle.esm_loads.specs.Fits.{AreJoined, IsLoadWithin, AreBelow}
 use Rattle.esm_loads.specs.Inner.Answering.{KeepsUrls}
+use Rattle.esm_loads.specs.Inner.Filling.{FillsNew}
 use Rattle.esm_loads.specs.declared.loads.Loads.{Loads}
 use Rattle.esm_loads.specs.declared.data.Stage.TheVariants as stages
 use Rattle.esm_loads.proofs.Places.{index_get, some_is, all_get, nothing}
+use Rattle.esm_loads.proofs.FillFacts.{fills_same, ids_below}
 use Rattle.esm_loads.proofs.Unlinks as facts
 use Rattle.esm_loads.proofs.answering.finish.Goals as goal
 
@@ -37,12 +39,28 @@ returns-then-waits-clause-kept c = same_urls c.args.loads.now
 pub waits-requires : goal.waits-requires
 waits-requires c = omega (arith, c.requires.load, c.requires.joined.counts)
 
-pub unlink-requires : goal.unlink-requires
-unlink-requires c =
+pub unlink-requires-clause-ids : goal.unlink-requires-clause-ids
+unlink-requires-clause-ids c =
     let t = c.args.loads.now in
     let n = length (records_of c.args.realm.now) in
     let at = index_get t.loads.items c.args.load c.index-in-Some.result.now c.requires.load c.index-in-Some.ensures in
     subst (AreBelow n) (sym c.visited.ensures) (all_get (IsLoadWithin (length t.urls.slots) n) t.loads.items c.args.load c.index-in-Some.result.now c.requires.joined.loads at).1
+
+pub unlink-requires-clause-below : goal.unlink-requires-clause-below
+unlink-requires-clause-below c = ids_below c.args.loads.now.urls.slots (records_of c.args.realm.now) c.requires.records
+
+pub returns-in-None-clause-fills : goal.returns-in-None-clause-fills
+returns-in-None-clause-fills c = fills_same c.args.loads.now.urls.slots (records_of c.args.realm.now)
+
+pub returns-then-waits-clause-fills : goal.returns-then-waits-clause-fills
+returns-then-waits-clause-fills c = fills_same c.args.loads.now.urls.slots (records_of c.args.realm.now)
+
+pub returns-else-waits-clause-fills : goal.returns-else-waits-clause-fills
+returns-else-waits-clause-fills c =
+    let t = c.args.loads.now in
+    let l = c.index.result.now in
+    let at = index_get t.loads.items c.args.load l c.requires.load c.index.ensures in
+    subst (λ (t : Loads). FillsNew t.urls.slots (records_of c.args.realm.now) (records_of c.unlink.new.realm)) (sym (c.set_stage.ensures l at)) c.unlink.ensures.fills
 
 pub returns-else-waits-clause-finishes : goal.returns-else-waits-clause-finishes
 returns-else-waits-clause-finishes c maps =

@@ -2,6 +2,7 @@
 use Rattle.std.proofs.Common.{ap, sym, subst, ◌∙◌, length, arith, refl}
 use Rattle.esm_realm.specs.Sound.{records_of}
 use Rattle.esm_loads.specs.Loading.{Root}
+use Rattle.esm_loads.specs.Hosted.{stopped_by}
 use Rattle.esm_loads.specs.LoadsAsLoading.{loading_of}
 use Rattle.esm_loads.specs.Fits.{AreJoined}
 use Rattle.esm_loads.specs.Inner.Answering.{KeepsUrls}
@@ -39,4 +40,4 @@ returns-in-Err-clause-limit c maps limit e =
     let t = c.args.loads.now in
     let R = records_of c.args.realm.now in
     let full = c.in-Err.ensures.limit limit e in
-    facts.asked_limit maps R t c.args.url.now (Root c.args.load) limit (sym c.find-at.ensures ∙ full.0) full.1 full.2
+    ap (λ t. stopped_by (loading_of maps t R) limit) (c.in-Err.ensures.same limit e) ∙ facts.asked_full maps R t c.args.url.now (Root c.args.load) limit (sym c.find-at.ensures ∙ full.0) full.1 full.2

@@ -9,7 +9,8 @@ use Rattle.esm_loads.specs.Load.Enters.{known}
 use Rattle.esm_loads.specs.LoadsView.{urls_of, url_at}
 use Rattle.esm_loads.specs.LoadsAsLoading.{loading_of, trees_of}
 use Rattle.esm_loads.specs.Fits.{AreJoined}
-use Rattle.esm_loads.specs.Inner.Steps.{Grown, freshness}
+use Rattle.esm_loads.specs.Hosted.{stopped_by}
+use Rattle.esm_loads.specs.Inner.Steps.{Grown, IsLoading, freshness}
 use Rattle.esm_loads.specs.declared.data.Slot.{Slot}
 use Rattle.esm_loads.specs.declared.data.TargetState.TheVariants as target_states
 use Rattle.esm_loads.proofs.Places.{index_get}
@@ -121,7 +122,19 @@ returns-in-Err-ask-clause-limit t c maps limit e =
     let none = facts.told (trees_of l) R l.urls.slots u c.find-at.result target_states.Fetching kept c.find-at.ensures (sym c.in-Fetching.is ∙ c.target_state.ensures) in
     let full = c.in-Err-ask.ensures.limit limit e in
     let stop = facts.asked_limit maps R l u (Request s x c.loop-request.request) limit (sym c.find-at.ensures ∙ full.0) full.1 full.2 in
-    (_, h.completes maps _ (steps.asked_stops (loading_of maps l R) s x c.as_slice-targets.result.now c.loop-request.request u target _ (tables.open_is maps R l s b.load b.at b.root b.open_is) limit none stop), stop)
+    let is = facts.asked_full maps R l u (Request s x c.loop-request.request) limit (sym c.find-at.ensures ∙ full.0) full.1 full.2 in
+    subst (λ v. Enters (loading_of maps f R) s x (stopped_by (loading_of maps v R) limit)) (sym (c.in-Err-ask.ensures.same limit e))
+    (subst (Enters (loading_of maps f R) s x) (sym is) (h.completes maps _ (steps.asked_stops (loading_of maps l R) s x c.as_slice-targets.result.now c.loop-request.request u target _ (tables.open_is maps R l s b.load b.at b.root b.open_is) limit none stop)))
+
+pub returns-in-Err-ask-clause-going : goal.returns-in-Err-ask-clause-going
+returns-in-Err-ask-clause-going t c limit e =
+    let f = c.args.loads.now in
+    let l = c.loop-request.loads in
+    let s = c.args.load in
+    let h = c.loop-request.invariant in
+    let inside = slice_get_within f.loads.items s c.requires.begun.load c.requires.begun.at in
+    let on : c.is_open.result ≡ true = search rules in
+    subst (λ v. IsLoading v s) (sym (c.in-Err-ask.ensures.same limit e)) (facts.goes_on l s (omega (arith, inside, h.grown.loads)) c.is_open.result c.is_open.ensures on)
 
 pub enter-requires : goal.enter-requires
 enter-requires t c =
@@ -152,8 +165,8 @@ returns-in-Err-enter-clause-limit t c maps limit e =
     let target = index_get c.as_slice-targets.result.now c.loop-request.request u (omega arith) c.index-targets-request.is in
     let kept = facts.records_grown (length R) s f l R c.requires.kept h.grown in
     let stood = facts.told (trees_of l) R l.urls.slots u c.find-at.result (target_states.Module c.in-Module.place c.in-Module.id) kept c.find-at.ensures (sym c.in-Module.is ∙ c.target_state.ensures) in
-    let end = c.in-Err-enter.ensures.limit maps limit e in
-    (end.0, h.completes maps end.0 (steps.loaded_stops (loading_of maps l R) s x c.as_slice-targets.result.now c.loop-request.request u target _ (tables.open_is maps R l s b.load b.at b.root b.open_is) end.0 limit stood.0 stood.1 stood.2 (subst (λ u. Enters (loading_of maps l R) s u end.0) stood.4 end.1) end.2), end.2)
+    let end = stopped_by (loading_of maps c.enter.new.loads R) limit in
+    h.completes maps end (steps.loaded_stops (loading_of maps l R) s x c.as_slice-targets.result.now c.loop-request.request u target _ (tables.open_is maps R l s b.load b.at b.root b.open_is) end limit stood.0 stood.1 stood.2 (subst (λ u. Enters (loading_of maps l R) s u end) stood.4 (c.in-Err-enter.ensures.limit maps limit e)) refl)
 
 pub loop-request-preserved : goal.loop-request-preserved
 loop-request-preserved t c =

@@ -17,6 +17,7 @@ use Rattle.esm_loads.specs.declared.loads.Loads.{Loads}
 use Rattle.esm_loads.proofs.Places.{not_err}
 use Rattle.esm_loads.proofs.AnswerFacts.{none_some}
 use Rattle.esm_loads.proofs.PublicFacts as facts
+use Rattle.esm_loads.proofs.FillFacts.{fills_same}
 use Rattle.esm_loads.proofs.ImportFacts as imports
 use Rattle.esm_loads.proofs.importing.import_url.Goals as goal
 
@@ -85,8 +86,7 @@ returns-in-Err-respond-clause-rooted c named maps =
       asks = λ none. absurd (none_some _ found.0 none found.1);
       answers = λ e at. (
         tt,
-        λ limit y. let stop = (given e (ap (loading_of maps t R).entries url ∙ at)).1 limit y in
-            (stop.0, imports.root_answered h _ c.args.promise.0 c.in-Ok.load u (url_at (urls_of t.urls.slots) k) e stop.0 host (imports.number_is named maps R t ps es c.in-Ok.load c.in-Ok.ensures.number) url stop.1, stop.2),
+        λ limit y. imports.root_answered h _ c.args.promise.0 c.in-Ok.load u (url_at (urls_of t.urls.slots) k) e _ host (imports.number_is named maps R t ps es c.in-Ok.load c.in-Ok.ensures.number) url ((given e (ap (loading_of maps t R).entries url ∙ at)).1 limit y),
       );
     }
 
@@ -120,6 +120,9 @@ returns-in-Err-ask_root-clause-rooted c named maps =
     let fetching : IsFetching t u = subst (λ l. IsFetching l u) adds.rest (c.in-None.ensures.none refl) in
     let is = ap (λ (l : Loading). ask l u (Root c.in-Ok.load)) (facts.added_is maps R t m _ adds) ∙ ap (λ s. ask (import_call.add_load h c.args.promise.0).imports u (Root s)) (imports.number_is named maps R t ps es c.in-Ok.load c.in-Ok.ensures.number) in
     record {
-      asks = λ none. (tt, λ limit y. ap (λ (l : Loading). l.stopped) (sym is) ∙ c.in-Err-ask_root.ensures.limit maps limit y);
+      asks = λ none. (tt, λ limit y. ap (host_of named ps es) (c.in-Err-ask_root.ensures.limit maps limit y ∙ is));
       answers = λ e at. absurd (none_some _ e (imports.fetching_none (trees_of t) R t u fetching) at);
     }
+
+pub returns-in-Ok-ask_root-clause-fills : goal.returns-in-Ok-ask_root-clause-fills
+returns-in-Ok-ask_root-clause-fills c = fills_same c.ask_root.new.loads.urls.slots (records_of c.args.realm.now)

@@ -12,6 +12,7 @@ use Rattle.esm_loads.specs.Inner.Stepping.{IsSettled}
 use Rattle.esm_loads.specs.declared.loads.Loads.{Loads}
 use Rattle.esm_loads.proofs.Places.{not_err}
 use Rattle.esm_loads.proofs.EnterFacts as facts
+use Rattle.esm_loads.proofs.FillFacts.{fills_same}
 use Rattle.esm_loads.proofs.StepFacts as steps
 use Rattle.esm_loads.proofs.stepping.respond.Goals as goal
 
@@ -26,6 +27,9 @@ returns-then-not-is_open-clause-answered c named maps e at =
     let h = host_of named c.args.promises.now c.args.errors.now (loading_of maps t R) in
     let over : c.is_open.result ≡ false = search rules in
     (subst (λ r. Answered h (request_by us s r) u e h) (sym c.in-Module.is) (late (facts.is_over t s c.requires.load c.is_open.result c.is_open.ensures maps R over)), λ limit x. not_err _ _ x)
+
+pub returns-then-not-is_open-clause-fills : goal.returns-then-not-is_open-clause-fills
+returns-then-not-is_open-clause-fills c = fills_same c.args.loads.now.urls.slots (records_of c.args.realm.now)
 
 pub respond_to-requires-in-Module-clause-going : goal.respond_to-requires-in-Module-clause-going
 respond_to-requires-in-Module-clause-going c =
@@ -64,7 +68,7 @@ returns-in-Err-respond_to-clause-answered c named maps e at =
     let is : before ≡ begin_load h a u e = begun ∙ ap (λ r. begin_load h (request_by us s r) u e) (sym c.in-Root.is) in
     let given = subst (λ m. IsSettled named maps m c.begin_load.new.promises c.args.errors.now R c.args.waiting c.args.place (Err c.in-Err-respond_to.end) c.respond_to.new.loads c.respond_to.new.promises c.respond_to.new.errors (records_of c.respond_to.new.realm)) c.in-Ok.ensures.rest (c.in-Err-respond_to.ensures.answered named maps) in
     let f = given e at in
-    (tt, λ limit x. let stop = f.1 limit x in (stop.0, steps.began h before a u e stop.0 is stop.1, stop.2))
+    (tt, λ limit x. steps.began h before a u e _ is (f.1 limit x))
 
 pub returns-in-Ok-respond_to-2-clause-answered : goal.returns-in-Ok-respond_to-2-clause-answered
 returns-in-Ok-respond_to-2-clause-answered c named maps e at =
@@ -90,4 +94,4 @@ returns-in-Err-respond_to-2-clause-answered c named maps e at =
     let h = host_of named c.args.promises.now c.args.errors.now (loading_of maps t R) in
     let is : h ≡ begin_load h a u e = ap (λ r. begin_load h (request_by us s r) u e) (sym c.in-Module.is) in
     let f = c.in-Err-respond_to-2.ensures.answered named maps e at in
-    (tt, λ limit x. let stop = f.1 limit x in (stop.0, steps.began h h a u e stop.0 is stop.1, stop.2))
+    (tt, λ limit x. steps.began h h a u e _ is (f.1 limit x))

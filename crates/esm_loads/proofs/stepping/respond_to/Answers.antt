@@ -1,13 +1,12 @@
 -- The load goes on, and its promise is settled where it has ended.
-use Rattle.std.proofs.Common.{ap, sym, ◌∙◌, length, arith}
+use Rattle.std.proofs.Common.{ap, refl, sym, ◌∙◌, length, arith}
 use Rattle.esm_realm.specs.Sound.{records_of}
-use Rattle.esm_loads.specs.LoadsView.{urls_of, url_at, request_of}
+use Rattle.esm_loads.specs.LoadsView.{urls_of, url_at}
 use Rattle.esm_loads.specs.LoadsAsLoading.{loading_of}
 use Rattle.esm_loads.specs.Fits.{IsLoadWithin}
 use Rattle.esm_loads.specs.Hosted.{host_of}
 use Rattle.esm_loads.specs.declared.loads.Loads.{Loads}
 use Rattle.esm_loads.proofs.Places.{all_get, not_err}
-use Rattle.esm_loads.proofs.Unlinks as facts
 use Rattle.esm_loads.proofs.StepFacts as steps
 use Rattle.esm_loads.proofs.stepping.respond_to.Goals as goal
 
@@ -35,17 +34,11 @@ returns-in-Ok-settle_load-clause-answered c named maps e at =
 pub returns-in-Ok-settle_load-clause-fits : goal.returns-in-Ok-settle_load-clause-fits
 returns-in-Ok-settle_load-clause-fits c = steps.fits_after c.args.loads.now c.answer.new.loads (records_of c.args.realm.now) (records_of c.answer.new.realm) c.requires.fits c.in-Ok.ensures.joined c.in-Ok.ensures.kept c.in-Ok.ensures.same
 
-pub returns-in-Ok-settle_load-clause-sound : goal.returns-in-Ok-settle_load-clause-sound
-returns-in-Ok-settle_load-clause-sound c = facts.sound_stale (records_of c.args.realm.now) (records_of c.answer.new.realm) c.in-Ok.ensures.same c.requires.sound
-
-pub returns-in-Err-settle_load-clause-sound : goal.returns-in-Err-settle_load-clause-sound
-returns-in-Err-settle_load-clause-sound c = facts.sound_stale (records_of c.args.realm.now) (records_of c.answer.new.realm) c.in-Ok.ensures.same c.requires.sound
-
 pub returns-in-Err-clause-answered : goal.returns-in-Err-clause-answered
 returns-in-Err-clause-answered c named maps e at =
     let t = c.args.loads.now in
-    let us = urls_of t.urls.slots in
-    (tt, λ limit x. steps.settle_stops (host_of named c.args.promises.now c.args.errors.now (loading_of maps t (records_of c.args.realm.now))) (request_of us c.args.waiting) (url_at us c.args.place) e limit (c.in-Err.ensures.limit maps limit x e at))
-
-pub returns-in-Err-clause-sound : goal.returns-in-Err-clause-sound
-returns-in-Err-clause-sound c = facts.sound_stale (records_of c.args.realm.now) (records_of c.answer.new.realm) c.in-Err.ensures.same c.requires.sound
+    let us = urls_of t.urls.slots in (
+      tt,
+      λ limit x. steps.settle_stops named maps (records_of c.answer.new.realm) c.answer.new.loads c.args.promises.now c.args.errors.now
+          (host_of named c.args.promises.now c.args.errors.now (loading_of maps t (records_of c.args.realm.now))) us c.args.waiting (url_at us c.args.place) e limit refl refl (c.in-Err.ensures.limit maps limit x e at) (c.in-Err.ensures.going limit x),
+    )

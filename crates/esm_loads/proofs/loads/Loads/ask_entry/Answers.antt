@@ -34,4 +34,4 @@ returns-in-Err-ask_root-clause-limit c maps limit e =
     let R = records_of c.args.realm.now in
     let number = c.in-Ok.ensures.number ∙ sym (map_long (load_state t.urls.slots) t.loads.items) in
     let is = ap (λ l. ask l c.args.url.now (Root c.in-Ok.load)) (facts.added_is maps R t c.add_load.new.loads _ c.in-Ok.ensures.adds) ∙ ap (λ s. ask (add_entry (loading_of maps t R) c.args.promise.0) c.args.url.now (Root s)) number in
-    ap (λ (l : Loading). l.stopped) (sym is) ∙ c.in-Err-ask_root.ensures.limit maps limit e
+    ap (λ (l : Loading). l.stopped) (sym is) ∙ ap (λ (l : Loading). l.stopped) (sym (c.in-Err-ask_root.ensures.limit maps limit e))
