@@ -7,3 +7,6 @@ pub mod Tables
 pub mod Growth
 pub mod Begun
 pub mod Due
+pub mod HostSteps
+pub mod BodySteps
+pub mod DeskSteps

@@ -1,3 +1,5 @@
 pub mod Visit
 pub mod Ends
 pub mod Ready
+pub mod Hosts
+pub mod Counts

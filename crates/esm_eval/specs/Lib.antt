@@ -11,4 +11,5 @@ pub mod Keeping
 pub mod Naming
 pub mod Calls
 pub mod Table
+pub mod Host
 pub mod Inner

@@ -1,6 +1,6 @@
 // What evaluation keeps of modules.
 ghost use Rattle.std.specs.Prelude.{◌≡◌, ◌<◌, ◌++◌, [], ◌∷◌, nat_eq, length, slice_get, Some, true, not, IsTrue, OnOk, OnErr};
-ghost use Rattle.std.specs.Option.{option_map, option_copied, unwrap_or};
+ghost use Rattle.std.specs.Option.{option_map, option_copied, option_or, unwrap_or};
 ghost use Rattle.esm_base.specs.Lists.{is_in};
 ghost use Rattle.esm_values.specs.Code.{value_of};
 ghost use Rattle.esm_eval.specs.Nodes as spec;
@@ -213,6 +213,17 @@ impl Nodes {
         }
     }
 
+    /// The error of the module, or else that of its cycle root.
+    pub(crate) fn error_of(&self, x: u32) -> Option<&Value>
+        ensures { option_map value_of (option_copied result) ≡ option_or (node_at self.now x).error
+            (node_at self.now (unwrap_or (node_at self.now x).cycle_root x)).error }
+    {
+        match self.error(x) {
+            Some(error) => Some(error),
+            None => self.error(self.root_of(x)),
+        }
+    }
+
     /// Whether the module has an error of its own.
     pub(crate) fn has_error(&self, x: u32) -> bool
         ensures { result ≡ not (no_error (node_at self.now x).error) }
@@ -327,6 +338,13 @@ impl Nodes {
         let node = &mut self.nodes[x as usize];
         node.waiters.push(y)?;
         Ok(())
+    }
+
+    /// Whether the module waits for none, and has waited for none.
+    pub(crate) fn waits_for_none(&self, x: u32) -> bool
+        ensures { Says result ((node_at self.now x).waits ≡ []) }
+    {
+        self.wait_count(x) == 0
     }
 
     /// The module for which one of these requests waits.

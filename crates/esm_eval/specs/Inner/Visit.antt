@@ -9,6 +9,8 @@ use Rattle.esm_eval.specs.Nodes.{was_entered}
 use Rattle.esm_eval.specs.Evaluation.{phase, root_of, error_of, wait_on, add_wait}
 use Rattle.esm_eval.specs.Evaluate.{WalkEnd, Ends, Throws, Stops, Marks, Leaves, fail}
 use Rattle.esm_eval.specs.Calls.{CodeEvaluation, CodeCalls, numbered}
+use Rattle.esm_eval.specs.declared.walk.EvalEnd.{EvalEnd}
+use Rattle.esm_eval.specs.declared.walk.EvalEnd.TheVariants as ends
 use Rattle.esm_eval.specs.declared.walk.Cut.{Cut}
 use Rattle.esm_eval.specs.declared.walk.Cut.TheVariants as cuts
 
@@ -33,6 +35,18 @@ module _ {W : Type 0} (E : CodeEvaluation W) where
   pub record BeginsNew (w v : W) : Type 0 where
     pub unbegun : Unbegun v
     pub still : (y : ℕ) → is_entered E w y ≡ true → E.begun w y ≡ false → E.begun v y ≡ false
+
+module _ {W : Type 0} (E : CodeEvaluation W) where
+  -- these modules fail with an error, but where memory ran out
+  abbrev pub ThrowsBy : {S : Type 0} → W → List ℕ → CodeValue → Result (Unit {0}) (Cut S) → W → Type 0
+  ThrowsBy w opened u (Ok t) v = ⊥
+  ThrowsBy w opened u (Err (cuts.Thrown e)) v = (value_of e ≡ u) × (v ≡ fail (numbered E) w u opened)
+  ThrowsBy w opened u (Err (cuts.Stopped why)) v = ⊥
+  ThrowsBy w opened u (Err cuts.Memory) v = Unit {0}
+
+abbrev pub cut_of : {S : Type 0} → EvalEnd S → Cut S
+cut_of (ends.Stopped why) = cuts.Stopped why
+cut_of ends.Memory = cuts.Memory
 
 module _ {W : Type 0} (knows : W → CodeValue → Type 0) where
   -- what was known is known still
@@ -103,6 +117,12 @@ module _ {W : Type 0} (E : CodeEvaluation W) (linked : W → ℕ → Bool) (left
         (mid : W) × Leaves (numbered E) acts w x (Throws (value_of e)) mid × (v ≡ fail (numbered E) mid (value_of e) opened)
     LeavesBy w opened x (Err (cuts.Stopped why)) v = Leaves (numbered E) acts w x (Stops why) v
     LeavesBy w opened x (Err cuts.Memory) v = Unit {0}
+
+    -- x is left, which waits for nothing and awaits
+    abbrev pub LeavesAsync : W → ℕ → Result (Unit {0}) (EvalEnd S) → W → Type 0
+    LeavesAsync w x (Ok u) v = Leaves (numbered E) acts w x Ends v × Keeps w v
+    LeavesAsync w x (Err (ends.Stopped why)) v = Leaves (numbered E) acts w x (Stops why) v
+    LeavesAsync w x (Err ends.Memory) v = Unit {0}
 
     -- a place amid a walk over these modules
     pub record Amid (to : ℕ → List ℕ) (modules : List ℕ) (seen opened : List ℕ) (w : W) : Type 0 where
