@@ -110,7 +110,8 @@ pub record HostFits {B : Type 0} (fits : Outside B → Type 0) (linked : B → �
   pub stamps_fit : All (λ y. linked w.bodies y ≡ true) w.nodes.stamps
 
 -- from b to c the same modules are linked, with the same targets, and what was known is known
-pub record LeavesBodies {B : Type 0} (linked : B → ℕ → Bool) (targets : B → ℕ → List ℕ) (knows : B → CodeValue → Type 0) (b c : B) : Type 0 where
+pub record LeavesBodies {B : Type 0} (linked : B → ℕ → Bool) (targets : B → ℕ → List ℕ) (knows : B → CodeValue → Type 0) (b c : B)
+    : Type 0 where
   pub links : (x : ℕ) → linked c x ≡ linked b x
   pub leads : (x : ℕ) → linked b x ≡ true → targets c x ≡ targets b x
   pub still : (u : CodeValue) → knows b u → knows c u

@@ -90,5 +90,6 @@ pub trait Bodies: Drop {
         requires fits { fits (outside_with promises.old self.old) }
         ensures runs { RunsAs acts (outside_with promises.old self.old) m.0 result
             (outside_with promises.new self.new) }
-        ensures fits { RunFits fits (λ w. knows w.bodies) result (outside_with promises.new self.new) };
+        ensures fits { RunFits fits (λ w. knows w.bodies) result
+            (outside_with promises.new self.new) };
 }

@@ -92,9 +92,10 @@ impl<B: Bodies> EvalHost<B> {
         requires stack { AllEntered (evaluation B.targets B.awaits B.begun) self.old opened.now }
         requires known { B.knows self.old.bodies (value_of v) }
         requires fits { HostFits B.fits B.linked B.knows self.old }
-        ensures throws { ThrowsBy (evaluation B.targets B.awaits B.begun) self.old opened.now (value_of v)
+        ensures throws { ThrowsBy (evaluation B.targets B.awaits B.begun) self.old opened.now
+            (value_of v) result self.new }
+        ensures fits { LeavesFit (HostFits B.fits B.linked B.knows) (knows_in B.knows)
             result self.new }
-        ensures fits { LeavesFit (HostFits B.fits B.linked B.knows) (knows_in B.knows) result self.new }
     {
         match self.fail_all(opened, &v) {
             Ok(()) => Err(Cut::Thrown(v)),
@@ -107,8 +108,8 @@ impl<B: Bodies> EvalHost<B> {
         requires linked { B.linked self.old.bodies x ≡ true }
         requires other { B.linked self.old.bodies y ≡ true }
         requires fits { HostFits B.fits B.linked B.knows self.old }
-        ensures world { OnOk result (self.new ≡ parts.add_wait (evaluation B.targets B.awaits B.begun)
-            self.old x (Some y)) }
+        ensures world { OnOk result (self.new
+            ≡ parts.add_wait (evaluation B.targets B.awaits B.begun) self.old x (Some y)) }
         ensures keeps { OnOk result (Keeps (evaluation B.targets B.awaits B.begun)
             (λ w. B.linked w.bodies) (λ w. unentered w.nodes) self.old self.new) }
         ensures fits { OnOk result (HostFits B.fits B.linked B.knows self.new) }
@@ -126,8 +127,8 @@ impl<B: Bodies> EvalHost<B> {
         requires unbegun { B.begun self.old.bodies x ≡ false }
         requires free { parts.waits (evaluation B.targets B.awaits B.begun) self.old x ≡ [] }
         requires fits { HostFits B.fits B.linked B.knows self.old }
-        ensures leaves { LeavesAsync (evaluation B.targets B.awaits B.begun) (λ w. B.linked w.bodies)
-            (λ w. unentered w.nodes) (calls B.acts) self.old x result self.new }
+        ensures leaves { LeavesAsync (evaluation B.targets B.awaits B.begun)
+            (λ w. B.linked w.bodies) (λ w. unentered w.nodes) (calls B.acts) self.old x result self.new }
         ensures fits { OnOk result (HostFits B.fits B.linked B.knows self.new) }
     {
         match self.nodes.add_stamp(x) {
@@ -145,7 +146,8 @@ impl<B: Bodies> EvalHost<B> {
         requires fits { HostFits B.fits B.linked B.knows self.old }
         ensures leaves { LeavesBy (evaluation B.targets B.awaits B.begun) (λ w. B.linked w.bodies)
             (λ w. unentered w.nodes) (calls B.acts) self.old opened.now x result self.new }
-        ensures fits { LeavesFit (HostFits B.fits B.linked B.knows) (knows_in B.knows) result self.new }
+        ensures fits { LeavesFit (HostFits B.fits B.linked B.knows) (knows_in B.knows)
+            result self.new }
     {
         if self.bodies.awaits(ModuleId(x)) {
             return match self.leave_async(x) {
@@ -173,7 +175,8 @@ impl<B: Bodies> EvalHost<B> {
         ensures begins { Begins (evaluation B.targets B.awaits B.begun) (calls B.acts) self.old x
             result self.new }
         ensures nodes { OnOk result (self.new.nodes ≡ self.old.nodes) }
-        ensures modules { OnOk result (LeavesBodies B.linked B.targets B.knows self.old.bodies self.new.bodies) }
+        ensures modules { OnOk result
+            (LeavesBodies B.linked B.targets B.knows self.old.bodies self.new.bodies) }
         ensures fits { OnOk result (HostFits B.fits B.linked B.knows self.new) }
     {
         let reaction = Reaction {
@@ -197,8 +200,10 @@ impl<B: Bodies> EvalHost<B> {
         ensures runs { Runs (evaluation B.targets B.awaits B.begun) (calls B.acts) self.old x
             result self.new }
         ensures nodes { OnOk result (self.new.nodes ≡ self.old.nodes) }
-        ensures modules { OnOk result (LeavesBodies B.linked B.targets B.knows self.old.bodies self.new.bodies) }
-        ensures fits { RunFits (HostFits B.fits B.linked B.knows) (knows_in B.knows) result self.new }
+        ensures modules { OnOk result
+            (LeavesBodies B.linked B.targets B.knows self.old.bodies self.new.bodies) }
+        ensures fits { RunFits (HostFits B.fits B.linked B.knows) (knows_in B.knows)
+            result self.new }
     {
         self.bodies.run(&mut self.promises, ModuleId(x))
     }

@@ -147,7 +147,8 @@ pub trait Desk: Drop {
     /// A promise is fulfilled where the module is evaluated.
     fn fulfill_by(&mut self, p: PromiseId, m: u32)
         requires { fits self.old }
-        ensures world { self.new ≡ walk.fulfill_by lens self.old p.0 (evaluation.phase lens self.old m) }
+        ensures world { self.new
+            ≡ walk.fulfill_by lens self.old p.0 (evaluation.phase lens self.old m) }
         ensures fits { fits self.new };
 }
 

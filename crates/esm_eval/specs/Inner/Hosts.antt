@@ -36,12 +36,15 @@ pub reads : (ns : List (nodes.Node ℕ CodeValue)) (x : ℕ) (n : nodes.Node ℕ
     → node_by (slice_get (put_at ns x n) y) ≡ if nat_eq x y then n else node_by (slice_get ns y)
 reads ns x n y = by (cases (nat_eq x y))
   where
-    by : (nat_eq x y ≡ true) ⊎ (nat_eq x y ≡ false) → node_by (slice_get (put_at ns x n) y) ≡ if nat_eq x y then n else node_by (slice_get ns y)
+    by : (nat_eq x y ≡ true) ⊎ (nat_eq x y ≡ false)
+        → node_by (slice_get (put_at ns x n) y) ≡ if nat_eq x y then n else node_by (slice_get ns y)
     by (inl s) =
         let e : x ≡ y = eqb-true x y s in
-        let at : node_by (slice_get (put_at ns x n) y) ≡ n = subst (λ z. node_by (slice_get (put_at ns x n) z) ≡ n) e (ap node_by (own ns x n)) in
+        let at : node_by (slice_get (put_at ns x n) y) ≡ n =
+        subst (λ z. node_by (slice_get (put_at ns x n) z) ≡ n) e (ap node_by (own ns x n)) in
         subst (λ b. node_by (slice_get (put_at ns x n) y) ≡ if b then n else node_by (slice_get ns y)) (sym s) at
-    by (inr s) = subst (λ b. node_by (slice_get (put_at ns x n) y) ≡ if b then n else node_by (slice_get ns y)) (sym s) (other ns x n y (λ e. true≢false (sym (eq-eqb x y e) ∙ s)))
+    by (inr s) = subst (λ b. node_by (slice_get (put_at ns x n) y) ≡ if b then n else node_by (slice_get ns y)) (sym s)
+        (other ns x n y (λ e. true≢false (sym (eq-eqb x y e) ∙ s)))
 
 module _ {B : Type 0} (targets : B → ℕ → List ℕ) (awaits begun : B → ℕ → Bool) where
   alike : (w v : EvalHost B) → v.nodes ≡ w.nodes → v.bodies ≡ w.bodies → IsAlike (evaluation targets awaits begun) w v
