@@ -64,8 +64,8 @@ fn shown_error(alloc: Global, errors: &Errors, id: ErrorId) -> Result<Text, Memo
 
 /// The keys of the namespace of a module; none where there is no such module.
 fn keys_of<I: Importer>(alloc: Global, imports: &I, m: ModuleId) -> Result<Vec<Text>, Memory>
-    ensures { IfOk result (λ keys. IsKeys (I.modules (I.seen imports.now)) (I.linked (I.seen imports.now)) m.0
-        keys.items) }
+    ensures { IfOk result (λ keys. IsKeys (I.modules (I.seen imports.now))
+        (I.linked (I.seen imports.now)) m.0 keys.items) }
 {
     esm_resolve::laws::follows_numbers();
     let at = m.0;
@@ -109,8 +109,8 @@ pub(crate) fn display_texts<I: Importer>(
     imports: &I,
     values: &[Value],
 ) -> Result<Vec<Text>, Memory>
-    ensures { IfOk result (λ texts. AreShown (I.modules (I.seen imports.now)) (I.linked (I.seen imports.now))
-        (scopes_of envs.now) errors.now (values_of values.now) texts.items) }
+    ensures { IfOk result (λ texts. AreShown (I.modules (I.seen imports.now))
+        (I.linked (I.seen imports.now)) (scopes_of envs.now) errors.now (values_of values.now) texts.items) }
 {
     let mut texts = Vec::new(alloc);
     for value in values.iter() {

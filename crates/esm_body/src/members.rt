@@ -55,8 +55,8 @@ fn read_member<I: Importer>(
     m: ModuleId,
     name: &str,
 ) -> Result<Found, Memory>
-    ensures { IfOk result (λ found. IsMember (I.modules (I.seen imports.now)) (I.linked (I.seen imports.now))
-        (scopes_of envs.now) m.0 name.now (found_reading found)) }
+    ensures { IfOk result (λ found. IsMember (I.modules (I.seen imports.now))
+        (I.linked (I.seen imports.now)) (scopes_of envs.now) m.0 name.now (found_reading found)) }
 {
     esm_env::laws::ends_right();
     esm_resolve::laws::follows_numbers();
@@ -128,8 +128,8 @@ fn namespace_member<I: Importer>(
     m: ModuleId,
     name: &str,
 ) -> Result<Out, Memory>
-    ensures { MemberTold (I.modules (I.seen imports.now)) (I.linked (I.seen imports.now)) (scopes_of envs.now)
-        errors.old (value.Namespace m.0) name.now result errors.new }
+    ensures { MemberTold (I.modules (I.seen imports.now)) (I.linked (I.seen imports.now))
+        (scopes_of envs.now) errors.old (value.Namespace m.0) name.now result errors.new }
 {
     match read_member(alloc, envs, imports, m, name) {
         Ok(found) => tell(alloc, errors, name, found),
@@ -148,8 +148,8 @@ pub(crate) fn member_of<I: Importer>(
     of: Value,
     name: &str,
 ) -> Result<Out, Memory>
-    ensures { MemberTold (I.modules (I.seen imports.now)) (I.linked (I.seen imports.now)) (scopes_of envs.now)
-        errors.old (value_of of) name.now result errors.new }
+    ensures { MemberTold (I.modules (I.seen imports.now)) (I.linked (I.seen imports.now))
+        (scopes_of envs.now) errors.old (value_of of) name.now result errors.new }
 {
     match of {
         Value::Namespace(m) => namespace_member(alloc, errors, envs, imports, m, name),

@@ -178,7 +178,8 @@ fn set_to(levels: &mut Vec<Level>, envs: &mut Envs, m: ModuleId, name: &str, val
 ///
 /// ECMA-262, InitializeReferencedBinding.
 pub(crate) fn set_name<I: Importer>(inside: &mut Inside<'_, I>, name: &str, value: Value)
-    ensures { SetsName I.seen I.modules I.linked I.fits I.begins inside.old name.now value inside.new }
+    ensures { SetsName I.seen I.modules I.linked I.fits I.begins inside.old name.now value
+        inside.new }
 {
     esm_env::laws::writes_right();
     let at = inside.now.at;

@@ -42,4 +42,5 @@ pub record IsRooted (h : Host) (promise : ℕ) (u : Url) (result : Result (Unit 
 pub record IsImport
     (h : Host) (referrer : Url) (specifier : Text) (promise : ℕ) (result : Result (Unit {0}) (End Limit)) (after : Host) : Type 0 where
   pub begins : OnOk result (BeginsImport h referrer specifier promise (Ok tt) after)
-  pub limit : (limit : Limit) → result ≡ Err (Fault limit) → BeginsImport h referrer specifier promise (Err limit) (stopped_host after limit)
+  pub limit : (limit : Limit) → result ≡ Err (Fault limit)
+      → BeginsImport h referrer specifier promise (Err limit) (stopped_host after limit)

@@ -87,7 +87,8 @@ fn reach(
     ensures fills { OnOk result
         (FillsNew loads.new.urls.slots (records_of realm.old) (records_of realm.new)) }
     ensures sound { IsSound (records_of realm.new) }
-    ensures limit { (maps : Maps) → StopsIn result (loading_of maps loads.new (records_of realm.new))
+    ensures limit { (maps : Maps) → StopsIn result
+        (loading_of maps loads.new (records_of realm.new))
         (
         Enters (loading_of maps loads.old (records_of realm.old)) load
         (url_at (urls_of loads.old.urls.slots) place)
@@ -128,7 +129,8 @@ fn begin_and_reach(
     ensures fills { OnOk result
         (FillsNew loads.new.urls.slots (records_of realm.old) (records_of realm.new)) }
     ensures sound { IsSound (records_of realm.new) }
-    ensures limit { (maps : Maps) → StopsIn result (loading_of maps loads.new (records_of realm.new))
+    ensures limit { (maps : Maps) → StopsIn result
+        (loading_of maps loads.new (records_of realm.new))
         (
         Enters (begun (loading_of maps loads.old (records_of realm.old)) load
         (url_at (urls_of loads.old.urls.slots) place)) load

@@ -39,7 +39,8 @@ pub fn enter(
         ) }
     ensures grown { OnOk result (Grown (length (records_of realm.now)) load loads.old loads.new) }
     ensures joined { OnOk result (AreJoined loads.new (length (records_of realm.now))) }
-    ensures limit { (maps : Maps) → StopsIn result (loading_of maps loads.new (records_of realm.now))
+    ensures limit { (maps : Maps) → StopsIn result
+        (loading_of maps loads.new (records_of realm.now))
         (
         Enters (loading_of maps loads.old (records_of realm.now)) load
         (url_at (urls_of loads.old.urls.slots) place)

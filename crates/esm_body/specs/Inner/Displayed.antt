@@ -69,7 +69,8 @@ module _ (g : Modules ℕ) (linked : ℕ → Bool) (e : Scopes) (errors : Errors
   IsShown v text = AreScopesOf g linked e → AreLinked g linked → IsKnown g linked v → Displays (λ g. g) (bare_state g errors) v text
 
   abbrev pub AreShown : List CodeValue → List (List ℕ) → Type 0
-  AreShown vs texts = AreScopesOf g linked e → AreLinked g linked → AllKnown (IsKnown g linked) vs → DisplaysAll (λ g. g) (bare_state g errors) vs texts
+  AreShown vs texts = AreScopesOf g linked e → AreLinked g linked → AllKnown (IsKnown g linked) vs
+      → DisplaysAll (λ g. g) (bare_state g errors) vs texts
 
 -- the text of a specifier, where the value has one
 abbrev pub IsSpecifier : Errors → CodeValue → Option (List ℕ) → Type 0
@@ -97,7 +98,8 @@ module _ (g : Modules ℕ) (linked : ℕ → Bool) (e : Scopes) where
   abbrev pub MemberTold : Errors → CodeValue → List ℕ → Result Out Memory → Errors → Type 0
   MemberTold old v x (Err end) new = Unit {0}
   MemberTold old (value.Namespace m) x (Ok told) new = AreScopesOf g linked e → AreLinked g linked → linked m ≡ true
-      → (read : Reading CodeValue) × IsMemberOf g (cells_of e) m x read × (said_out told ≡ (told_as x read old).0) × (new ≡ (told_as x read old).1)
+      → (read : Reading CodeValue) × IsMemberOf g (cells_of e) m x read × (said_out told ≡ (told_as x read old).0)
+      × (new ≡ (told_as x read old).1)
   MemberTold old (value.Error id) x (Ok told) new = (said_out told ≡ Normal (error_member old id x)) × (new ≡ old)
   MemberTold old v x (Ok told) new = NoMembers old (Ok told) new
 

@@ -53,7 +53,8 @@ KnowsAct Knows (act.Step n) = ⊤
 KnowsAct Knows (act.Import v) = Knows v
 
 -- seen is what contracts see of the importer
-module _ {I S : Type 0} (seen : I → S) (modules : S → Modules ℕ) (linked : S → ℕ → Bool) (fits : Outer ℕ S → Type 0) (begins : Importing ℕ S) where
+module _ {I S : Type 0} (seen : I → S) (modules : S → Modules ℕ) (linked : S → ℕ → Bool) (fits : Outer ℕ S → Type 0)
+    (begins : Importing ℕ S) where
   abbrev pub HasScopes : Inside I → Type 0
   HasScopes w = AreScopesOf (modules (seen w.imports.now)) (linked (seen w.imports.now)) (scopes_of w.envs.now)
 

@@ -136,7 +136,8 @@ pub record IsLike {I : Type 0} (w after : Inside I) : Type 0 where
   pub promises : after.promises ≡ w.promises
   pub imports : after.imports ≡ w.imports
 
-module _ {I S : Type 0} (seen : I → S) (modules : S → Modules ℕ) (linked : S → ℕ → Bool) (fits : Outer ℕ S → Type 0) (begins : Importing ℕ S) where
+module _ {I S : Type 0} (seen : I → S) (modules : S → Modules ℕ) (linked : S → ℕ → Bool) (fits : Outer ℕ S → Type 0)
+    (begins : Importing ℕ S) where
   -- the module in which the code stands written is linked
   abbrev pub HasHome : Inside I → Type 0
   HasHome w = linked (seen w.imports.now) w.now.at.0 ≡ true
