@@ -33,7 +33,8 @@ use Rattle.esm_env.specs.declared.scope.Target.TheVariants as targets
 use Rattle.esm_link.specs.Link as link
 use Rattle.esm_link.specs.Realm.{modules_of, items_by, fault_of, is_linked, relinked, IsRelinked, IsLinkedBy, LinkedAs, IsLinkedScope, MakesScopes}
 use Rattle.esm_link.specs.Local.{AreWhole, AgreeOn, AreTheLinked, AreLinkable}
-use Rattle.esm_link.specs.Scopes.{AreScopesOf, linked_in, IsLinkedRealm, LinkKeepsScopes, ScopesAreLocal}
+use Rattle.esm_body.specs.Importers.{AreScopesOf}
+use Rattle.esm_link.specs.Scopes.{linked_in, IsLinkedRealm, LinkKeepsScopes, ScopesAreLocal}
 use Rattle.esm_link.specs.declared.LinkFault.{LinkFault}
 use Rattle.esm_link.proofs.Local.{agree_itself, imported_below, home, binds_alike, import_alike}
 use Rattle.esm_link.proofs.ClosedLinks.{AreClosed, linking_closed, cut_closed}

@@ -1,26 +1,17 @@
 -- The scopes that linking leaves: those of the modules, with each import of a linked one bound to what has a scope.
 use Rattle.std.specs.Prelude.{◌≡◌, ℕ, Bool, true, List, slice_get, Option, Some, Result}
-use Rattle.std.specs.Arc.{arc_value}
 use Rattle.esm_base.specs.declared.end.End.{End}
 use Rattle.esm_tree.specs.Syntax.{Parts}
 use Rattle.esm_realm.specs.Sound.{RecordParts}
 use Rattle.esm_realm.specs.ById.{status_of}
 use Rattle.esm_env.specs.Modules.{Modules}
-use Rattle.esm_env.specs.Faithful.{IsFaithful, IsFaithfulAt, HasImports, HasScope}
-use Rattle.esm_env.specs.Scopes.{Scopes, scope_in, import_in}
+use Rattle.esm_env.specs.Faithful.{IsFaithfulAt}
+use Rattle.esm_env.specs.Scopes.{Scopes, scope_in}
+use Rattle.esm_body.specs.Importers.{AreScopesOf}
 use Rattle.esm_env.specs.declared.scope.ModuleScope.{ModuleScope}
 use Rattle.esm_link.specs.Realm.{modules_of, is_linked, IsLinkedBy, IsLinkedScope, MakesScopes}
 use Rattle.esm_link.specs.Local.{AreWhole, AgreeOn, AreLinkable}
 use Rattle.esm_link.specs.declared.LinkFault.{LinkFault}
-
--- the scopes that were made are those of the modules. Each linked module has one, in which each import is bound, to what has a scope
-pub record AreScopesOf (g : Modules ℕ) (linked : ℕ → Bool) (e : Scopes) : Type 0 where
-  pub faithful : IsFaithful g e
-  pub trees : (m : ℕ) (s : ModuleScope) → scope_in e m ≡ Some s → (arc_value s.tree).items ≡ g.tree m
-  pub made : (m : ℕ) → linked m ≡ true → (s : ModuleScope) × (scope_in e m ≡ Some s)
-  pub imports : (m : ℕ) (s : ModuleScope) → linked m ≡ true → scope_in e m ≡ Some s → HasImports g m s
-  pub bound : (m : ℕ) (s : ModuleScope) → linked m ≡ true → scope_in e m ≡ Some s → (x : List ℕ)
-      → HasScope e (import_in s.imports.items x)
 
 abbrev pub linked_in : List RecordParts → ℕ → Bool
 linked_in rs x = is_linked (status_of rs x)
