@@ -1,5 +1,4 @@
 pub mod Steps
-pub mod Places
 pub mod Root
 pub mod LateSteps
 pub mod Onces
@@ -10,3 +9,7 @@ pub mod Due
 pub mod HostSteps
 pub mod BodySteps
 pub mod DeskSteps
+pub mod Gathering
+pub mod Orders
+pub mod LateHost
+pub mod Stacks

@@ -34,7 +34,7 @@ module _ {N V W : Type 0} (E : Evaluation N V W) (L : IsLawful E) where
     quiet_rejects_all {w} RejectsAll.none = quiet_same E L w
     quiet_rejects_all {w} {v = v} (RejectsAll.next {mid = mid} p q) = quiet_on E L w mid v (quiet_rejects p) (quiet_rejects_all q)
 
-  among_in : {w : W} {zs xs : List N} → ReadyAmong E w zs xs → (y : N) → In E xs y → In E zs y
+  pub among_in : {w : W} {zs xs : List N} → ReadyAmong E w zs xs → (y : N) → In E xs y → In E zs y
   among_in ReadyAmong.none y h = h
   among_in (ReadyAmong.kept {x = x} {xs = zs} {ys = ys} r p) y h = either (in_cons E.same L.names.own L.names.equal x ys y h) (λ e. subst (λ z. In E (x ∷ zs) z) (sym e) (in_first E.same L.names.own L.names.equal x zs)) (λ k. in_later E.same L.names.own L.names.equal x zs y (among_in p y k))
   among_in (ReadyAmong.dropped {x = x} {xs = zs} n p) y h = in_later E.same L.names.own L.names.equal x zs y (among_in p y h)

@@ -3,3 +3,5 @@ pub mod Ends
 pub mod Ready
 pub mod Hosts
 pub mod Counts
+pub mod Orders
+pub mod Stack

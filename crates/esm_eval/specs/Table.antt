@@ -1,5 +1,5 @@
 -- What evaluation keeps of modules in the code, as a table of nodes by the numbers of modules.
-use Rattle.std.specs.Prelude.{◌≡◌, ◌<◌, ℕ, zero, suc, nat_eq, List, [], ◌∷◌, ◌++◌, map, length, slice_get, Option, Some, None}
+use Rattle.std.specs.Prelude.{◌≡◌, ◌<◌, ℕ, zero, suc, false, nat_eq, List, [], ◌∷◌, ◌++◌, map, length, slice_get, Option, Some, None}
 use Rattle.std.specs.Option.{option_map}
 use Rattle.esm_base.specs.Lists.{is_in}
 use Rattle.esm_values.specs.Code.{CodeValue, value_of}
@@ -72,8 +72,13 @@ pub record IsBounded (size : ℕ) (n : Node) : Type 0 where
   pub waits : (k y : ℕ) → slice_get n.waits.items k ≡ Some y → y < size
   pub waiters : (k y : ℕ) → slice_get n.waiters.items k ≡ Some y → y < size
 
+-- the order that x has: its place among these stamps
+abbrev pub IsOrderOf : List ℕ → ℕ → Option ℕ → Type 0
+IsOrderOf stamps x None = is_in nat_eq stamps x ≡ false
+IsOrderOf stamps x (Some k) = slice_get stamps k ≡ Some x
+
 -- nodes and stamps belong together
 pub record AreKept (ns : List Node) (stamps : List ℕ) : Type 0 where
   pub bounded : (x : ℕ) (n : Node) → slice_get ns x ≡ Some n → IsBounded (length ns) n
-  pub stamped : (x : ℕ) (n : Node) → slice_get ns x ≡ Some n → n.stamped ≡ is_in nat_eq stamps x
+  pub ordered : (x : ℕ) (n : Node) → slice_get ns x ≡ Some n → IsOrderOf stamps x n.order
   pub below : (k x : ℕ) → slice_get stamps k ≡ Some x → x < length ns

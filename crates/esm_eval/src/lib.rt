@@ -5,9 +5,12 @@ mod bodies;
 mod desk;
 mod ends;
 pub mod examples;
+mod gather;
 mod host;
+mod late;
 pub mod laws;
 mod nodes;
+mod stack;
 mod walk;
 
 pub use bodies::Bodies;

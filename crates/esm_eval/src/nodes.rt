@@ -1,12 +1,12 @@
 // What evaluation keeps of modules.
-ghost use Rattle.std.specs.Prelude.{◌≡◌, ◌<◌, ◌++◌, [], ◌∷◌, nat_eq, length, slice_get, Some, true, not, IsTrue, OnOk, OnErr};
+ghost use Rattle.std.specs.Prelude.{◌≡◌, ◌<◌, ◌++◌, [], ◌∷◌, nat_eq, length, slice_get, Some, true, not, IsTrue, IsSome, OnOk, OnErr};
 ghost use Rattle.std.specs.Option.{option_map, option_copied, option_or, unwrap_or};
 ghost use Rattle.esm_base.specs.Lists.{is_in};
 ghost use Rattle.esm_values.specs.Code.{value_of};
 ghost use Rattle.esm_eval.specs.Nodes as spec;
 ghost use Rattle.esm_eval.specs.Inner.Ends.{Says};
 ghost use Rattle.esm_eval.specs.Inner.Ready.{is_async, no_error};
-ghost use Rattle.esm_eval.specs.Table.{node_at, no_nodes, phase_of, size, with_node, with_one, with_stamp};
+ghost use Rattle.esm_eval.specs.Table.{IsOrderOf, node_at, no_nodes, phase_of, size, with_node, with_one, with_stamp};
 
 use esm_base::Memory;
 use esm_values::{PromiseId, Value};
@@ -36,8 +36,8 @@ pub(crate) struct Node {
     pub(crate) cycle_root: Option<u32>,
     pub(crate) promise: Option<PromiseId>,
     pub(crate) done: bool,
-    /// It has an order of asynchronous evaluation.
-    pub(crate) stamped: bool,
+    /// Its order of asynchronous evaluation: its place among the modules that have one.
+    pub(crate) order: Option<usize>,
     pub(crate) waits: Vec<u32>,
     pub(crate) waiters: Vec<u32>,
 }
@@ -85,7 +85,7 @@ impl Nodes {
             cycle_root: None,
             promise: None,
             done: false,
-            stamped: false,
+            order: None,
             waits,
             waiters,
         })?;
@@ -173,16 +173,27 @@ impl Nodes {
         }
     }
 
+    /// The order of asynchronous evaluation that the module has: its place among the modules that have one.
+    pub(crate) fn order(&self, x: u32) -> Option<usize>
+        ensures order { IsOrderOf self.now.stamps x result }
+        ensures has { IsSome result → x < size self.now }
+    {
+        let at = x as usize;
+        if at < self.nodes.len() {
+            self.nodes[at].order
+        } else {
+            None
+        }
+    }
+
     /// Whether the module has an order of asynchronous evaluation.
     pub(crate) fn is_stamped(&self, x: u32) -> bool
         ensures stamped { result ≡ is_in nat_eq self.now.stamps x }
         ensures has { IsTrue result → x < size self.now }
     {
-        let at = x as usize;
-        if at < self.nodes.len() {
-            self.nodes[at].stamped
-        } else {
-            false
+        match self.order(x) {
+            Some(_place) => true,
+            None => false,
         }
     }
 
@@ -397,8 +408,9 @@ impl Nodes {
         requires { x < size self.old }
         ensures { OnOk result (self.new ≡ with_stamp self.old x) }
     {
+        let place = self.stamps.len();
         self.stamps.push(x)?;
-        self.nodes[x as usize].stamped = true;
+        self.nodes[x as usize].order = Some(place);
         Ok(())
     }
 }

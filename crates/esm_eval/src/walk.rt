@@ -2,8 +2,9 @@
 ghost use Rattle.std.specs.Prelude.{◌≡◌, ◌<◌, ℕ, cond, nat_lt, List, Result, Ok, OnOk};
 ghost use Rattle.esm_eval.specs.Begins.{First, HaveBegunOnce};
 ghost use Rattle.esm_eval.specs.Calls.{EvaluatesAs, numbered};
-ghost use Rattle.esm_eval.specs.Inner.Visit.{AllEntered, BeginsNew, IsPlace, IsSteadyStep, IsWhole, LeavesFit, Unbegun, Visiting, Within};
+ghost use Rattle.esm_eval.specs.Inner.Visit.{AllEntered, BeginsNew, IsSteadyStep, IsWhole, LeavesFit, Unbegun, Visiting, Within};
 
+use crate::stack::Stack;
 use esm_base::{Memory, ModuleId};
 use esm_values::{PromiseId, Value};
 use std::alloc::Global;
@@ -155,20 +156,20 @@ pub trait Desk: Drop {
 /// Visits a module. Gives the lowest place among the open modules that it and those above it lead to.
 ///
 /// ECMA-262, InnerModuleEvaluation. It calls itself, as deep as modules are open.
-fn visit<D: Desk>(desk: &mut D, opened: &mut Vec<u32>, x: u32) -> Result<usize, Cut<D::Stop>>
+fn visit<D: Desk>(desk: &mut D, opened: &mut Stack, x: u32) -> Result<usize, Cut<D::Stop>>
     requires within { (modules : List ℕ) × Within D.lens D.linked D.left modules desk.old x }
-    requires stack { AllEntered D.lens desk.old opened.old.items }
+    requires stack { AllEntered D.lens desk.old opened.old }
     requires unbegun { Unbegun D.lens desk.old }
     requires fits { D.fits desk.old }
     ensures steady { OnOk result (IsSteadyStep D.lens D.linked D.left desk.old desk.new) }
-    ensures stack { OnOk result (AllEntered D.lens desk.new opened.new.items) }
-    ensures visits { Visiting D.lens D.linked D.left D.acts desk.old opened.old.items x result
-        desk.new opened.new.items }
+    ensures stack { OnOk result (AllEntered D.lens desk.new opened.new) }
+    ensures visits { Visiting D.lens D.linked D.left D.acts desk.old opened.old x result
+        desk.new opened.new }
     ensures begins { OnOk result (BeginsNew D.lens desk.old desk.new) }
     ensures fits { LeavesFit D.fits D.knows result desk.new }
 {
     if desk.was_entered(x) {
-        return Ok(place_of(opened.as_slice(), x));
+        return Ok(opened.place_of(x));
     }
     let place = opened.len();
     match opened.push(x) {
@@ -199,18 +200,6 @@ fn visit<D: Desk>(desk: &mut D, opened: &mut Vec<u32>, x: u32) -> Result<usize, 
     desk.close(x, opened.as_slice(), place);
     opened.truncate(place);
     Ok(low)
-}
-
-/// The place of a module among the open ones, or how many there are where it isn't open.
-fn place_of(opened: &[u32], x: u32) -> usize
-    ensures { IsPlace opened.now x result }
-{
-    for k in 0..opened.len() {
-        if opened[k] == x {
-            return k;
-        }
-    }
-    opened.len()
 }
 
 fn lesser(low: usize, found: usize) -> usize
@@ -271,7 +260,7 @@ fn evaluate_by<D: Desk>(alloc: Global, desk: &mut D, m: u32) -> Result<PromiseId
         }
         None => {}
     }
-    let mut opened = Vec::new(alloc);
+    let mut opened = Stack::new(alloc);
     match visit(desk, &mut opened, root) {
         Ok(_low) => {
             desk.fulfill_by(p, root);

@@ -1,16 +1,16 @@
 -- Growing a table: nodes, modules, waits and stamps.
-use Rattle.std.proofs.Common.{◌≡◌, ℕ, zero, suc, ◌+◌, ◌<◌, ◌≤◌, nat_eq, true, false, List, [], ◌∷◌, ◌++◌, length, map, length-set, length-append, refl, ap, sym, subst, ◌∙◌, Some, None, slice_get, slice_set, arith, inl, inr, eqb-true, eq-eqb}
+use Rattle.std.proofs.Common.{◌≡◌, ℕ, zero, suc, ◌+◌, ◌<◌, ◌≤◌, nat_eq, true, false, List, [], ◌∷◌, ◌++◌, length, map, length-set, length-append, refl, ap, sym, subst, ◌∙◌, Option, Some, None, slice_get, slice_set, arith, inl, inr, eqb-true}
 use Rattle.std.specs.Prelude.{◌⊎◌, ◌||◌, Bool}
 use Rattle.std.proofs.lemmas.List.{map-append}
 use Rattle.std.proofs.lemmas.Option.{slice_get_within}
 use Rattle.esm_base.specs.Lists.{is_in}
-use Rattle.esm_realm.proofs.Numbers.{in_append, get_snoc}
+use Rattle.esm_realm.proofs.Numbers.{in_append, get_left, get_snoc}
 use Rattle.esm_realm.proofs.Urls.{not_true}
 use Rattle.esm_realm.proofs.Lists.{either}
 use Rattle.esm_values.specs.Code.{CodeValue}
 use Rattle.esm_eval.specs.Nodes as nodes
 use Rattle.esm_eval.specs.declared.nodes.Node.{Node}
-use Rattle.esm_eval.specs.Table.{AreKept, IsBounded, node_of, put_at, table_of, with_one, with_stamp}
+use Rattle.esm_eval.specs.Table.{AreKept, IsBounded, IsOrderOf, node_of, put_at, table_of, with_one, with_stamp}
 use Rattle.esm_eval.proofs.Inner.Tables.{put_there, unstamped_past}
 
 last_or : (ns : List Node) (n : Node) (x : ℕ) (m : Node) → slice_get (ns ++ n ∷ []) x ≡ Some m → (slice_get ns x ≡ Some m) ⊎ ((x ≡ length ns) × (m ≡ n))
@@ -29,11 +29,12 @@ wider a b n le h = record {
 pub adds : (ns : List Node) (stamps : List ℕ) (n : Node) → node_of n ≡ nodes.untouched → table_of (ns ++ n ∷ []) stamps ≡ with_one (table_of ns stamps)
 adds ns stamps n e = ap (λ l. record { nodes = l; stamps = stamps }) (map-append node_of ns (n ∷ []) ∙ ap (λ k. map node_of ns ++ k ∷ []) e)
 
-pub keeps_add : (ns : List Node) (stamps : List ℕ) (n : Node) → AreKept ns stamps → IsBounded (length ns) n → n.stamped ≡ false
+pub keeps_add : (ns : List Node) (stamps : List ℕ) (n : Node) → AreKept ns stamps → IsBounded (length ns) n → n.order ≡ None
     → AreKept (ns ++ n ∷ []) stamps
 keeps_add ns stamps n k b s = record {
   bounded = λ x o e. wider (length ns) (length (ns ++ n ∷ [])) o longer (either (last_or ns n x o e) (λ h. k.bounded x o h) (λ h. subst (IsBounded (length ns)) (sym h.1) b));
-  stamped = λ x o e. either (last_or ns n x o e) (λ h. k.stamped x o h) (λ h. ap (λ z. z.stamped) h.1 ∙ s ∙ sym (unstamped_past ns stamps x k (let p = h.0 in omega (arith, p))));
+  ordered = λ x o e. either (last_or ns n x o e) (λ h. k.ordered x o h)
+      (λ h. subst (λ q. IsOrderOf stamps x q) (sym (ap (λ z. z.order) h.1 ∙ s)) (unstamped_past ns stamps x k (let p = h.0 in omega (arith, p))));
   below = λ i x e. let lt = k.below i x e in let le = longer in omega (arith, lt, le);
 }
   where
@@ -58,12 +59,9 @@ apart P (m ∷ ns) zero new (suc y) n e here there = there (suc y) n (λ h. cc) 
 apart P (m ∷ ns) (suc x) new zero n e here there = there zero n (λ h. cc) e
 apart P (m ∷ ns) (suc x) new (suc y) n e here there = apart (λ z k. P (suc z) k) ns x new y n e here (λ z k ne h. there (suc z) k (λ q. let p : z ≡ x = cc in ne p) h)
 
-in_last : (stamps : List ℕ) (x : ℕ) → is_in nat_eq (stamps ++ x ∷ []) x ≡ true
-in_last stamps x = in_append stamps (x ∷ []) x ∙ by (is_in nat_eq stamps x)
-  where
-    by : (b : Bool) → (b || is_in nat_eq (x ∷ []) x) ≡ true
-    by true = refl
-    by false = subst (λ b. (b || false) ≡ true) (sym (eq-eqb x x refl)) refl
+last_at : (stamps : List ℕ) (x : ℕ) → slice_get (stamps ++ x ∷ []) (length stamps) ≡ Some x
+last_at [] x = refl
+last_at (y ∷ ys) x = last_at ys x
 
 in_others : (stamps : List ℕ) (x y : ℕ) → (y ≡ x → ⊥) → is_in nat_eq (stamps ++ x ∷ []) y ≡ is_in nat_eq stamps y
 in_others stamps x y ne = in_append stamps (x ∷ []) y ∙ by (is_in nat_eq stamps y)
@@ -75,11 +73,17 @@ in_others stamps x y ne = in_append stamps (x ∷ []) y ∙ by (is_in nat_eq sta
     by true = refl
     by false = subst (λ b. (b || false) ≡ false) (sym no_more) refl
 
+order_more : (stamps : List ℕ) (x z : ℕ) → (z ≡ x → ⊥) → (o : Option ℕ) → IsOrderOf stamps z o → IsOrderOf (stamps ++ x ∷ []) z o
+order_more stamps x z ne None h = in_others stamps x z ne ∙ h
+order_more stamps x z ne (Some k) h = get_left stamps (x ∷ []) k z h
+
 pub keeps_stamp : (ns : List Node) (stamps : List ℕ) (x : ℕ) (old new : Node) → AreKept ns stamps → slice_get ns x ≡ Some old
-    → IsBounded (length ns) new → new.stamped ≡ true → AreKept (slice_set ns x new) (stamps ++ x ∷ [])
+    → IsBounded (length ns) new → new.order ≡ Some (length stamps) → AreKept (slice_set ns x new) (stamps ++ x ∷ [])
 keeps_stamp ns stamps x old new k e b s = record {
   bounded = λ y n h. subst (λ len. IsBounded len n) (sym (length-set ns x new)) (apart (λ z m. IsBounded (length ns) m) ns x new y n h b (λ z m ne. k.bounded z m));
-  stamped = λ y n h. apart (λ z m. m.stamped ≡ is_in nat_eq (stamps ++ x ∷ []) z) ns x new y n h (s ∙ sym (in_last stamps x)) (λ z m ne at. k.stamped z m at ∙ sym (in_others stamps x z ne));
+  ordered = λ y n h. apart (λ z m. IsOrderOf (stamps ++ x ∷ []) z m.order) ns x new y n h
+      (subst (λ o. IsOrderOf (stamps ++ x ∷ []) x o) (sym s) (last_at stamps x))
+      (λ z m ne at. order_more stamps x z ne m.order (k.ordered z m at));
   below = λ i y h. subst (λ len. y < len) (sym (length-set ns x new)) (either (get_snoc stamps x i y h) (λ at. k.below i y at) (λ at. subst (λ z. z < length ns) (sym at.1) (slice_get_within ns x old e)));
 }
 

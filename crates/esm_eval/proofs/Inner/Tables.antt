@@ -8,7 +8,7 @@ use Rattle.esm_realm.proofs.Urls.{not_true}
 use Rattle.esm_values.specs.Code.{CodeValue}
 use Rattle.esm_eval.specs.Nodes as nodes
 use Rattle.esm_eval.specs.declared.nodes.Node.{Node}
-use Rattle.esm_eval.specs.Table.{Table, size, AreKept, IsBounded, node_of, node_by, put_at, table_of, node_at, with_node}
+use Rattle.esm_eval.specs.Table.{Table, size, AreKept, IsBounded, IsOrderOf, node_of, node_by, put_at, table_of, node_at, with_node}
 
 pub put_there : (ns : List Node) (x : ℕ) (old new : Node) → slice_get ns x ≡ Some old → map node_of (slice_set ns x new) ≡ put_at (map node_of ns) x (node_of new)
 put_there [] x old new e = cc
@@ -41,10 +41,10 @@ apart P (m ∷ ns) (suc x) new zero n e here there = there zero n e
 apart P (m ∷ ns) (suc x) new (suc y) n e here there = apart (λ z k. P (suc z) k) ns x new y n e here (λ z k h. there (suc z) k h)
 
 pub keeps : (ns : List Node) (stamps : List ℕ) (x : ℕ) (old new : Node) → AreKept ns stamps → slice_get ns x ≡ Some old
-    → IsBounded (length ns) new → new.stamped ≡ old.stamped → AreKept (slice_set ns x new) stamps
+    → IsBounded (length ns) new → new.order ≡ old.order → AreKept (slice_set ns x new) stamps
 keeps ns stamps x old new k e b s = record {
   bounded = λ y n h. subst (λ len. IsBounded len n) (sym (length-set ns x new)) (apart (λ z m. IsBounded (length ns) m) ns x new y n h b k.bounded);
-  stamped = λ y n h. apart (λ z m. m.stamped ≡ is_in nat_eq stamps z) ns x new y n h (s ∙ k.stamped x old e) k.stamped;
+  ordered = λ y n h. apart (λ z m. IsOrderOf stamps z m.order) ns x new y n h (subst (λ o. IsOrderOf stamps x o) (sym s) (k.ordered x old e)) k.ordered;
   below = λ i y h. subst (λ len. y < len) (sym (length-set ns x new)) (k.below i y h);
 }
 

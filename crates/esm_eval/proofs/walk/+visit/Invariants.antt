@@ -15,8 +15,8 @@ invariant-loop-i g l = record {
   fits : g.D.Desk.fits l.desk;
   going : Going g.D.Desk.lens l.fn.desk l.x l.desk;
   entered : is_entered g.D.Desk.lens l.desk l.x ≡ true;
-  stack : AllEntered g.D.Desk.lens l.desk l.opened.items;
+  stack : AllEntered g.D.Desk.lens l.desk l.opened;
   count : l.count ≡ length (g.D.Desk.lens.targets l.fn.desk l.x);
-  place : l.place ≡ length l.fn.opened.items;
-  passing : Passing g.D.Desk.lens g.D.Desk.linked g.D.Desk.left g.D.Desk.acts l.fn.desk l.fn.opened.items l.x l.desk l.opened.items l.i l.low;
+  place : l.place ≡ length l.fn.opened;
+  passing : Passing g.D.Desk.lens g.D.Desk.linked g.D.Desk.left g.D.Desk.acts l.fn.desk l.fn.opened l.x l.desk l.opened l.i l.low;
 }

@@ -32,7 +32,7 @@ keep-requires-clause-linked g c = let i = (subst (λ r. Within g.D.Desk.lens g.D
 pub visit-requires : goal.visit-requires
 visit-requires g c = record {
   within = (c.requires.whole.0, root.within_keep g.D.Desk.lens g.D.Desk.linked g.D.Desk.left g.D.Desk.acts c.args.desk.now c.root_of-root.result c.in-Ok-keep.p.0 c.in-Ok-keep.ensures.number (promise_none c.promise.result (c.promise.ensures) c.in-None.is) c.keep.new.self c.in-Ok-keep.ensures.world c.requires.whole.0 (subst (λ r. Within g.D.Desk.lens g.D.Desk.linked g.D.Desk.left c.requires.whole.0 c.args.desk.now r) (sym c.root_of-root.ensures) c.requires.whole.1.within) c.in-Ok-keep.ensures.keeps);
-  stack = subst (λ xs. AllEntered g.D.Desk.lens c.keep.new.self xs) (sym c.new-opened.ensures.items) (λ y h. cc);
+  stack = subst (λ xs. AllEntered g.D.Desk.lens c.keep.new.self xs) (sym c.new-opened.ensures) (λ y h. cc);
   unbegun = begun.unbegun_keep g.D.Desk.lens g.D.Desk.lawful g.D.Desk.linked g.D.Desk.left c.args.desk.now c.keep.new.self c.root_of-root.result c.requires.unbegun c.in-Ok-keep.ensures.world c.in-Ok-keep.ensures.keeps;
   fits = c.in-Ok-keep.ensures.fits;
 }
@@ -41,17 +41,17 @@ pub returns-in-Some-error-clause-evaluates : goal.returns-in-Some-error-clause-e
 returns-in-Some-error-clause-evaluates g c = subst (λ r. EvaluatesRoot (numbered g.D.Desk.lens) g.D.Desk.acts c.args.desk.now r (Ok c.in-Ok-keep.p.0) c.reject.new.self) c.root_of-root.ensures (root.had_error g.D.Desk.lens g.D.Desk.linked g.D.Desk.left g.D.Desk.acts c.args.desk.now c.root_of-root.result c.in-Ok-keep.p.0 c.in-Ok-keep.ensures.number (promise_none c.promise.result (c.promise.ensures) c.in-None.is) c.keep.new.self c.in-Ok-keep.ensures.world (value_of c.in-Some-error.v) c.reject.new.self (error_some c.in-Ok.error c.in-Some-error.v c.in-Ok.ensures.error c.in-Some-error.is) c.reject.ensures.world)
 
 pub returns-in-Ok-visit-clause-evaluates : goal.returns-in-Ok-visit-clause-evaluates
-returns-in-Ok-visit-clause-evaluates g c = subst (λ r. EvaluatesRoot (numbered g.D.Desk.lens) g.D.Desk.acts c.args.desk.now r (Ok c.in-Ok-keep.p.0) c.fulfill_by.new.self) c.root_of-root.ensures (root.walked g.D.Desk.lens g.D.Desk.linked g.D.Desk.left g.D.Desk.acts c.args.desk.now c.root_of-root.result c.in-Ok-keep.p.0 c.in-Ok-keep.ensures.number (promise_none c.promise.result (c.promise.ensures) c.in-None.is) c.keep.new.self c.in-Ok-keep.ensures.world (error_none c.in-Ok.error c.in-Ok.ensures.error c.in-None-error.is) c.requires.whole.0 (subst (λ r. Within g.D.Desk.lens g.D.Desk.linked g.D.Desk.left c.requires.whole.0 c.args.desk.now r) (sym c.root_of-root.ensures) c.requires.whole.1.within) c.requires.whole.1.closed c.requires.whole.1.closed_is c.in-Ok-keep.ensures.keeps c.in-Ok-visit._low c.visit.new.desk c.fulfill_by.new.self c.visit.new.opened.items (subst (λ o. Visiting g.D.Desk.lens g.D.Desk.linked g.D.Desk.left g.D.Desk.acts c.keep.new.self o c.root_of-root.result (Ok c.in-Ok-visit._low) c.visit.new.desk c.visit.new.opened.items) c.new-opened.ensures.items c.in-Ok-visit.ensures.visits) c.fulfill_by.ensures.world)
+returns-in-Ok-visit-clause-evaluates g c = subst (λ r. EvaluatesRoot (numbered g.D.Desk.lens) g.D.Desk.acts c.args.desk.now r (Ok c.in-Ok-keep.p.0) c.fulfill_by.new.self) c.root_of-root.ensures (root.walked g.D.Desk.lens g.D.Desk.linked g.D.Desk.left g.D.Desk.acts c.args.desk.now c.root_of-root.result c.in-Ok-keep.p.0 c.in-Ok-keep.ensures.number (promise_none c.promise.result (c.promise.ensures) c.in-None.is) c.keep.new.self c.in-Ok-keep.ensures.world (error_none c.in-Ok.error c.in-Ok.ensures.error c.in-None-error.is) c.requires.whole.0 (subst (λ r. Within g.D.Desk.lens g.D.Desk.linked g.D.Desk.left c.requires.whole.0 c.args.desk.now r) (sym c.root_of-root.ensures) c.requires.whole.1.within) c.requires.whole.1.closed c.requires.whole.1.closed_is c.in-Ok-keep.ensures.keeps c.in-Ok-visit._low c.visit.new.desk c.fulfill_by.new.self c.visit.new.opened (subst (λ o. Visiting g.D.Desk.lens g.D.Desk.linked g.D.Desk.left g.D.Desk.acts c.keep.new.self o c.root_of-root.result (Ok c.in-Ok-visit._low) c.visit.new.desk c.visit.new.opened) c.new-opened.ensures c.in-Ok-visit.ensures.visits) c.fulfill_by.ensures.world)
 
 pub returns-in-Err-Thrown-clause-evaluates : goal.returns-in-Err-Thrown-clause-evaluates
 returns-in-Err-Thrown-clause-evaluates g c =
     let met = rw c.in-Err-Thrown.field-0-is at c.in-Err-Thrown.ensures in
-    subst (λ r. EvaluatesRoot (numbered g.D.Desk.lens) g.D.Desk.acts c.args.desk.now r (Ok c.in-Ok-keep.p.0) c.reject-in-Err-Thrown.new.self) c.root_of-root.ensures (root.was_cut g.D.Desk.lens g.D.Desk.linked g.D.Desk.left g.D.Desk.acts c.args.desk.now c.root_of-root.result c.in-Ok-keep.p.0 c.in-Ok-keep.ensures.number (promise_none c.promise.result (c.promise.ensures) c.in-None.is) c.keep.new.self c.in-Ok-keep.ensures.world (error_none c.in-Ok.error c.in-Ok.ensures.error c.in-None-error.is) c.requires.whole.0 (subst (λ r. Within g.D.Desk.lens g.D.Desk.linked g.D.Desk.left c.requires.whole.0 c.args.desk.now r) (sym c.root_of-root.ensures) c.requires.whole.1.within) c.requires.whole.1.closed c.requires.whole.1.closed_is c.in-Ok-keep.ensures.keeps c.in-Err-Thrown.v c.visit.new.desk c.reject-in-Err-Thrown.new.self c.visit.new.opened.items (subst (λ o. Visiting g.D.Desk.lens g.D.Desk.linked g.D.Desk.left g.D.Desk.acts c.keep.new.self o c.root_of-root.result (Err (cuts.Thrown c.in-Err-Thrown.v)) c.visit.new.desk c.visit.new.opened.items) c.new-opened.ensures.items met.visits) c.reject-in-Err-Thrown.ensures.world)
+    subst (λ r. EvaluatesRoot (numbered g.D.Desk.lens) g.D.Desk.acts c.args.desk.now r (Ok c.in-Ok-keep.p.0) c.reject-in-Err-Thrown.new.self) c.root_of-root.ensures (root.was_cut g.D.Desk.lens g.D.Desk.linked g.D.Desk.left g.D.Desk.acts c.args.desk.now c.root_of-root.result c.in-Ok-keep.p.0 c.in-Ok-keep.ensures.number (promise_none c.promise.result (c.promise.ensures) c.in-None.is) c.keep.new.self c.in-Ok-keep.ensures.world (error_none c.in-Ok.error c.in-Ok.ensures.error c.in-None-error.is) c.requires.whole.0 (subst (λ r. Within g.D.Desk.lens g.D.Desk.linked g.D.Desk.left c.requires.whole.0 c.args.desk.now r) (sym c.root_of-root.ensures) c.requires.whole.1.within) c.requires.whole.1.closed c.requires.whole.1.closed_is c.in-Ok-keep.ensures.keeps c.in-Err-Thrown.v c.visit.new.desk c.reject-in-Err-Thrown.new.self c.visit.new.opened (subst (λ o. Visiting g.D.Desk.lens g.D.Desk.linked g.D.Desk.left g.D.Desk.acts c.keep.new.self o c.root_of-root.result (Err (cuts.Thrown c.in-Err-Thrown.v)) c.visit.new.desk c.visit.new.opened) c.new-opened.ensures met.visits) c.reject-in-Err-Thrown.ensures.world)
 
 pub returns-in-Err-Stopped-clause-evaluates : goal.returns-in-Err-Stopped-clause-evaluates
 returns-in-Err-Stopped-clause-evaluates g c =
     let met = rw c.in-Err-Stopped.field-0-is at c.in-Err-Stopped.ensures in
-    subst (λ r. EvaluatesRoot (numbered g.D.Desk.lens) g.D.Desk.acts c.args.desk.now r (Err c.in-Err-Stopped.why) c.visit.new.desk) c.root_of-root.ensures (root.was_stopped g.D.Desk.lens g.D.Desk.linked g.D.Desk.left g.D.Desk.acts c.args.desk.now c.root_of-root.result c.in-Ok-keep.p.0 c.in-Ok-keep.ensures.number (promise_none c.promise.result (c.promise.ensures) c.in-None.is) c.keep.new.self c.in-Ok-keep.ensures.world (error_none c.in-Ok.error c.in-Ok.ensures.error c.in-None-error.is) c.requires.whole.0 (subst (λ r. Within g.D.Desk.lens g.D.Desk.linked g.D.Desk.left c.requires.whole.0 c.args.desk.now r) (sym c.root_of-root.ensures) c.requires.whole.1.within) c.requires.whole.1.closed c.requires.whole.1.closed_is c.in-Ok-keep.ensures.keeps c.in-Err-Stopped.why c.visit.new.desk c.visit.new.opened.items (subst (λ o. Visiting g.D.Desk.lens g.D.Desk.linked g.D.Desk.left g.D.Desk.acts c.keep.new.self o c.root_of-root.result (Err (cuts.Stopped c.in-Err-Stopped.why)) c.visit.new.desk c.visit.new.opened.items) c.new-opened.ensures.items met.visits))
+    subst (λ r. EvaluatesRoot (numbered g.D.Desk.lens) g.D.Desk.acts c.args.desk.now r (Err c.in-Err-Stopped.why) c.visit.new.desk) c.root_of-root.ensures (root.was_stopped g.D.Desk.lens g.D.Desk.linked g.D.Desk.left g.D.Desk.acts c.args.desk.now c.root_of-root.result c.in-Ok-keep.p.0 c.in-Ok-keep.ensures.number (promise_none c.promise.result (c.promise.ensures) c.in-None.is) c.keep.new.self c.in-Ok-keep.ensures.world (error_none c.in-Ok.error c.in-Ok.ensures.error c.in-None-error.is) c.requires.whole.0 (subst (λ r. Within g.D.Desk.lens g.D.Desk.linked g.D.Desk.left c.requires.whole.0 c.args.desk.now r) (sym c.root_of-root.ensures) c.requires.whole.1.within) c.requires.whole.1.closed c.requires.whole.1.closed_is c.in-Ok-keep.ensures.keeps c.in-Err-Stopped.why c.visit.new.desk c.visit.new.opened (subst (λ o. Visiting g.D.Desk.lens g.D.Desk.linked g.D.Desk.left g.D.Desk.acts c.keep.new.self o c.root_of-root.result (Err (cuts.Stopped c.in-Err-Stopped.why)) c.visit.new.desk c.visit.new.opened) c.new-opened.ensures met.visits))
 
 pub reject-requires-clause-known : goal.reject-requires-clause-known
 reject-requires-clause-known g c = c.in-Ok-keep.ensures.knows (value_of c.in-Some-error.v) (subst (λ o. KnowsError g.D.Desk.knows c.args.desk.now o) c.in-Some-error.is c.in-Ok.ensures.known)

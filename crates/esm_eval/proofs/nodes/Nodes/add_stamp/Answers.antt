@@ -1,4 +1,4 @@
-use Rattle.std.proofs.Common.{◌≡◌, Some, true, length, slice_get, refl}
+use Rattle.std.proofs.Common.{◌≡◌, Some, length, slice_get, refl, ap, ◌∙◌, rules}
 use Rattle.esm_eval.proofs.Inner.Tables as tables
 use Rattle.esm_eval.proofs.Inner.Growth as growth
 use Rattle.esm_eval.proofs.nodes.Nodes.add_stamp.Goals as goal
@@ -8,7 +8,7 @@ returns c =
     let ns = c.self.inside.nodes.items in
     let stamps = c.self.inside.stamps.items in
     let at : slice_get ns c.args.x ≡ Some c.index_mut.result.now = tables.reads ns (length ns) c.args.x c.index_mut.result.now refl (tables.bound ns stamps c.args.self.now c.args.x c.self.view_is c.requires) c.index_mut.ensures.value in
-    rw (← c.self.view_is, c.in_ok-push.ensures.items) (growth.stamps_one ns stamps c.args.x c.index_mut.result.now (record c.index_mut.result.now { stamped = true }) at refl)
+    rw (← c.self.view_is, c.in_ok-push.ensures.items) (growth.stamps_one ns stamps c.args.x c.index_mut.result.now (record c.index_mut.result.now { order = Some c.len-place.result }) at refl)
 
 pub invariant_of-self-2 : goal.invariant_of-self-2
 invariant_of-self-2 c =
@@ -16,4 +16,4 @@ invariant_of-self-2 c =
     let stamps = c.self.inside.stamps.items in
     let at : slice_get ns c.args.x ≡ Some c.index_mut.result.now = tables.reads ns (length ns) c.args.x c.index_mut.result.now refl (tables.bound ns stamps c.args.self.now c.args.x c.self.view_is c.requires) c.index_mut.ensures.value in
     let kept = c.self.invariant.bounded c.args.x c.index_mut.result.now at in
-    rw c.in_ok-push.ensures.items (growth.keeps_stamp ns stamps c.args.x c.index_mut.result.now (record c.index_mut.result.now { stamped = true }) c.self.invariant at (record { root = kept.root; waits = kept.waits; waiters = kept.waiters }) refl)
+    rw c.in_ok-push.ensures.items (growth.keeps_stamp ns stamps c.args.x c.index_mut.result.now (record c.index_mut.result.now { order = Some c.len-place.result }) c.self.invariant at (record { root = kept.root; waits = kept.waits; waiters = kept.waiters }) (ap Some (c.len-place.ensures ∙ search rules)))

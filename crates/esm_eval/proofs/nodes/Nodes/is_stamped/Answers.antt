@@ -1,13 +1,12 @@
-use Rattle.std.proofs.Common.{sym, arith}
-use Rattle.esm_eval.proofs.Inner.Tables as tables
+use Rattle.std.proofs.Common.{sym, subst}
+use Rattle.esm_realm.proofs.Numbers.{has_at}
+use Rattle.esm_eval.specs.Table.{IsOrderOf}
 use Rattle.esm_eval.proofs.nodes.Nodes.is_stamped.Goals as goal
 
-pub returns-then-at-len-clause-has : goal.returns-then-at-len-clause-has
-returns-then-at-len-clause-has c h =
-    let ns = c.self.inside.nodes in
-    tables.has_node ns.items c.self.inside.stamps.items c.args.self.now c.args.x c.self.view_is (let lt = c.if-at-len.true in omega (arith, lt, ns.ok.0, c.len.ensures))
+pub returns-in-Some-clause-stamped : goal.returns-in-Some-clause-stamped
+returns-in-Some-clause-stamped c =
+    let stamps = c.args.self.now.stamps in
+    sym (has_at stamps c.in-Some._place c.args.x (subst (λ o. IsOrderOf stamps c.args.x o) c.in-Some.is c.order.ensures.order))
 
-pub returns-else-at-len-clause-stamped : goal.returns-else-at-len-clause-stamped
-returns-else-at-len-clause-stamped c =
-    let ns = c.self.inside.nodes in
-    rw (← c.self.view_is) (sym (tables.unstamped_past ns.items c.self.inside.stamps.items c.args.x c.self.invariant (omega (arith, ns.ok.0, c.len.ensures))))
+pub returns-in-None-clause-stamped : goal.returns-in-None-clause-stamped
+returns-in-None-clause-stamped c = sym (subst (λ o. IsOrderOf c.args.self.now.stamps c.args.x o) c.in-None.is c.order.ensures.order)

@@ -1,0 +1,101 @@
+// The open modules of a walk.
+ghost use Rattle.std.specs.Prelude.{◌≡◌, ◌++◌, [], ◌∷◌, false, nat_eq, length, take, slice_get, Some, OnOk};
+ghost use Rattle.esm_base.specs.Lists.{is_in};
+ghost use Rattle.esm_eval.specs.Inner.Ends.{Says};
+ghost use Rattle.esm_eval.specs.Inner.Visit.{IsPlace};
+
+use esm_base::Memory;
+use std::alloc::Global;
+use std::collections::HashMap;
+use std::marker::Model;
+
+/// The open modules of a walk, from the first to the last that was entered. Contracts see them as a list.
+#[derive(Drop)]
+pub(crate) struct Stack {
+    opened: Vec<u32>,
+    /// Where each module stands, or stood last.
+    places: HashMap<u32, usize>,
+}
+
+impl Model for Stack {
+    ghost use Rattle.std.specs.Prelude.{ℕ, List};
+    ghost use Rattle.esm_eval.specs.Inner.Stack.{HavePlaces};
+
+    ghost Value = { List ℕ };
+
+    ghost view = { λ s. s.opened.items };
+
+    ghost invariant = { λ s. HavePlaces s.opened.items s.places };
+}
+
+impl Stack {
+    /// Without modules. It doesn't allocate.
+    #[tactic(auto, using(crate::proofs::Inner::Stacks::from_none))]
+    pub(crate) fn new(alloc: Global) -> Stack
+        ensures { result ≡ [] }
+    {
+        Stack {
+            opened: Vec::new(alloc),
+            places: HashMap::new(alloc),
+        }
+    }
+
+    /// How many modules are open.
+    pub(crate) fn len(&self) -> usize
+        ensures { result ≡ length self.now }
+    {
+        self.opened.len()
+    }
+
+    /// The open modules, in order.
+    pub(crate) fn as_slice(&self) -> &[u32]
+        ensures { result.now ≡ self.now }
+    {
+        self.opened.as_slice()
+    }
+
+    /// The place of a module among the open ones, or how many there are where it isn't open.
+    pub(crate) fn place_of(&self, x: u32) -> usize
+        ensures { IsPlace self.now x result }
+    {
+        match self.places.get(&x) {
+            Some(place) => {
+                if self.has_at(*place, x) {
+                    *place
+                } else {
+                    self.len()
+                }
+            }
+            None => self.len(),
+        }
+    }
+
+    /// Whether the module stands at this place.
+    fn has_at(&self, place: usize, x: u32) -> bool
+        ensures { Says result (slice_get self.now place ≡ Some x) }
+    {
+        if place < self.opened.len() {
+            self.opened[place] == x
+        } else {
+            false
+        }
+    }
+
+    /// One more module is open.
+    pub(crate) fn push(&mut self, x: u32) -> Result<(), Memory>
+        requires { is_in nat_eq self.old x ≡ false }
+        ensures { OnOk result (self.new ≡ self.old ++ x ∷ []) }
+    {
+        let place = self.opened.len();
+        self.places.insert(x, place)?;
+        self.opened.push(x)?;
+        Ok(())
+    }
+
+    /// The modules from this place on aren't open any more.
+    pub(crate) fn truncate(&mut self, place: usize)
+        ensures { self.new ≡ take place self.old }
+    {
+        self.opened.truncate(place);
+    }
+}
