@@ -21,7 +21,7 @@ use Rattle.esm_env.specs.Writing.{Writing, writing_of}
 use Rattle.esm_env.specs.Writing.{Writing as writing}
 use Rattle.esm_body.specs.Scopes.{Scope, in_scopes}
 use Rattle.esm_body.specs.Rest.{Rest}
-use Rattle.esm_body.specs.State.{Event, Begins, Ends, Throws, State, Importing, Answered, take_steps, steps_by, add_line, line_by, note, note_by, event_behind, event_line, add_event, begins_at as begins_by, has_begun}
+use Rattle.esm_body.specs.State.{Event, Begins, Ends, Throws, State, Importing, Answered, take_steps, steps_by, add_line, line_by, note, note_by, event_behind, event_line, add_event, begins_at as begins_by}
 use Rattle.esm_body.specs.Acts.{Inner, Performs, AnswersAct, ReadsMemberOf, BeginsBy, read_answer, set_at, write_in, scope_write, module_write, modules_of}
 use Rattle.esm_body.specs.BodyRewriting.{RewrittenBody, On, Gives, Waits, RewritesBody, own_url}
 use Rattle.esm_body.specs.BodyRewriting.RewritesBody.{begins_at, does, drops, sets, writes, throws, returns, prints, chooses, awaits, inner, inner_end, tries, tries_end}

@@ -1,5 +1,5 @@
 -- What a call begins with: its parameters, one by one.
-use Rattle.std.proofs.Common.{◌≡◌, ℕ, zero, suc, ◌+◌, ◌<◌, ◌≤◌, ◌⊎◌, inl, inr, false, List, [], ◌∷◌, ◌++◌, length, drop, refl, ap, subst, sym, ◌∙◌, get_or, arith}
+use Rattle.std.proofs.Common.{◌≡◌, ℕ, ◌+◌, ◌<◌, ◌≤◌, ◌⊎◌, inl, inr, false, List, [], ◌∷◌, ◌++◌, length, drop, refl, ap, subst, sym, ◌∙◌, get_or, arith}
 use Rattle.std.proofs.lemmas.Bool.{cases_order}
 use Rattle.std.proofs.lemmas.List.{drop_more, append-nil}
 use Rattle.std.proofs.Math.ListN.{drop_of_length-le}
@@ -14,14 +14,12 @@ use Rattle.esm_values.specs.Code.{CodeValue, value_of, values_of}
 use Rattle.esm_values.specs.declared.value.Value.{Value}
 use Rattle.esm_env.specs.Declarations.{FunctionCode}
 use Rattle.esm_body.specs.Scopes.{Scope, named_cell, parameters, scope_of}
-use Rattle.esm_body.specs.Rest.{Rest, end, more, whole}
+use Rattle.esm_body.specs.Rest.{end, more, whole}
 use Rattle.esm_body.specs.Rest.Part.{In}
 use Rattle.esm_body.specs.Inner.Slots.{slot_with, slot_of, scope_of_slots}
-use Rattle.esm_body.specs.Inner.Contexts.{Context}
 use Rattle.esm_body.specs.Inner.Stack.{in_front, contexts_of, innermost, levels_rest, AreWork, AreLevels}
 use Rattle.esm_body.specs.Inner.Calls.{argument_of, IsOutermost, IsCallOf, Remains}
 use Rattle.esm_body.specs.declared.work.Activation.{Activation}
-use Rattle.esm_body.specs.declared.work.Kind.TheVariants as k
 use Rattle.esm_body.specs.declared.work.Level.{Level}
 use Rattle.esm_body.specs.declared.work.Slot.{Slot}
 use Rattle.esm_body.specs.declared.work.Work.{Work}

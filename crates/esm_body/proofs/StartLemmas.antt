@@ -1,5 +1,5 @@
 -- What a body starts with: the statements of its items, one by one.
-use Rattle.std.proofs.Common.{◌≡◌, ℕ, zero, suc, ◌+◌, ◌<◌, ◌≤◌, List, [], ◌∷◌, ◌++◌, length, drop, refl, ap, subst, sym, ◌∙◌, get_or, arith}
+use Rattle.std.proofs.Common.{◌≡◌, ℕ, zero, suc, ◌+◌, ◌<◌, ◌≤◌, List, [], ◌∷◌, length, drop, ap, subst, sym, ◌∙◌, get_or, arith}
 use Rattle.std.proofs.lemmas.List.{drop_more}
 use Rattle.std.proofs.Math.ListN.{drop_of_length-le}
 use Rattle.std.specs.Prelude.{Option, Some, None}
@@ -8,11 +8,10 @@ use Rattle.esm_tree.specs.Syntax.{Stmt as Statement}
 use Rattle.esm_tree.specs.Flat.{item_of, item_need, items_of, items_need, stmt_part, AllAtMost}
 use Rattle.esm_tree.specs.declared.node.ItemNode.{ItemNode}
 use Rattle.esm_tree.specs.declared.node.StmtId.{StmtId}
-use Rattle.esm_values.specs.Code.{CodeValue}
 use Rattle.esm_env.specs.Declarations.{body_of, does, onto}
-use Rattle.esm_body.specs.Rest.{Rest, end, more, whole}
+use Rattle.esm_body.specs.Rest.{end, more, whole}
 use Rattle.esm_body.specs.Rest.{Part as parts}
-use Rattle.esm_body.specs.Inner.Stack.{in_front, part_of, AreWork}
+use Rattle.esm_body.specs.Inner.Stack.{in_front, AreWork}
 use Rattle.esm_body.specs.Inner.Calls.{stmt_told, IsBelowTold, AddsStatement}
 use Rattle.esm_body.specs.declared.work.Work.{Work}
 use Rattle.esm_body.specs.declared.work.Work.TheVariants as w

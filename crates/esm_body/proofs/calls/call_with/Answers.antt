@@ -1,4 +1,4 @@
-use Rattle.std.proofs.Common.{[], length, ap, ◌∙◌, refl}
+use Rattle.std.proofs.Common.{[], length, ◌∙◌, refl}
 use Rattle.std.specs.Arc.{arc_value}
 use Rattle.esm_tree.specs.Flat.{stmt_parts}
 use Rattle.esm_body.specs.Scopes.{scope_of}
