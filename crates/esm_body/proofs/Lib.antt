@@ -30,6 +30,8 @@ pub mod Paths
 pub mod CaughtLemmas
 pub mod Ended
 pub mod Lawful
+pub mod ExprKeeps
+pub mod BodyKeeps
 pub mod NamedRests
 pub mod NamedActs
 pub mod NamedMoves
@@ -41,4 +43,6 @@ pub mod MemberRead
 pub mod Asked
 pub mod WorldActs
 pub mod Shown
+pub mod CallLemmas
+pub mod StartLemmas
 pub mod NamesWritten

@@ -6,4 +6,5 @@ pub mod Names
 pub mod Displayed
 pub mod Chains
 pub mod Slots
+pub mod Calls
 pub mod Written

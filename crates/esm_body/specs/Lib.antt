@@ -6,6 +6,7 @@ pub mod BodyRewriting
 pub mod Segment
 pub mod Fits
 pub mod Bodies
+pub mod Keeps
 pub mod Laws
 pub mod Examples
 pub mod Importers

@@ -2,6 +2,7 @@
 ghost use Rattle.esm_body.specs.Laws.{HaveOneOutcome, StatementsTakeSteps, StopsAreNotCaught, UnsetThrows, HasSegment, HaveOutcomes};
 ghost use Rattle.esm_body.specs.Examples.{ThrowLeaves, AwaitDivides};
 ghost use Rattle.esm_body.specs.Naming.{FollowsNames};
+ghost use Rattle.esm_body.specs.Keeps.{BodiesBegin, BodiesKeep};
 
 /// A rewriting, a segment of a body, and each call for a body, has one outcome, where `import()` has one.
 pub fn one_outcome()
@@ -89,4 +90,30 @@ pub trait Named {
 pub fn follows_names<A: Named>()
     ensures { FollowsNames A.names A.image A.good A.same A.other A.modules A.images
         A.begins A.others }
+{}
+
+/// Modules, and how `import()` begins.
+pub trait Imports {
+    ghost use Rattle.std.specs.Prelude.{Bool};
+    ghost use Rattle.esm_env.specs.Modules.{Modules};
+    ghost use Rattle.esm_body.specs.State.{Importing};
+
+    /// What names a module.
+    ghost Name: { Type 0 };
+    /// What import() reads and writes.
+    ghost Seen: { Type 0 };
+
+    /// Two names are the same.
+    ghost same: { Name → Name → Bool };
+    /// The modules that are there.
+    ghost modules: { Seen → Modules Name };
+    /// How import() begins.
+    ghost begins: { Importing Name Seen };
+}
+
+/// A call for a body changes what `import()` reads and writes by `import()` alone, and begins no other body; where no limit
+/// is passed, one that starts or runs has begun.
+pub fn bodies_keep<A: Imports>()
+    ensures keeps { BodiesKeep A.same A.modules A.begins }
+    ensures begins { BodiesBegin A.same A.modules A.begins }
 {}

@@ -2,6 +2,7 @@
 #![tactic(auto)]
 
 mod blocks;
+mod calls;
 mod catching;
 mod displays;
 mod engine;
@@ -13,6 +14,7 @@ mod log;
 mod members;
 mod names;
 mod scopes;
+mod starts;
 mod work;
 mod world;
 mod writes;

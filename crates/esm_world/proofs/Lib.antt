@@ -1,6 +1,4 @@
-pub mod ExprKeeps
 pub mod EvalKeeps
-pub mod BodyKeeps
 pub mod Distinct
 pub mod Grows
 pub mod OneRun

@@ -27,7 +27,7 @@ use Rattle.esm_world.proofs.AwaitCounts.{standing_more, take_count, taken_is}
 use Rattle.esm_world.proofs.AwaitsKept.{awaits_keep_bodies}
 use Rattle.esm_world.proofs.OuterKeeps.{LastsOuter, noted, segment_around, runs_around}
 use Rattle.esm_world.proofs.EvalKeeps.{Lasts, evaluates_keeps, fulfills_keeps, rejects_keeps}
-use Rattle.esm_world.proofs.BodyKeeps.{resumes_body_keeps}
+use Rattle.esm_body.proofs.BodyKeeps.{resumes_body_keeps}
 use Rattle.esm_world.proofs.Grows.{Progress}
 use Rattle.esm_world.proofs.WorldGrows.{imported}
 use Rattle.esm_world.proofs.StartsOnce.{Once, begun_alike, call_begins, begun_keeps, steady, makes_first_calls, calm_same, reacts_once, once_same, opening_once, live_by}

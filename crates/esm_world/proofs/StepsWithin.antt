@@ -17,7 +17,7 @@ use Rattle.esm_body.specs.BodyRewriting.{RewrittenBody, On, Gives, Waits, Rewrit
 use Rattle.esm_body.specs.BodyRewriting.RewritesBody.{begins_at, does, drops, sets, writes, throws, returns, prints, chooses, awaits, inner, inner_end, tries, tries_end}
 use Rattle.esm_body.specs.Segment.{Active, Ended, Next, Goes, Over, Segment, next_by, call_by, called}
 use Rattle.esm_body.specs.Segment.{Segment as segment}
-use Rattle.esm_world.proofs.ExprKeeps.{Stays, follows_keeps, step_keeps}
+use Rattle.esm_body.proofs.ExprKeeps.{Stays, follows_keeps, step_keeps}
 use Rattle.esm_world.proofs.BodyFalls.{steps_of, act_counted, import_counted, set_counted, by_write}
 
 lt_no : (a b : ℕ) → nat_lt a b ≡ false → b ≤ a

@@ -18,7 +18,8 @@ use Rattle.esm_eval.specs.Nodes.{Call}
 use Rattle.esm_eval.specs.Evaluate.{Evaluates}
 use Rattle.esm_eval.specs.BodyEnd.{Fulfills}
 use Rattle.esm_body.specs.Bodies.{ResumesBody}
-use Rattle.esm_body.specs.State.{State, Event, Begins, Ends, Throws}
+use Rattle.esm_body.specs.State.{State}
+use Rattle.esm_body.specs.Keeps.{started}
 use Rattle.esm_world.specs.World.{World, opening, stopped, modules_in, state_of, with_state}
 use Rattle.esm_world.specs.Layers.{Executes, evaluation}
 use Rattle.esm_world.specs.Jobs.{Jobs}
@@ -49,13 +50,6 @@ KeepsMaps = (w after : World) (u : Url) (c : OutcomeView) → Turn w u c after
 abbrev pub OneStandardRun : Type 0
 OneStandardRun = (maps : Maps) (built : List Item → Bool) (entry : Url) (trace : Bool) (deliveries : List Delivery) (one other : Shown)
     → StandardRun maps built entry trace deliveries one → StandardRun maps built entry trace deliveries other → one ≡ other
-
--- the modules whose bodies have begun, in that order
-abbrev pub started : {N : Type 0} → List (Event N) → List N
-started [] = []
-started (Begins x ∷ es) = x ∷ started es
-started (Ends x ∷ es) = started es
-started (Throws x ∷ es) = started es
 
 -- no body begins twice
 abbrev pub StartsOnce : Type 0

@@ -1,6 +1,7 @@
 -- What import() keeps of what it reads and writes, bodies keep; and a body that runs begins no other.
 use Rattle.std.proofs.Common.{◌≡◌, ◌⊎◌, inl, inr, ℕ, ◌+◌, Bool, true, false, List, [], ◌∷◌, Option, Some, None, refl, ap, subst, sym, ◌∙◌}
-use Rattle.std.specs.Prelude.{Result, Ok, Err, nat_lt, length, ◌++◌}
+use Rattle.std.specs.Prelude.{Result, Ok, Err, nat_lt, length, ◌++◌, ◌||◌}
+use Rattle.std.specs.List.{list_any}
 use Rattle.esm_base.specs.declared.limits.Limit.{Limit}
 use Rattle.esm_base.specs.declared.limits.TheConstants.{MAX_STEPS, MAX_LOG_BYTES, MAX_CALL_DEPTH}
 use Rattle.esm_values.specs.Value.{Value, Undefined, Truth, Text, Func, Error, Namespace, Promise}
@@ -20,15 +21,15 @@ use Rattle.esm_env.specs.Writing.{Writing, writing_of}
 use Rattle.esm_env.specs.Writing.{Writing as writing}
 use Rattle.esm_body.specs.Scopes.{Scope, in_scopes}
 use Rattle.esm_body.specs.Rest.{Rest}
-use Rattle.esm_body.specs.State.{Event, Begins, Ends, Throws, State, Importing, Answered, take_steps, steps_by, add_line, line_by, note, note_by, event_behind, event_line, add_event}
+use Rattle.esm_body.specs.State.{Event, Begins, Ends, Throws, State, Importing, Answered, take_steps, steps_by, add_line, line_by, note, note_by, event_behind, event_line, add_event, begins_at as begins_by}
 use Rattle.esm_body.specs.Acts.{Inner, Performs, AnswersAct, ReadsMemberOf, BeginsBy, read_answer, set_at, write_in, scope_write, module_write, modules_of}
 use Rattle.esm_body.specs.BodyRewriting.{RewrittenBody, On, Gives, Waits, RewritesBody, own_url}
 use Rattle.esm_body.specs.BodyRewriting.RewritesBody.{begins_at, does, drops, sets, writes, throws, returns, prints, chooses, awaits, inner, inner_end, tries, tries_end}
 use Rattle.esm_body.specs.Segment.{Active, Ended, Normal, Thrown, Awaiting, Stopped, Next, Goes, Over, Segment, next_by, call_by, called}
 use Rattle.esm_body.specs.Segment.{Segment as segment}
 use Rattle.esm_body.specs.Bodies.{StartsBody, RunsBody, ResumesBody, segment_end, settle_done, body_end, ran_by, url_in}
-use Rattle.esm_world.specs.Laws.{started}
-use Rattle.esm_world.proofs.ExprKeeps.{Stays, follows_keeps, step_keeps}
+use Rattle.esm_body.specs.Keeps.{started, ChangedBy, BodiesKeep, BodiesBegin}
+use Rattle.esm_body.proofs.ExprKeeps.{Stays, follows_keeps, step_keeps}
 
 -- what is looked at: what import() reads and writes, and which bodies have begun
 abbrev pub Seen : Type 0 → Type 0 → Type 0
@@ -310,3 +311,38 @@ module _ {N I : Type 0} (same : N → N → Bool) (modules : I → Modules N) (b
   runs_body_begins {v} {m = m} {w = w} (RunsBody.segment {late = late} {how = how} h p f) a e =
       let k : KeepsSeen Keep (seen late) (seen w) = kept (ran_is late f (body_keeps (url_in same modules begins v) m how late)) in
       k.starts ∙ (runs_keep p).starts ∙ by_noted (url_in same modules begins v) v m v.engine.trace h
+
+-- ---- the laws: what import() reads and writes changes by import() alone
+
+pub changed_on : {N I : Type 0} {begins : Importing N I} {i j k : I} → ChangedBy begins i j → ChangedBy begins j k → ChangedBy begins i k
+changed_on p ChangedBy.none = p
+changed_on p (ChangedBy.call q b) = ChangedBy.call (changed_on p q) b
+
+pub by_imports : {N I : Type 0} (begins : Importing N I) → Imported begins (ChangedBy begins)
+by_imports begins = record { same = λ i. ChangedBy.none; on = λ p q. changed_on p q; call = λ b. ChangedBy.call ChangedBy.none b }
+
+-- what is kept by each import() is kept by all that change it
+pub changed_keeps : {N I : Type 0} {begins : Importing N I} {Keep : I → I → Type 0} → Imported begins Keep → {i j : I} → ChangedBy begins i j → Keep i j
+changed_keeps k {i} ChangedBy.none = k.same i
+changed_keeps k (ChangedBy.call q b) = k.on (changed_keeps k q) (k.call b)
+
+begun_is : {N : Type 0} (same : N → N → Bool) (es : List (Event N)) (m : N) → list_any (begins_by same m) es ≡ list_any (same m) (started es)
+begun_is same [] m = refl
+begun_is same (Begins x ∷ es) m = ap (λ b. same m x || b) (begun_is same es m)
+begun_is same (Ends x ∷ es) m = begun_is same es m
+begun_is same (Throws x ∷ es) m = begun_is same es m
+
+module _ {N I : Type 0} (same : N → N → Bool) (modules : I → Modules N) (begins : Importing N I) where
+  pub bodies_keep : BodiesKeep same modules begins
+  bodies_keep = record {
+    start = λ w after m done end p. let c = starts_body_keeps same modules begins (ChangedBy begins) (by_imports begins) p in record { imports = c.imports; starts = c.starts };
+    run = λ w after m end p. let c = runs_body_keeps same modules begins (ChangedBy begins) (by_imports begins) p in record { imports = c.imports; starts = c.starts };
+    resume = λ w after m how end p. let c = resumes_body_keeps same modules begins (ChangedBy begins) (by_imports begins) p in record { imports = c.imports; starts = c.starts };
+  }
+
+  pub bodies_begin : BodiesBegin same modules begins
+  bodies_begin = record {
+    start = λ w after m done p. starts_body_begins same modules begins (ChangedBy begins) (by_imports begins) p refl;
+    run = λ w after m how p. runs_body_begins same modules begins (ChangedBy begins) (by_imports begins) p how refl;
+    begun = λ e m. begun_is same e.events m;
+  }

@@ -1,0 +1,43 @@
+-- What a body starts with: the statements of its items, one by one.
+use Rattle.std.proofs.Common.{◌≡◌, ℕ, zero, suc, ◌+◌, ◌<◌, ◌≤◌, List, [], ◌∷◌, length, drop, ap, subst, sym, ◌∙◌, get_or, arith}
+use Rattle.std.proofs.lemmas.List.{drop_more}
+use Rattle.std.proofs.Math.ListN.{drop_of_length-le}
+use Rattle.std.specs.Prelude.{Option, Some, None}
+use Rattle.esm_tree.specs.Syntax.{Stmts}
+use Rattle.esm_tree.specs.Syntax.{Stmt as Statement}
+use Rattle.esm_tree.specs.Flat.{item_of, item_need, items_of, items_need, stmt_part, AllAtMost}
+use Rattle.esm_tree.specs.declared.node.ItemNode.{ItemNode}
+use Rattle.esm_tree.specs.declared.node.StmtId.{StmtId}
+use Rattle.esm_env.specs.Declarations.{body_of, does, onto}
+use Rattle.esm_body.specs.Rest.{end, more, whole}
+use Rattle.esm_body.specs.Rest.{Part as parts}
+use Rattle.esm_body.specs.Inner.Stack.{in_front, AreWork}
+use Rattle.esm_body.specs.Inner.Calls.{stmt_told, IsBelowTold, AddsStatement}
+use Rattle.esm_body.specs.declared.work.Work.{Work}
+use Rattle.esm_body.specs.declared.work.Work.TheVariants as w
+use Rattle.esm_body.proofs.Levels.{front_push, work_push}
+
+module _ (stmts : List Statement) where
+  told_more : (told : Option StmtId) (ws vs : List Work) (rest : Stmts) → AddsStatement ws told vs → in_front stmts ws end ≡ whole rest → in_front stmts vs end ≡ whole (onto (stmt_told stmts told) rest)
+  told_more None ws vs rest a h = ap (λ us. in_front stmts us end) a ∙ h
+  told_more (Some id) ws vs rest a h = ap (λ us. in_front stmts us end) a ∙ front_push stmts ws (w.Whole id) end ∙ ap (λ r. more (parts.Whole (stmt_part stmts id)) r) h
+
+  -- the statements from one place on, with those behind it
+  pub body_go : (items : List ItemNode) (i p : ℕ) (d : ItemNode) (told : Option StmtId) (ws vs : List Work) → p ≡ i + 1 → i < length items → does (item_of stmts (get_or items i d)) ≡ stmt_told stmts told → AddsStatement ws told vs
+      → in_front stmts ws end ≡ whole (body_of (items_of stmts (drop p items))) → in_front stmts vs end ≡ whole (body_of (items_of stmts (drop i items)))
+  body_go items i p d told ws vs e h t a k =
+      let later = body_of (items_of stmts (drop (i + 1) items)) in
+      told_more told ws vs later a (subst (λ q. in_front stmts ws end ≡ whole (body_of (items_of stmts (drop q items)))) e k)
+      ∙ ap (λ o. whole (onto o later)) (sym t) ∙ ap (λ is. whole (body_of (items_of stmts is))) (sym (drop_more items i d h))
+
+  pub no_body : (items : List ItemNode) → in_front stmts [] end ≡ whole (body_of (items_of stmts (drop (length items) items)))
+  no_body items = ap (λ is. whole (body_of (items_of stmts is))) (sym (drop_of_length-le items (omega arith)))
+
+pub told_sound : (n : ℕ) (told : Option StmtId) (ws vs : List Work) → AddsStatement ws told vs → IsBelowTold n told → AreWork n ws → AreWork n vs
+told_sound n None ws vs a b h = subst (AreWork n) (sym a) h
+told_sound n (Some id) ws vs a b h = subst (AreWork n) (sym a) (work_push n ws (w.Whole id) h b)
+
+pub need_at : (n : ℕ) (items : List ItemNode) (i : ℕ) (d : ItemNode) → AllAtMost n (items_need items) → i < length items → item_need (get_or items i d) ≤ n
+need_at n [] i d a h = absurd (omega (arith, h))
+need_at n (item ∷ items) zero d a h = a.0
+need_at n (item ∷ items) (suc i) d a h = need_at n items i d a.1 (omega (arith, h))
