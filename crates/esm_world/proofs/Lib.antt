@@ -7,6 +7,7 @@ pub mod OneRun
 pub mod WorldGrows
 pub mod Members
 pub mod Deliveries
+pub mod AsksStay
 pub mod Plain
 pub mod ExprStops
 pub mod BodyStops
@@ -16,6 +17,7 @@ pub mod runs
 pub mod Each
 pub mod FitLists
 pub mod FitBodies
+pub mod EventsKept
 pub mod FitEvaluation
 pub mod FitLoading
 pub mod ExprFalls

@@ -10,6 +10,7 @@ pub mod Plain
 pub mod Loaded
 pub mod Awaits
 pub mod Told
+pub mod Sound
 pub mod Laws
 pub mod RunLaws
 pub mod Followed
