@@ -12,6 +12,10 @@ pub mod Plain
 pub mod ExprStops
 pub mod BodyStops
 pub mod EvalStops
+pub mod ExprLives
+pub mod BodyLives
+pub mod EvalLives
+pub mod LimitsExact
 pub mod StartsOnce
 pub mod runs
 pub mod Each

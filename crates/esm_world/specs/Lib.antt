@@ -11,6 +11,7 @@ pub mod Loaded
 pub mod Awaits
 pub mod Told
 pub mod Sound
+pub mod Limits
 pub mod Laws
 pub mod RunLaws
 pub mod Followed
