@@ -7,3 +7,4 @@ pub mod Tells
 pub mod Steps
 pub mod HoldsBack
 pub mod FitsById
+pub mod Arrivals

@@ -4,3 +4,4 @@ pub mod Represents
 pub mod Following
 pub mod Steps
 pub mod FitsById
+pub mod Arrivals

@@ -1,6 +1,7 @@
 // Laws of the definitions, as functions without effect.
 ghost use Rattle.esm_machine.specs.Following.{BodiesAreOfTheWorld, LinkingIsOfTheWorld};
 ghost use Rattle.esm_machine.specs.Held.{LoadingIsOfTheWorld, OpensAsWorld, RecordsAreAdded};
+ghost use Rattle.esm_machine.specs.Arrivals.{ArrivalsAreOfTheWorld};
 ghost use Rattle.esm_machine.specs.FitsById.{WorldsFitById};
 ghost use Rattle.esm_machine.specs.Steps.{StepsAreOfTheWorld};
 ghost use Rattle.esm_machine.specs.Represents.{OpeningRepresents, TellsTheRun, TurnsAreTaken};
@@ -55,3 +56,11 @@ pub fn steps_are_of_the_world()
 pub fn worlds_fit_by_id()
     ensures { WorldsFitById }
 {}
+
+/// What the end of a fetch that is allowed, with the record of a module, and the answer of a pending request do by ids, they
+/// do in the world.
+pub fn arrivals_are_of_the_world()
+    ensures { ArrivalsAreOfTheWorld }
+{
+    esm_resolve::laws::shared_set()
+}
