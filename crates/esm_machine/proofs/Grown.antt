@@ -26,10 +26,10 @@ use Rattle.esm_body.specs.Fits.{FitStanding, Knows, of_body}
 use Rattle.esm_body.specs.State.{Event, Begins, Ends, Throws, Standing}
 use Rattle.esm_body.specs.Naming.{renamed_event, renamed_standing, renamed_engine}
 use Rattle.esm_world.specs.World.{EntryState, modules_in}
-use Rattle.esm_world.specs.Fits.{IsLinkedModule, IsKnownValue, FitReaction, FitSettled, FitPromise, FitPromises, AreModules}
+use Rattle.esm_world.specs.Fits.{IsLinkedModule, IsKnownValue, FitReaction, FitSettled, FitPromise, FitPromises, FitEvent, FitEntry, AreModules}
 use Rattle.esm_world.proofs.FitBodies.{known_out}
 use Rattle.esm_values.specs.Numbering.{numbering, is_total}
-use Rattle.esm_machine.specs.Held.{Held, EntryHeld, Underway, Ended, Failed, entry_by, world_of, HasRecordBy, KnowsEntry, IsHeld, with_record, RecordsAreAdded}
+use Rattle.esm_machine.specs.Held.{Held, EntryHeld, Underway, Ended, Failed, entry_by, world_of, IsHeld, with_record, RecordsAreAdded}
 use Rattle.esm_values.proofs.Numbered.{numbers_urls}
 use Rattle.esm_machine.proofs.Numbers.{url, number, url_number, number_url}
 use Rattle.esm_machine.proofs.Alike.{rest_alike}
@@ -252,16 +252,16 @@ module _ (us : List Url) (u : Url) (once : EachOnce same_url us) (new : has us u
 
     -- ---- bodies
 
-    event_alike : (e : Event ℕ) → HasRecordBy (length us) e → renamed_event (numbering us) e ≡ renamed_event (numbering More) e
-    event_alike (Begins m) h = ap (λ w. Begins w) (same_url_of m h)
-    event_alike (Ends m) h = ap (λ w. Ends w) (same_url_of m h)
-    event_alike (Throws m) h = ap (λ w. Throws w) (same_url_of m h)
+    event_alike : (e : Event ℕ) → FitEvent linked entries (renamed_event (numbering us) e) → renamed_event (numbering us) e ≡ renamed_event (numbering More) e
+    event_alike (Begins m) h = ap (λ w. Begins w) (name_alike m h)
+    event_alike (Ends m) h = ap (λ w. Ends w) (name_alike m h)
+    event_alike (Throws m) h = ap (λ w. Throws w) (name_alike m h)
 
-    events_alike : (es : List (Event ℕ)) → AllByRecursion (HasRecordBy (length us)) es → map (renamed_event (numbering us)) es ≡ map (renamed_event (numbering More)) es
+    events_alike : (es : List (Event ℕ)) → AllByRecursion (FitEvent linked entries) (map (renamed_event (numbering us)) es) → map (renamed_event (numbering us)) es ≡ map (renamed_event (numbering More)) es
     events_alike [] h = refl
     events_alike (e ∷ es) h = λ i. event_alike e h.0 i ∷ events_alike es h.1 i
 
-    entry_alike : (e : EntryHeld) → KnowsEntry (IsKnownValue linked entries) (entry_by F e) → entry_by F e ≡ entry_by G e
+    entry_alike : (e : EntryHeld) → FitEntry linked entries (entry_by F e) → entry_by F e ≡ entry_by G e
     entry_alike Underway h = refl
     entry_alike Ended h = refl
     entry_alike (Failed v) h = ap (λ w. EntryState.Failed w) (value_alike v h)
@@ -291,7 +291,7 @@ module _ (h : Held) (linked : List Url) (u : Url) (k : IsHeld h linked) (new : h
 
   engine_alike : renamed_engine (numbering Us) h.engine ≡ renamed_engine (numbering (Us ++ u ∷ [])) h.engine
   engine_alike = λ i. record {
-    events = events_alike Us u k.apart new linked Table' k.have_ids h.engine.events k.events i;
+    events = events_alike Us u k.apart new linked Table' k.have_ids h.engine.events k.fits.events i;
     log = h.engine.log;
     steps = h.engine.steps;
     standing = standing_alike Us u k.apart new linked Table' k.have_ids k.fits.modules h.seen.loading refl h.engine.standing k.fits.state.standing i;
@@ -312,7 +312,7 @@ module _ (h : Held) (linked : List Url) (u : Url) (k : IsHeld h linked) (new : h
     errors = h.errors;
     cells = λ v x. cells_alike Us u k.apart new linked Table' k.have_ids h.cells k.cells v x (known_cell v x) i;
     engine = engine_alike i;
-    entry = entry_alike Us u k.apart new linked Table' k.have_ids h.entry k.entry i;
+    entry = entry_alike Us u k.apart new linked Table' k.have_ids h.entry k.fits.entry i;
   }
 
 pub records_are_added : RecordsAreAdded

@@ -4,3 +4,7 @@ pub mod Grown
 pub mod Following
 pub mod Opens
 pub mod Tells
+pub mod Steps
+pub mod HoldsBack
+pub mod FitsById
+pub mod Arrivals

@@ -1,6 +1,5 @@
 -- What a machine holds between two jobs, by ids, and the worlds that it stands for.
-use Rattle.std.specs.Prelude.{◌≡◌, ◌≤◌, ◌<◌, ℕ, Bool, true, false, List, [], ◌∷◌, ◌++◌, map, length, Some, None, ⊤}
-use Rattle.std.specs.List.{AllByRecursion}
+use Rattle.std.specs.Prelude.{◌≡◌, ◌≤◌, ℕ, Bool, true, false, List, [], ◌∷◌, ◌++◌, map, length, Some, None}
 use Rattle.esm_base.specs.declared.limits.Limit.{Limit}
 use Rattle.esm_base.specs.Lists.{EachOnce}
 use Rattle.esm_base.specs.Urls.{Url, has, same_url}
@@ -19,12 +18,12 @@ use Rattle.esm_eval.specs.Table.{Table, node_at, no_nodes}
 use Rattle.esm_loads.specs.Loading.{Loading, opening_loading}
 use Rattle.esm_loads.specs.LoadsView.{every_form}
 use Rattle.esm_loads.specs.Hosted.{host_of}
-use Rattle.esm_body.specs.State.{State, Engine, opening_engine, Event, Begins, Ends, Throws}
+use Rattle.esm_body.specs.State.{State, Engine, opening_engine}
 use Rattle.esm_body.specs.Naming.{renamed_engine}
 use Rattle.esm_world.specs.World as world
 use Rattle.esm_world.specs.World.{World, EntryState, opening, stopped}
 use Rattle.esm_world.specs.World.{EntryState as entry_state}
-use Rattle.esm_world.specs.Fits.{FitsWorld, IsKnownValue}
+use Rattle.esm_world.specs.Fits.{FitsWorld}
 use Rattle.esm_values.specs.Numbering.{numbering, is_total}
 use Rattle.esm_machine.specs.Seen.{Seen}
 
@@ -86,26 +85,13 @@ pub record IsHalted (limit : Limit) (log : List ℕ) (w : World) : Type 0 where
 
 -- ---- the end of a fetch that brings a record
 
--- the module of an event has a record
-abbrev pub HasRecordBy : ℕ → Event ℕ → Type 0
-HasRecordBy many (Begins m) = m < many
-HasRecordBy many (Ends m) = m < many
-HasRecordBy many (Throws m) = m < many
-
-abbrev pub KnowsEntry : (Value Url → Type 0) → EntryState → Type 0
-KnowsEntry Knows entry_state.Underway = ⊤
-KnowsEntry Knows entry_state.Ended = ⊤
-KnowsEntry Knows (entry_state.Failed v) = Knows v
-
--- what holds of it between two jobs: the world fits, each linked module has a record, and all else is of modules that have one
+-- what holds of it between two jobs: the world fits, each linked module has a record, and nodes and cells are of modules that have one
 pub record IsHeld (h : Held) (linked : List Url) : Type 0 where
   pub fits : FitsWorld linked h.seen.loading.entries (world_of h linked)
   pub apart : EachOnce same_url h.seen.urls
   pub have_ids : (u : Url) → has linked u ≡ true → has h.seen.urls u ≡ true
   pub nodes : length h.nodes.nodes ≤ length h.seen.urls
   pub cells : (m : ℕ) (x : List ℕ) → length h.seen.urls ≤ m → h.cells m x ≡ None
-  pub events : AllByRecursion (HasRecordBy (length h.seen.urls)) h.engine.events
-  pub entry : KnowsEntry (IsKnownValue linked h.seen.loading.entries) (world_of h linked).entry
 
 -- with a record more, which has this URL
 abbrev pub with_record : Held → Url → Held

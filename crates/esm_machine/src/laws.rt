@@ -1,6 +1,9 @@
 // Laws of the definitions, as functions without effect.
 ghost use Rattle.esm_machine.specs.Following.{BodiesAreOfTheWorld, LinkingIsOfTheWorld};
 ghost use Rattle.esm_machine.specs.Held.{LoadingIsOfTheWorld, OpensAsWorld, RecordsAreAdded};
+ghost use Rattle.esm_machine.specs.Arrivals.{ArrivalsAreOfTheWorld};
+ghost use Rattle.esm_machine.specs.FitsById.{WorldsFitById};
+ghost use Rattle.esm_machine.specs.Steps.{StepsAreOfTheWorld};
 ghost use Rattle.esm_machine.specs.Represents.{OpeningRepresents, TellsTheRun, TurnsAreTaken};
 
 /// What bodies do by ids, they do in the world.
@@ -42,3 +45,22 @@ pub fn tells_the_run()
 pub fn turns_are_taken()
     ensures { TurnsAreTaken }
 {}
+
+/// What the steps of a job do by ids, they do in the world: the first job, its result, promises, errors, the entry, what is
+/// linked, and a body that goes on behind its await, up to the limit that stops it.
+pub fn steps_are_of_the_world()
+    ensures { StepsAreOfTheWorld }
+{}
+
+/// Where the world that is stood for fits, what is held fits by ids, as bodies and evaluation ask for it.
+pub fn worlds_fit_by_id()
+    ensures { WorldsFitById }
+{}
+
+/// What the end of a fetch that is allowed, with the record of a module, and the answer of a pending request do by ids, they
+/// do in the world.
+pub fn arrivals_are_of_the_world()
+    ensures { ArrivalsAreOfTheWorld }
+{
+    esm_resolve::laws::shared_set()
+}

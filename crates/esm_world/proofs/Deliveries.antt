@@ -168,7 +168,7 @@ runs_once (d ∷ e ∷ ds) w after r =
 
 -- ---- each was asked
 
-runs_asked : (ds : List Delivery) (w after : World) (v : Url) → Runs w ds after → (has (urls_of ds) v ≡ true) ⊎ (has w.loading.asked v ≡ true) → has after.loading.asked v ≡ true
+pub runs_asked : (ds : List Delivery) (w after : World) (v : Url) → Runs w ds after → (has (urls_of ds) v ≡ true) ⊎ (has w.loading.asked v ≡ true) → has after.loading.asked v ≡ true
 runs_asked [] w after v r (inl h) = absurd (true≢false (sym h))
 runs_asked [] w after v r (inr h) = subst (λ w. has w.loading.asked v ≡ true) (sym r) h
 runs_asked (d ∷ ds) w after v r h = by h (runs_asked ds r.1 after v r.3)

@@ -39,15 +39,15 @@ module _ {N V W S : Type 0} (E : Evaluation N V W) (acts : BodyCalls N V W S) (K
   abbrev closed : W → N → N → Node N V
   closed w x y = record (E.node w y) { phase = closed_phase E (is_stamped E w y); cycle_root = Some x }
 
-  close_keeps : (w : W) (x : N) (ys : List N) → Keep w (close E w x ys)
+  pub close_keeps : (w : W) (x : N) (ys : List N) → Keep w (close E w x ys)
   close_keeps w x [] = k.same w
   close_keeps w x (y ∷ ys) = k.on (k.put w y (closed w x y)) (close_keeps (E.put w y (closed w x y)) x ys)
 
-  fail_keeps : (w : W) (v : V) (ys : List N) → Keep w (fail E w v ys)
+  pub fail_keeps : (w : W) (v : V) (ys : List N) → Keep w (fail E w v ys)
   fail_keeps w v [] = k.same w
   fail_keeps w v (y ∷ ys) = k.on (k.put w y (record (E.node w y) { phase = Evaluated; error = Some v })) (fail_keeps (E.put w y (record (E.node w y) { phase = Evaluated; error = Some v })) v ys)
 
-  wait_keeps : (w : W) (x : N) (y : Option N) → Keep w (add_wait E w x y)
+  pub wait_keeps : (w : W) (x : N) (y : Option N) → Keep w (add_wait E w x y)
   wait_keeps w x None = k.same w
   wait_keeps w x (Some y) = k.on (k.put w x (record (E.node w x) { waits = (E.node w x).waits ++ y ∷ [] })) (k.put (put_wait E w x y) y _)
 
@@ -61,10 +61,10 @@ module _ {N V W S : Type 0} (E : Evaluation N V W) (acts : BodyCalls N V W S) (K
   marks_keeps {opened = o} (leave_throws {mid = mid} u l) = k.on (leaves_keeps l) (fail_keeps mid u o)
   marks_keeps (leave_stops why l) = leaves_keeps l
 
-  keep_keeps : (w : W) (m : N) → Keep w (keep E w m)
+  pub keep_keeps : (w : W) (m : N) → Keep w (keep E w m)
   keep_keeps w m = k.on (k.make w) (k.put _ _ _)
 
-  settle_keeps : (w : W) (p : ℕ) (h : Phase) → Keep w (fulfill_by E w p h)
+  pub settle_keeps : (w : W) (p : ℕ) (h : Phase) → Keep w (fulfill_by E w p h)
   settle_keeps w p NotEntered = k.same w
   settle_keeps w p Evaluating = k.same w
   settle_keeps w p EvaluatingAsync = k.same w
@@ -88,7 +88,7 @@ module _ {N V W S : Type 0} (E : Evaluation N V W) (acts : BodyCalls N V W S) (K
   reject_keeps w None v = k.same w
   reject_keeps w (Some p) v = k.reject w p v
 
-  finish_keeps : (w : W) (x : N) → Keep w (finish E w x)
+  pub finish_keeps : (w : W) (x : N) → Keep w (finish E w x)
   finish_keeps w x = k.on (k.put _ _ _) (fulfill_keeps _ (E.node w x).promise)
 
   refuse_keeps : (w : W) (x : N) (v : V) → Keep w (refuse E w x v)

@@ -23,6 +23,8 @@ use Rattle.esm_world.specs.Layers.{Executes, evaluation, with_linked}
 use Rattle.esm_world.specs.Jobs.{EvaluatesLoad, Reacts, when_evaluated}
 use Rattle.esm_world.specs.Jobs.Reacts.{entry_linked, entry_fault, entry_refused, entry_ended, entry_threw, linked, fault, refused, evaluated, threw, body_ended, body_threw, resumes}
 use Rattle.esm_world.specs.Turn.{fetched}
+use Rattle.esm_world.specs.Sound as sound
+use Rattle.esm_world.specs.Sound.{Own, EvaluatedAreLinked}
 use Rattle.esm_world.proofs.Each.{pushed, joined, put, all_on}
 use Rattle.esm_world.proofs.OuterKeeps.{Around, LastsOuter, CallEnds, EndsSo, starts_around, runs_around, resumes_around}
 use Rattle.esm_world.proofs.EvalKeeps.{Lasts, evaluates_keeps, fulfills_keeps, rejects_keeps}
@@ -39,24 +41,17 @@ Row = p.Promise (Reaction Url) (Value Url)
 
 -- the load of a reaction to an evaluation is such
 module _ (Q : ℕ → Type 0) where
-  abbrev pub OfLoad : Reaction Url → Type 0
-  OfLoad (Await m) = ⊤
-  OfLoad (BodyEnd m) = ⊤
-  OfLoad (Loaded s) = ⊤
-  OfLoad (Evaluated s) = Q s
-  OfLoad EntryLoaded = ⊤
-  OfLoad EntryDone = ⊤
+  abbrev OfLoad : Reaction Url → Type 0
+  OfLoad = sound.OfLoad Q
 
-  abbrev pub OnPromise : Row → Type 0
-  OnPromise (Pending rs) = AllByRecursion OfLoad rs
-  OnPromise (Done how) = ⊤
+  abbrev OnPromise : Row → Type 0
+  OnPromise = sound.OnPromise Q
 
-  abbrev pub InJob : Job (Reaction Url) → Type 0
-  InJob j = OfLoad j.reaction
+  abbrev InJob : Job (Reaction Url) → Type 0
+  InJob = sound.InJob Q
 
-  pub record LoadsAre (ps : Queue) : Type 0 where
-    pub all : AllByRecursion OnPromise ps.all
-    pub jobs : AllByRecursion InJob ps.jobs
+  abbrev LoadsAre : Queue → Type 0
+  LoadsAre = sound.LoadsAre Q
 
   abbrev At : Option Row → Type 0
   At None = ⊤
@@ -228,18 +223,6 @@ module _ (Q : ℕ → Type 0) where
   reacts_keep (resumes f) n h = call_keeps (resumes_around same_url modules_in BeginsImport KeepsHost lasts_outer f) h
 
 -- ---- linked roots
-
--- the load is complete, and its root is linked
-pub record IsLinkedLoad (l : Loading) (linked_are : List Url) (s : ℕ) : Type 0 where
-  pub root : Url
-  pub is_root : root_of_load l s ≡ Some root
-  pub linked : has linked_are root ≡ true
-
-abbrev pub Own : World → ℕ → Type 0
-Own w s = IsLinkedLoad w.loading w.linked s
-
-abbrev pub EvaluatedAreLinked : World → Type 0
-EvaluatedAreLinked w = LoadsAre (Own w) w.promises
 
 of_more : (P Q : ℕ → Type 0) → ((s : ℕ) → P s → Q s) → (r : Reaction Url) → OfLoad P r → OfLoad Q r
 of_more P Q f (Await m) k = tt

@@ -59,7 +59,7 @@ module _ {W V S : Type 0} (acts : Acting W V S) (P : S → W → Type 0) (k : St
     abbrev Plans : Type 0 → Type 0
     Plans A = Plan V S A
 
-    complete_never : {A : Type 0} (rest : V → A) (c : Completion V) → Never {S = S} (complete values rest c)
+    pub complete_never : {A : Type 0} (rest : V → A) (c : Completion V) → Never {S = S} (complete values rest c)
     complete_never rest (Normal v) = Never.ends tt
     complete_never rest (Throw v) = Never.ends tt
 
@@ -79,7 +79,7 @@ module _ {W V S : Type 0} (acts : Acting W V S) (P : S → W → Type 0) (k : St
     operand_never v look.Error next h = Never.asks (λ t. h (look.Text t))
     operand_never v look.Other next h = h look.Other
 
-    sum_never : {A : Type 0} (a b : V) (rest : V → A) → Never {S = S} (sum values a b rest)
+    pub sum_never : {A : Type 0} (a b : V) (rest : V → A) → Never {S = S} (sum values a b rest)
     sum_never a b rest = operand_never a (values.look a) _ (λ l. operand_never b (values.look b) _ (λ m. made_never rest (joined l m)))
 
     text_never : {A : Type 0} (v : V) (t : Textual) (next : List ℕ → Plans A) → ((s : List ℕ) → Never (next s)) → Never (to_text_by values v t next)
@@ -87,7 +87,7 @@ module _ {W V S : Type 0} (acts : Acting W V S) (P : S → W → Type 0) (k : St
     text_never v Displayed next h = Never.asks h
     text_never v Refused next h = Never.asks (λ r. Never.ends tt)
 
-    error_never : {A : Type 0} (rest : V → A) (v : V) (l : Look) → Never {S = S} (error_of values rest v l)
+    pub error_never : {A : Type 0} (rest : V → A) (v : V) (l : Look) → Never {S = S} (error_of values rest v l)
     error_never rest v look.Undefined = Never.asks (λ r. Never.ends tt)
     error_never rest v (look.Truth b) = text_never v (textual (look.Truth b)) (new_error values rest) (λ s. Never.asks (λ r. Never.ends tt))
     error_never rest v (look.Text t) = text_never v (textual (look.Text t)) (new_error values rest) (λ s. Never.asks (λ r. Never.ends tt))
@@ -95,7 +95,7 @@ module _ {W V S : Type 0} (acts : Acting W V S) (P : S → W → Type 0) (k : St
     error_never rest v look.Error = text_never v (textual look.Error) (new_error values rest) (λ s. Never.asks (λ r. Never.ends tt))
     error_never rest v look.Other = text_never v (textual look.Other) (new_error values rest) (λ s. Never.asks (λ r. Never.ends tt))
 
-    enters_never : (f : V) (vs : List V) (ls : LinkTerms V) (l : Look) → Never {S = S} (enters values f vs ls l)
+    pub enters_never : (f : V) (vs : List V) (ls : LinkTerms V) (l : Look) → Never {S = S} (enters values f vs ls l)
     enters_never f vs ls look.Undefined = Never.asks (λ r. Never.ends tt)
     enters_never f vs ls (look.Truth b) = Never.asks (λ r. Never.ends tt)
     enters_never f vs ls (look.Text t) = Never.asks (λ r. Never.ends tt)

@@ -22,13 +22,16 @@ use Rattle.esm_eval.specs.Nodes.{Node, was_entered, Start, Run}
 use Rattle.esm_eval.specs.Evaluation.{phase, IsLawful}
 use Rattle.esm_eval.specs.Keeping.{IsNodeOf, CanEvaluate, HasOutcomes, throws_known}
 use Rattle.esm_eval.proofs.HasEvaluation.{has_evaluation}
-use Rattle.esm_body.specs.State.{State}
+use Rattle.std.specs.List.{AllByRecursion}
+use Rattle.esm_body.specs.State.{State, Event, Begins, Ends, Throws}
 use Rattle.esm_body.specs.Bodies.{Taken, take_standing, given_by, ResumesBody}
 use Rattle.esm_body.specs.Fits.{FitsState, StaysFit}
 use Rattle.esm_body.proofs.SomeBody.{some_start, some_run, some_resume, RanKnown}
 use Rattle.esm_world.specs.World.{World, modules_in, state_of, with_state}
 use Rattle.esm_world.specs.Layers.{Executes, evaluation, with_promises}
-use Rattle.esm_world.specs.Fits.{IsLinkedModule, AreModules, IsKnownValue, FitSettled, FitPromises, FitsHost, FitsWorld}
+use Rattle.esm_world.specs.Fits.{IsLinkedModule, AreModules, IsKnownValue, FitSettled, FitPromises, FitsHost, FitEvent, FitsWorld}
+use Rattle.esm_world.proofs.Each.{all_on}
+use Rattle.esm_world.proofs.EventsKept.{IsOf, starts_events, runs_events, resumes_events}
 use Rattle.esm_world.proofs.FitLists.{made, settled}
 use Rattle.esm_world.proofs.FitBodies.{IsIn, known_in, known_out, are_linked, bodies}
 
@@ -83,10 +86,32 @@ module _ (linked : List Url) (entries : Entries) (h : AreModules linked entries)
     nodes = f.nodes;
     stamps = f.stamps;
     entered = f.entered;
+    events = f.events;
+    entry = f.entry;
   }
 
-  pub with_fit_state : (w : World) (s : State Url Loading) → Fits w → FitState s → Fits (with_state w s)
-  with_fit_state w s f k = record { modules = f.modules; linked_are = f.linked_are; state = k; nodes = f.nodes; stamps = f.stamps; entered = f.entered }
+  abbrev FitEvents : List (Event Url) → Type 0
+  FitEvents es = AllByRecursion (FitEvent linked entries) es
+
+  -- an event of a linked module
+  own : (e : Event Url) → IsOf IsModule e → FitEvent linked entries e
+  own (Begins m) k = k
+  own (Ends m) k = k
+  own (Throws m) k = k
+
+  of : (e : Event Url) → FitEvent linked entries e → IsOf IsModule e
+  of (Begins m) k = k
+  of (Ends m) k = k
+  of (Throws m) k = k
+
+  in_events : (es : List (Event Url)) → FitEvents es → AllByRecursion (IsOf IsModule) es
+  in_events es k = all_on (FitEvent linked entries) (IsOf IsModule) es of k
+
+  out_events : (es : List (Event Url)) → AllByRecursion (IsOf IsModule) es → FitEvents es
+  out_events es k = all_on (IsOf IsModule) (FitEvent linked entries) es own k
+
+  pub with_fit_state : (w : World) (s : State Url Loading) → Fits w → FitState s → FitEvents s.engine.events → Fits (with_state w s)
+  with_fit_state w s f k e = record { modules = f.modules; linked_are = f.linked_are; state = k; nodes = f.nodes; stamps = f.stamps; entered = f.entered; events = e; entry = f.entry }
 
   node_put : (w : World) (x : Url) (n : Node Url (Value Url)) → Fits w → IsNodeOf IsModule IsKnown n → (u : Url) → IsNodeOf IsModule IsKnown (put_at w.nodes x n u)
   node_put w x n f k u = by (same_url x u)
@@ -110,6 +135,8 @@ module _ (linked : List Url) (entries : Entries) (h : AreModules linked entries)
     nodes = node_put w x n f k;
     stamps = f.stamps;
     entered = entered_put w x n f m;
+    events = f.events;
+    entry = f.entry;
   }
 
   add_stamp : (w : World) (x : Url) → Fits w → IsModule x → Fits (evaluation.add_stamp w x)
@@ -120,6 +147,8 @@ module _ (linked : List Url) (entries : Entries) (h : AreModules linked entries)
     nodes = f.nodes;
     stamps = All-push IsModule w.stamps x f.stamps m;
     entered = f.entered;
+    events = f.events;
+    entry = f.entry;
   }
 
   -- ---- what is read
@@ -151,7 +180,7 @@ module _ (linked : List Url) (entries : Entries) (h : AreModules linked entries)
       let late = evaluation.make_body_promise w m in
       let g = with_fit_promises w (make w.promises (BodyEnd m ∷ [])) f (made linked entries w.promises (BodyEnd m ∷ []) (k, tt) f.state.whole.promises) in
       let s = some_start same_url modules_in (IsIn linked entries h) (FitsHost linked entries) BeginsImport (bodies linked entries h agrees ends) (state_of late) m (next_promise w.promises) g.state k in
-      (s.0, with_state late s.1.0, Executes.start s.1.1.0, with_fit_state late s.1.0 g s.1.1.1.fits)
+      (s.0, with_state late s.1.0, Executes.start s.1.1.0, with_fit_state late s.1.0 g s.1.1.1.fits (out_events s.1.0.engine.events (starts_events same_url modules_in BeginsImport IsModule s.1.1.0 k (in_events w.engine.events f.events))))
 
   thrown : (l : Loading) → l.entries ≡ entries → (r : Result (Ran (Value Url)) Limit) → RanKnown same_url modules_in (IsIn linked entries h) (FitsHost linked entries) BeginsImport (bodies linked entries h agrees ends) l r → throws_known IsKnown r
   thrown l e (Ok (ran.Thrown v)) k = known_out linked entries h l e v k
@@ -161,14 +190,14 @@ module _ (linked : List Url) (entries : Entries) (h : AreModules linked entries)
   ran_body : (w : World) (m : Url) → Fits w → IsModule m → evaluation.awaits w m ≡ false → (r : Result (Ran (Value Url)) Limit) × (after : World) × Executes w (Run m) r after × Fits after × throws_known IsKnown r
   ran_body w m f k a =
       let s = some_run same_url modules_in (IsIn linked entries h) (FitsHost linked entries) BeginsImport (bodies linked entries h agrees ends) (state_of w) m f.state k a in
-      (s.0, with_state w s.1.0, Executes.run s.1.1.0, with_fit_state w s.1.0 f s.1.1.1.0.fits, thrown s.1.0.outer.imports s.1.1.1.0.fits.whole.entries_are s.0 s.1.1.1.1)
+      (s.0, with_state w s.1.0, Executes.run s.1.1.0, with_fit_state w s.1.0 f s.1.1.1.0.fits (out_events s.1.0.engine.events (runs_events same_url modules_in BeginsImport IsModule s.1.1.0 k (in_events w.engine.events f.events))), thrown s.1.0.outer.imports s.1.1.1.0.fits.whole.entries_are s.0 s.1.1.1.1)
 
   -- a body that stands at an await goes on
   pub resumed : (w : World) (m : Url) (t : Taken Url) (how : Settled (Value Url)) → Fits w → IsModule m → take_standing same_url w.engine.standing m ≡ Some t → FitSettled linked entries how
       → (end : Result (Unit {0}) Limit) × ((s : State Url Loading) × (ResumesBody same_url modules_in BeginsImport (state_of w) m how end s × Fits (with_state w s)))
   resumed w m t how f k e q =
       let s = some_resume same_url modules_in (IsIn linked entries h) (FitsHost linked entries) BeginsImport (bodies linked entries h agrees ends) (state_of w) m t how f.state k e (given w.loading f.state.whole.entries_are how q) in
-      (s.0, (s.1.0, (s.1.1.0, with_fit_state w s.1.0 f s.1.1.1.fits)))
+      (s.0, (s.1.0, (s.1.1.0, with_fit_state w s.1.0 f s.1.1.1.fits (out_events s.1.0.engine.events (resumes_events same_url modules_in BeginsImport IsModule s.1.1.0 k (in_events w.engine.events f.events))))))
     where
       given : (l : Loading) → l.entries ≡ entries → (how : Settled (Value Url)) → FitSettled linked entries how → Rattle.esm_expr_eval.specs.Ready.Holds (Rattle.esm_body.specs.Fits.Knows modules_in (IsIn linked entries h) l) ⊥ (given_by how)
       given l e (Fulfilled v) k = known_in linked entries h l e v k

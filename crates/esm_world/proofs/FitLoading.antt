@@ -25,13 +25,14 @@ use Rattle.esm_loads.specs.Laws.{IsOrderly}
 use Rattle.esm_loads.proofs.Orderly.{stays_orderly, only_grows, put_other}
 use Rattle.esm_eval.specs.Nodes.{Node}
 use Rattle.esm_eval.specs.Keeping.{IsNodeOf}
-use Rattle.esm_body.specs.State.{Standing}
+use Rattle.esm_body.specs.State.{Standing, Event, Begins, Ends, Throws}
 use Rattle.esm_body.specs.Fits.{FitStanding, Knows, of_body}
 use Rattle.esm_body.proofs.Grown.{held_rest}
-use Rattle.esm_world.specs.World.{World, url_at, modules_in, host_of, with_host, opening}
+use Rattle.esm_world.specs.World.{World, EntryState, Underway, Ended, Failed, url_at, modules_in, host_of, with_host, opening}
 use Rattle.esm_world.specs.Layers.{with_linked}
 use Rattle.esm_world.specs.Turn.{fetched}
-use Rattle.esm_world.specs.Fits.{IsLinkedModule, AreModules, IsKnownValue, FitReaction, FitSettled, FitPromise, FitPromises, FitsHost, FitsWorld, IsFit}
+use Rattle.esm_world.specs.Fits.{IsLinkedModule, AreModules, IsKnownValue, FitReaction, FitSettled, FitPromise, FitPromises, FitsHost, FitEvent, FitEntry, FitsWorld, IsFit}
+use Rattle.esm_world.proofs.Each.{all_on}
 use Rattle.esm_world.proofs.FitBodies.{IsIn, known_in, known_out, fit_answered}
 
 -- ---- the opening world
@@ -48,6 +49,8 @@ opening_fits maps built entry trace = record {
   nodes = λ u. record { error = tt; root = tt; waits = All-nil _; waiters = All-nil _ };
   stamps = All-nil _;
   entered = λ u e. absurd cc;
+  events = tt;
+  entry = tt;
 }
 
 -- ---- what fits with less fits with more
@@ -93,6 +96,16 @@ module _ (linked more : List Url) (entries later : Entries) (h : AreModules link
   more_standing l m e f (s ∷ ss) k =
       (grow s.at k.0, held_rest (Knows modules_in (IsIn linked entries h) l) (Knows modules_in (IsIn more later g) m) (more_known l m e f) ⊤ (of_body true) s.rest k.1, more_standing l m e f ss k.2)
 
+  more_event : (e : Event Url) → FitEvent linked entries e → FitEvent more later e
+  more_event (Begins m) k = grow m k
+  more_event (Ends m) k = grow m k
+  more_event (Throws m) k = grow m k
+
+  more_entry : (e : EntryState) → FitEntry linked entries e → FitEntry more later e
+  more_entry Underway k = tt
+  more_entry Ended k = tt
+  more_entry (Failed v) k = keeps v k
+
   some_more : {A : Type 0} (P Q : A → Type 0) (o : Option A) → ((a : A) → P a → Q a) → IfSome o P → IfSome o Q
   some_more P Q None f k = tt
   some_more P Q (Some a) f k = f a k
@@ -118,6 +131,8 @@ module _ (linked more : List Url) (entries later : Entries) (h : AreModules link
     nodes = λ u. more_node (w.nodes u) (f.nodes u);
     stamps = All-weaker _ _ grow w.stamps f.stamps;
     entered = λ u e. grow u (f.entered u e);
+    events = all_on (FitEvent linked entries) (FitEvent more later) w.engine.events more_event f.events;
+    entry = more_entry w.entry f.entry;
   }
 
 -- ---- more modules are linked

@@ -1,7 +1,7 @@
 -- In a world that fits each job has an outcome: linking and evaluating a load that is complete, what follows the end of a body, and a
 -- body that goes on.
 use Rattle.std.proofs.Common.{◌≡◌, ℕ, ◌<◌, true, List, Option, Some, None, refl, ap, subst, sym, ◌∙◌, length}
-use Rattle.std.specs.Prelude.{Result, Ok, Err, ⊤}
+use Rattle.std.specs.Prelude.{Result, Ok, Err}
 use Rattle.esm_base.specs.declared.limits.Limit.{Limit}
 use Rattle.esm_base.specs.Urls.{Url, has, same_url}
 use Rattle.esm_ast.specs.Entries.{requests_of, entries_of, entries_with}
@@ -19,23 +19,19 @@ use Rattle.esm_body.specs.Fits.{AreLinked}
 use Rattle.esm_world.specs.World.{World, EntryState, modules_in, with_state}
 use Rattle.esm_world.specs.Layers.{LinksTo, with_linked}
 use Rattle.esm_world.specs.Jobs.{Reacts, when_evaluated}
-use Rattle.esm_world.specs.Fits.{IsLinkedModule, AreModules, IsKnownValue, FitReaction, FitSettled, FitPromises, FitsWorld, IsFit}
+use Rattle.esm_world.specs.Fits.{IsLinkedModule, AreModules, IsKnownValue, FitReaction, FitSettled, FitPromises, FitEntry, FitsWorld, IsFit}
 use Rattle.esm_world.specs.Loaded.{FitsLoading}
 use Rattle.esm_world.specs.Told.{IsTold}
+use Rattle.esm_world.specs.Sound.{LinkedAreUnlinked, Finds, LinkingStaysReady}
 use Rattle.esm_world.proofs.FitLists.{settled, registered}
 use Rattle.esm_world.proofs.FitBodies.{are_linked}
 use Rattle.esm_world.proofs.FitLoading.{relinked}
 use Rattle.esm_world.proofs.FitEvaluation.{evaluated as evaluates, resumed}
 use Rattle.esm_world.proofs.LoadedFits.{has_link, linked_stays_linked}
 use Rattle.esm_world.proofs.LoadingKept.{reacts_keep_loading}
-use Rattle.esm_world.proofs.EvaluatedLinked.{IsLinkedLoad}
 use Rattle.esm_world.proofs.StartsOnce.{lawful}
 
 -- ---- worlds
-
--- what is linked is Unlinked, or was
-abbrev pub LinkedAreUnlinked : World → Type 0
-LinkedAreUnlinked w = (u : Url) → has w.linked u ≡ true → w.loading.unlinked u ≡ true
 
 -- a world that fits, over its own modules
 pub fit_own : (linked : List Url) (entries : Entries) (w : World) → FitsWorld linked entries w → IsFit w
@@ -44,21 +40,17 @@ fit_own linked entries w f =
 
 -- other errors and promises, and another state of the entry
 pub fit_with : (linked : List Url) (entries : Entries) (w : World) (es : Errors) (ps : Promises (Reaction Url) (Value Url)) (e : EntryState) → FitsWorld linked entries w → FitPromises linked entries ps
-    → FitsWorld linked entries (record w { errors = es; promises = ps; entry = e })
-fit_with linked entries w es ps e f k = record {
+    → FitEntry linked entries e → FitsWorld linked entries (record w { errors = es; promises = ps; entry = e })
+fit_with linked entries w es ps e f k n = record {
   modules = f.modules;
   linked_are = f.linked_are;
   state = record { whole = record { entries_are = f.state.whole.entries_are; orderly = f.state.whole.orderly; promises = k }; cells = f.state.cells; standing = f.state.standing };
   nodes = f.nodes;
   stamps = f.stamps;
   entered = f.entered;
+  events = f.events;
+  entry = n;
 }
-
--- what the job of the reaction looks for: its body stands at an await, and the root of its load is linked
-abbrev pub Finds : World → Reaction Url → Type 0
-Finds w (Await m) = (t : Taken Url) × (take_standing same_url w.engine.standing m ≡ Some t)
-Finds w (Evaluated s) = IsLinkedLoad w.loading w.linked s
-Finds w _ = ⊤
 
 -- ---- linking
 
@@ -124,7 +116,7 @@ module _ (agrees : SharedSetAgrees) (ends : SharedSetEnds) where
 
   -- the reaction to an evaluation is registered
   fit_when : (linked : List Url) (entries : Entries) (w : World) (r : Reaction Url) (a : Result ℕ Limit) → FitReaction linked entries r → FitsWorld linked entries w → FitsWorld linked entries (when_evaluated w r a)
-  fit_when linked entries w r (Ok p) k f = fit_with linked entries w w.errors (register w.promises p r) w.entry f (registered linked entries w.promises p r k f.state.whole.promises)
+  fit_when linked entries w r (Ok p) k f = fit_with linked entries w w.errors (register w.promises p r) w.entry f (registered linked entries w.promises p r k f.state.whole.promises) f.entry
   fit_when linked entries w r (Err why) k f = f
 
   module _ (w : World) (f : IsFit w) (g : FitsLoading w.loading) (among : LinkedAreUnlinked w) where
@@ -132,11 +124,11 @@ module _ (agrees : SharedSetAgrees) (ends : SharedSetEnds) where
     settles : (after : World) (p : ℕ) (value : Settled (Value Url)) (r : Reaction Url) (how : Settled (Value Url)) → FitSettled w.linked w.loading.entries value
         → after ≡ (record w { promises = settle w.promises p value }) → Reacts w r how after → SomeReaction w r how
     settles after p value r how k e q = some_of w after w.linked w.loading.entries r how q
-        (subst (λ v. FitsWorld w.linked w.loading.entries v) (sym e) (fit_with w.linked w.loading.entries w w.errors (settle w.promises p value) w.entry f (settled w.linked w.loading.entries w.promises p value k f.state.whole.promises))) among (λ u h. h)
+        (subst (λ v. FitsWorld w.linked w.loading.entries v) (sym e) (fit_with w.linked w.loading.entries w w.errors (settle w.promises p value) w.entry f (settled w.linked w.loading.entries w.promises p value k f.state.whole.promises) f.entry)) among (λ u h. h)
 
     -- the state of the entry changes alone
-    enters : (e : EntryState) (r : Reaction Url) (how : Settled (Value Url)) → Reacts w r how (record w { entry = e }) → SomeReaction w r how
-    enters e r how q = some_of w (record w { entry = e }) w.linked w.loading.entries r how q (fit_with w.linked w.loading.entries w w.errors w.promises e f f.state.whole.promises) among (λ u h. h)
+    enters : (e : EntryState) (r : Reaction Url) (how : Settled (Value Url)) → FitEntry w.linked w.loading.entries e → Reacts w r how (record w { entry = e }) → SomeReaction w r how
+    enters e r how n q = some_of w (record w { entry = e }) w.linked w.loading.entries r how q (fit_with w.linked w.loading.entries w w.errors w.promises e f f.state.whole.promises n) among (λ u h. h)
 
     -- the root of a load that is complete is one that can be linked
     links_root : (s : ℕ) (root : Url) → root_of_load w.loading s ≡ Some root → LinksSome w root
@@ -155,7 +147,7 @@ module _ (agrees : SharedSetAgrees) (ends : SharedSetEnds) where
             (fit_when us w.loading.entries e.1 EntryDone e.0 tt e.3) all more
         by (Some x) us l fit all more =
             some_of w _ us w.loading.entries EntryLoaded (Fulfilled v) (Reacts.entry_fault root x us (record { is_root = h; links = l }))
-            (fit_with us w.loading.entries (with_linked w us) _ w.promises _ fit fit.state.whole.promises) all more
+            (fit_with us w.loading.entries (with_linked w us) _ w.promises _ fit fit.state.whole.promises tt) all more
 
     -- ---- an import()
 
@@ -170,7 +162,7 @@ module _ (agrees : SharedSetAgrees) (ends : SharedSetEnds) where
             (fit_when us w.loading.entries e.1 (Evaluated s) e.0 tt e.3) all more
         by (Some x) us l fit all more =
             some_of w _ us w.loading.entries (Loaded s) (Fulfilled v) (Reacts.fault p root x us i (record { is_root = h; links = l }))
-            (fit_with us w.loading.entries (with_linked w us) _ (settle w.promises p (Rejected _)) w.entry fit (settled us w.loading.entries w.promises p (Rejected _) tt fit.state.whole.promises)) all more
+            (fit_with us w.loading.entries (with_linked w us) _ (settle w.promises p (Rejected _)) w.entry fit (settled us w.loading.entries w.promises p (Rejected _) tt fit.state.whole.promises) fit.entry) all more
 
     -- the root of the load is linked
     evaluated_root : (s : ℕ) (v : Value Url) (p : ℕ) (root : Url) → import_promise w.loading s ≡ Some p → root_of_load w.loading s ≡ Some root → has w.linked root ≡ true → SomeReaction w (Evaluated s) (Fulfilled v)
@@ -204,6 +196,22 @@ module _ (agrees : SharedSetAgrees) (ends : SharedSetEnds) where
     some_reaction (Evaluated s) (Fulfilled v) k n t finds = evaluated_root s v t.0 finds.root t.2 finds.is_root finds.linked
     some_reaction (Evaluated s) (Rejected v) k n t finds = settles _ t.0 (Rejected v) (Evaluated s) (Rejected v) n refl (Reacts.threw t.0 t.2)
     some_reaction EntryLoaded (Fulfilled v) k n t finds = entry_loaded v t.0 t.1
-    some_reaction EntryLoaded (Rejected v) k n t finds = enters (EntryState.Failed v) EntryLoaded (Rejected v) Reacts.entry_refused
-    some_reaction EntryDone (Fulfilled v) k n t finds = enters EntryState.Ended EntryDone (Fulfilled v) Reacts.entry_ended
-    some_reaction EntryDone (Rejected v) k n t finds = enters (EntryState.Failed v) EntryDone (Rejected v) Reacts.entry_threw
+    some_reaction EntryLoaded (Rejected v) k n t finds = enters (EntryState.Failed v) EntryLoaded (Rejected v) n Reacts.entry_refused
+    some_reaction EntryDone (Fulfilled v) k n t finds = enters EntryState.Ended EntryDone (Fulfilled v) tt Reacts.entry_ended
+    some_reaction EntryDone (Rejected v) k n t finds = enters (EntryState.Failed v) EntryDone (Rejected v) n Reacts.entry_threw
+
+  -- ---- linking keeps what jobs need
+
+  pub links_stay_ready : LinkingStaysReady
+  links_stay_ready = record {
+    root = λ w s root f h. (has_link agrees ends).root w.loading s root f.loading h;
+    links = λ w root fault linked f h p.
+        let still = linked_stays_linked.links w.loading w.linked linked root fault f.loading h (are_linked w.linked w.loading.entries f.fit.modules w.loading refl f.fit.state.whole.orderly) f.unlinked p in
+        record {
+          fit = relinked w.linked linked w.loading.entries f.fit.modules (modules_of w.loading linked f.loading still.modules still.unlinked) still.stays w f.fit;
+          loading = f.loading;
+          unlinked = still.unlinked;
+          steps = f.steps;
+        };
+    linked = λ w root linked p. linked_stays_linked.root w.loading w.linked linked root p;
+  }

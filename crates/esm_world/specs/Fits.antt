@@ -15,7 +15,8 @@ use Rattle.esm_loads.specs.Laws.{IsOrderly}
 use Rattle.esm_eval.specs.Nodes.{was_entered}
 use Rattle.esm_eval.specs.Keeping.{IsNodeOf}
 use Rattle.esm_body.specs.Fits.{IsKnown, FitsState}
-use Rattle.esm_world.specs.World.{World, url_at, modules_in, state_of}
+use Rattle.esm_body.specs.State.{Event, Begins, Ends, Throws}
+use Rattle.esm_world.specs.World.{World, EntryState, Underway, Ended, Failed, url_at, modules_in, state_of}
 
 -- over these linked modules and these entries of the table
 module _ (linked : List Url) (entries : Entries) where
@@ -68,6 +69,16 @@ module _ (linked : List Url) (entries : Entries) where
 
   -- ---- worlds
 
+  abbrev pub FitEvent : Event Url → Type 0
+  FitEvent (Begins m) = IsLinkedModule m
+  FitEvent (Ends m) = IsLinkedModule m
+  FitEvent (Throws m) = IsLinkedModule m
+
+  abbrev pub FitEntry : EntryState → Type 0
+  FitEntry Underway = ⊤
+  FitEntry Ended = ⊤
+  FitEntry (Failed v) = IsKnownValue v
+
   pub record FitsHost (h : Host) : Type 0 where
     pub entries_are : h.imports.entries ≡ entries
     pub orderly : IsOrderly h.imports
@@ -81,6 +92,9 @@ module _ (linked : List Url) (entries : Entries) where
     pub stamps : All IsLinkedModule w.stamps
     -- what evaluation has entered is linked
     pub entered : (u : Url) → was_entered (w.nodes u).phase ≡ true → IsLinkedModule u
+    -- the bodies that have begun are of linked modules, and the entry failed with a known value
+    pub events : AllByRecursion FitEvent w.engine.events
+    pub entry : FitEntry w.entry
 
 abbrev pub IsFit : World → Type 0
 IsFit w = FitsWorld w.linked w.loading.entries w

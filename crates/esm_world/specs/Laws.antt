@@ -1,5 +1,5 @@
 -- The laws of turns and runs.
-use Rattle.std.specs.Prelude.{◌≡◌, ◌≢◌, ◌⊎◌, ◌+◌, ◌<◌, Bool, true, false, List, [], ◌∷◌, length, Some, is_some, Err}
+use Rattle.std.specs.Prelude.{◌≡◌, ◌≢◌, ◌⊎◌, ◌+◌, ◌<◌, Bool, true, false, List, [], ◌∷◌, ◌++◌, length, Some, is_some, Err}
 use Rattle.esm_tree.specs.Syntax.{Item}
 use Rattle.esm_import_map.specs.ImportMap.{Maps}
 use Rattle.esm_base.specs.declared.limits.Limit.{Limit}
@@ -60,6 +60,12 @@ StartsOnce = (maps : Maps) (built : List Item → Bool) (entry : Url) (trace : B
 abbrev pub AsksOnce : Type 0
 AsksOnce = (maps : Maps) (built : List Item → Bool) (entry : Url) (trace : Bool) (deliveries : List Delivery) (what : Shown)
     → StandardRun maps built entry trace deliveries what → AreDistinct what.asked
+
+-- what was asked stays asked, whatever is delivered behind it
+abbrev pub AsksStay : Type 0
+AsksStay = (maps : Maps) (built : List Item → Bool) (entry : Url) (trace : Bool) (deliveries more : List Delivery) (what after : Shown)
+    (u : Url) → StandardRun maps built entry trace deliveries what → StandardRun maps built entry trace (deliveries ++ more) after
+    → has what.asked u ≡ true → has after.asked u ≡ true
 
 -- the URLs of these deliveries
 abbrev pub urls_of : List Delivery → List Url

@@ -10,6 +10,8 @@ pub mod Plain
 pub mod Loaded
 pub mod Awaits
 pub mod Told
+pub mod Sound
+pub mod Limits
 pub mod Laws
 pub mod RunLaws
 pub mod Followed

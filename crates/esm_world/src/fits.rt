@@ -1,6 +1,7 @@
 //! Laws of worlds that fit, each the contract of a function without effect.
 ghost use Rattle.esm_world.specs.FitLaws.{WorldsFit, HasFitEvaluation, HasFitResumption};
-ghost use Rattle.esm_world.specs.RunLaws.{RunsFit};
+ghost use Rattle.esm_world.specs.RunLaws.{HoldsOfRuns, RunsFit};
+ghost use Rattle.esm_world.specs.Sound.{IsSound, LinkingStaysReady, WorldsStaySound};
 
 /// The opening world fits, and the end of a fetch, an answer of a pending request, and that more modules are linked, keep
 /// it.
@@ -20,6 +21,16 @@ pub fn has_fit_outcomes()
 /// Each world of a run that no limit has stopped fits.
 pub fn runs_fit()
     ensures { RunsFit }
+{
+    esm_resolve::laws::shared_set()
+}
+
+/// Each world of a run that no limit has stopped is sound: each step leaves a sound world, and each job can be done. Linking
+/// keeps that a world is ready for evaluation and bodies.
+pub fn worlds_stay_sound()
+    ensures steps { WorldsStaySound }
+    ensures links { LinkingStaysReady }
+    ensures runs { HoldsOfRuns IsSound }
 {
     esm_resolve::laws::shared_set()
 }

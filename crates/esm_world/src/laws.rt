@@ -1,5 +1,6 @@
 //! Laws of the definitions, each the contract of a function without effect.
-ghost use Rattle.esm_world.specs.Laws.{AsksOnce, BytesStopFirst, DeliversAll, DeliversOnce, DeliversOnlyAsked, FewDeliveries, HasStandardRun, HasTurn, KeepsMaps, OneStandardRun, OneTurn, OpenAsks, StartsOnce, StoppedAsksNothing, StopsAreTold, StopsAtOnce};
+ghost use Rattle.esm_world.specs.Laws.{AsksOnce, AsksStay, BytesStopFirst, DeliversAll, DeliversOnce, DeliversOnlyAsked, FewDeliveries, HasStandardRun, HasTurn, KeepsMaps, OneStandardRun, OneTurn, OpenAsks, StartsOnce, StoppedAsksNothing, StopsAreTold, StopsAtOnce};
+ghost use Rattle.esm_world.specs.Limits.{LimitsAreExact};
 ghost use Rattle.esm_world.specs.Outcomes.{TurnsEnd};
 ghost use Rattle.esm_world.specs.Plain.{PlainEvaluation};
 ghost use Rattle.esm_world.specs.RunLaws.{LoadsHaveEnded, TurnsLeaveNothing};
@@ -21,6 +22,11 @@ pub fn asks_once()
     ensures { AsksOnce }
 {}
 
+/// What was asked stays asked, whatever is delivered behind it.
+pub fn asks_stay()
+    ensures { AsksStay }
+{}
+
 /// A run that a limit has stopped has no open ask, and does nothing more.
 pub fn limit_stops()
     ensures asks { StoppedAsksNothing }
@@ -31,6 +37,11 @@ pub fn limit_stops()
 /// A limit is told only where it has stopped the world.
 pub fn limits_are_told()
     ensures { StopsAreTold }
+{}
+
+/// In a world that no limit has stopped, each step tells the limit that stops it, or none where none does.
+pub fn limits_are_exact()
+    ensures { LimitsAreExact }
 {}
 
 /// A turn keeps the import map, and which module texts can be run.

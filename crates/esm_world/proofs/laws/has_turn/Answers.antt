@@ -1,6 +1,7 @@
 use Rattle.esm_world.proofs.HasTurns.{turns_end}
 use Rattle.esm_world.proofs.ToldWorld.{stays_told, stays_complete}
-use Rattle.esm_world.proofs.HasTurnSteps.{IsSound, steps_have_outcomes}
+use Rattle.esm_world.specs.Sound.{IsSound}
+use Rattle.esm_world.proofs.HasTurnSteps.{steps_have_outcomes}
 use Rattle.esm_world.proofs.laws.has_turn.Goals as goal
 
 pub returns : goal.returns
