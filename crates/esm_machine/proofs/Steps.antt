@@ -24,7 +24,7 @@ use Rattle.esm_world.specs.World.{World, modules_in}
 use Rattle.esm_world.specs.Layers as layers
 use Rattle.esm_world.specs.Jobs as jobs
 use Rattle.esm_world.specs.Jobs.{Reacts, settle_promise, with_reaction, with_error, new_error}
-use Rattle.esm_world.proofs.BodyKeeps.{Imported, resumes_body_keeps}
+use Rattle.esm_body.proofs.BodyKeeps.{Imported, resumes_body_keeps}
 use Rattle.esm_world.proofs.LimitsExact.{limits_are_exact}
 use Rattle.esm_machine.specs.Seen.{Seen, names, modules, Begins}
 use Rattle.esm_machine.specs.Following.{loading_of}

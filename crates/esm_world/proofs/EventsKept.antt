@@ -27,7 +27,7 @@ use Rattle.esm_body.specs.BodyRewriting.RewritesBody.{begins_at, does, drops, se
 use Rattle.esm_body.specs.Segment.{Active, Ended, Normal, Thrown, Awaiting, Stopped, Next, Goes, Over, Segment, next_by, call_by, called}
 use Rattle.esm_body.specs.Segment.{Segment as segment}
 use Rattle.esm_body.specs.Bodies.{StartsBody, RunsBody, ResumesBody, segment_end, settle_done, body_end, ran_by, url_in}
-use Rattle.esm_world.proofs.ExprKeeps.{Stays, follows_keeps, step_keeps}
+use Rattle.esm_body.proofs.ExprKeeps.{Stays, follows_keeps, step_keeps}
 use Rattle.esm_world.proofs.Each.{pushed}
 
 abbrev Events : Type 0 → Type 0
