@@ -9,7 +9,7 @@ use Rattle.esm_base.specs.declared.limits.Limit.{Limit}
 use Rattle.esm_realm.specs.Sound.{RecordParts}
 use Rattle.esm_import_map.specs.ImportMap.{Maps}
 use Rattle.esm_loads.specs.UrlTable.{TableEntry, Throw, thrown_by, no_urls}
-use Rattle.esm_loads.specs.Loading.{Loading, PendingRequest, Root, Request, OpenLoad, begin, throw, finish, open_load}
+use Rattle.esm_loads.specs.Loading.{Loading, Root, Request, OpenLoad, begin, throw, open_load}
 use Rattle.esm_loads.specs.Loading as loading
 use Rattle.esm_loads.specs.Load.{Enters, Answers}
 use Rattle.esm_loads.specs.Load.Answers.{no_root, no_module, root, request}

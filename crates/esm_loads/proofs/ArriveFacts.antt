@@ -8,7 +8,6 @@ use Rattle.esm_realm.specs.Sound.{RecordParts}
 use Rattle.esm_realm.proofs.Urls.{same_text}
 use Rattle.esm_loads.specs.UrlTable.{TableEntry, put_at}
 use Rattle.esm_loads.specs.Loading as loading
-use Rattle.esm_loads.specs.Loading.{Loading}
 use Rattle.esm_loads.specs.LoadsView.{urls_of, url_at, place_in, get_by, at_url, is_open, entries_in, entry_at, entry_by, id_in, id_by, id_under, has_id, modules_in, is_in, is_unlinked, load_state, state_of, throw_of, LoadView}
 use Rattle.esm_loads.specs.Fits.{HaveRecords, IsLoadWithin, AreBelow}
 use Rattle.esm_loads.specs.declared.data.Slot.{Slot}
@@ -16,7 +15,6 @@ use Rattle.esm_loads.specs.declared.data.UrlState.{UrlState}
 use Rattle.esm_loads.specs.declared.data.UrlState.TheVariants as states
 use Rattle.esm_loads.specs.declared.data.Stage.{Stage}
 use Rattle.esm_loads.specs.declared.data.Stage.TheVariants as stages
-use Rattle.esm_loads.specs.declared.loads.Loads.{Loads}
 use Rattle.esm_loads.proofs.Places.{map_same}
 use Rattle.esm_loads.proofs.PlacesOfUrls.{same_sym}
 use Rattle.esm_loads.proofs.UrlIndices.{urls_set}

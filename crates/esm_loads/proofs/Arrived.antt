@@ -1,6 +1,6 @@
 -- A fetch has ended: the tables with what it has come to.
 use mathlib.Core.Bool.{true≢false}
-use Rattle.std.proofs.Common.{◌≡◌, ℕ, suc, zero, ◌+◌, ◌<◌, ◌≤◌, Bool, true, false, List, [], ◌∷◌, ◌++◌, length, map, Option, Some, None, refl, ap, subst, sym, ◌∙◌, arith, inl, inr, length-append}
+use Rattle.std.proofs.Common.{◌≡◌, ℕ, suc, zero, ◌+◌, ◌<◌, ◌≤◌, true, false, List, [], ◌∷◌, ◌++◌, length, map, Option, Some, None, refl, ap, subst, sym, ◌∙◌, arith, inl, inr, length-append}
 use Rattle.std.specs.Prelude.{◌⊎◌, slice_get, slice_set, All, nat_lt}
 use Rattle.std.proofs.lemmas.List.{length-set, length-map}
 use Rattle.std.proofs.lemmas.List.Elements.{All-weaker, All-head, All-tail}
@@ -28,7 +28,7 @@ use Rattle.esm_loads.specs.Host.{Host, with_loading}
 use Rattle.esm_loads.specs.Arrival.{with_entry, put_found, after_fetch, bytes_of, count_by, store, Next, next, next_among, next_by}
 use Rattle.esm_loads.specs.LoadsView.{every_form, tree_items, url_of_slot, urls_of, place_in, is_open, entry_at, module_of, tree_at, is_in, is_unlinked, is_unlinked_by, pending_in, purpose_of, get_by, request_of, requests_in}
 use Rattle.esm_loads.specs.LoadsAsLoading.{loading_of, trees_of}
-use Rattle.esm_loads.specs.Fits.{FitRecords, HaveRecords, HasRecord, IsModuleAt, IsLoadWithin, IsWaitingWithin, RecordsMatch, AreBelow, records_with}
+use Rattle.esm_loads.specs.Fits.{FitRecords, HaveRecords, HasRecord, IsModuleAt, IsLoadWithin, IsWaitingWithin, RecordsMatch, HaveTexts, AreBelow, records_with}
 use Rattle.esm_loads.specs.Hosted.{host_of}
 use Rattle.esm_loads.specs.Inner.Arriving.{Filled, Stores, stores, IsOpenSlot, NonePending, settled}
 use Rattle.esm_loads.specs.Inner.Arriving.Filled.{AsModule, AsBroken, AsFailed}
@@ -268,12 +268,13 @@ module _ (maps : Maps) (t : Loads) (R R' : List RecordParts) (k : ℕ) (url : Ur
   slots_many : length slots ≡ length t.urls.slots
   slots_many = length-set t.urls.slots k put
 
-  matching : RecordsMatch slots (map tree_items ts.items) R'
-  matching = record {
+  matching : HaveTexts (map tree_items ts.items) → RecordsMatch slots (map tree_items ts.items) R'
+  matching spelled = record {
     have = record { kept = λ j id m. kept j id m (slot_at j m.slot m.at) };
     known = λ id r e. known id r (filled_known maps url c old_stores new_stores t.urls.slots fit.matching.have fit.matching.as_many state id r f e);
     as_many = filled_length maps url c old_stores new_stores t.urls.slots fit.matching.have fit.matching.as_many state f;
     entries = λ id r tree e g. filled_entries maps url c old_stores new_stores t.urls.slots fit.matching.have fit.matching.as_many state id r tree f fit.matching.entries e g;
+    spelled = spelled;
   }
     where
       kept : (j id : ℕ) (m : IsModuleAt slots j id) → ((j ≡ k) × (m.slot ≡ put)) ⊎ ((j ≡ k → ⊥) × (slice_get t.urls.slots j ≡ Some m.slot)) → HasRecord R' id m.slot.url
@@ -286,8 +287,8 @@ module _ (maps : Maps) (t : Loads) (R R' : List RecordParts) (k : ℕ) (url : Ur
       known id r (inl e) = let h = fit.matching.known id r e in (h.0, record { slot = h.1.slot; at = kept_slot h.0 h.1.slot h.1.at (ap is_open h.1.stands); stands = h.1.stands })
       known id r (inr st) = (k, record { slot = put; at = set_get t.urls.slots k at.slot put at.at; stands = st })
 
-  pub stored_fits : FitRecords now R'
-  stored_fits = record {
+  pub stored_fits : HaveTexts (map tree_items ts.items) → FitRecords now R'
+  stored_fits spelled = record {
     joined = record {
       distinct = subst AreDistinct (sym same_urls) fit.joined.distinct;
       usable = subst (All IsUsable) (sym same_urls) fit.joined.usable;
@@ -298,7 +299,7 @@ module _ (maps : Maps) (t : Loads) (R R' : List RecordParts) (k : ℕ) (url : Ur
       loads = subst (λ n. All (IsLoadWithin n (length R')) t.loads.items) (sym slots_many) (All-weaker (IsLoadWithin (length t.urls.slots) (length R)) (IsLoadWithin (length t.urls.slots) (length R')) (λ l w. (w.0, All-weaker (λ (id : ℕ). id < length R) (λ (id : ℕ). id < length R') (λ id l. omega (arith, l, more)) l.visited w.1)) t.loads.items fit.joined.loads);
       last = λ j s q g h closed apart. by j s q h closed apart (slot_at j s g);
     };
-    matching = matching;
+    matching = matching spelled;
     purposes = fit.purposes;
     few_calls = fit.few_calls;
   }

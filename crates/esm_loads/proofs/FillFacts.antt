@@ -2,7 +2,6 @@
 use Rattle.std.proofs.Common.{◌≡◌, ℕ, suc, zero, ◌+◌, ◌<◌, ◌≤◌, Bool, true, false, List, [], ◌∷◌, length, map, Option, Some, None, refl, ap, subst, sym, ◌∙◌, arith, inl, inr}
 use Rattle.std.specs.Prelude.{◌⊎◌, ◌||◌, slice_get, slice_set, nat_eq, All}
 use Rattle.std.proofs.lemmas.List.{length-set}
-use Rattle.std.proofs.lemmas.Option.{slice_get_within}
 use Rattle.esm_base.specs.Urls.{Url}
 use Rattle.esm_base.specs.declared.module_id.ModuleId.{ModuleId}
 use Rattle.esm_ast.specs.Entries.{EntryLists}
@@ -14,7 +13,8 @@ use Rattle.esm_realm.specs.declared.record.ModuleStatus.{ModuleStatus}
 use Rattle.esm_realm.specs.declared.record.ModuleStatus.TheVariants.{New, Unlinked, Linking, Linked}
 use Rattle.esm_loads.specs.LoadsView.{urls_of, place_in, get_by, id_in, id_by, id_under, is_unlinked, is_unlinked_by, is_past_new, before_linking, loaded_before_linking, status_before_linking}
 use Rattle.esm_loads.specs.Fits.{HaveRecords}
-use Rattle.esm_loads.specs.Inner.Filling.{AreIdsBelow, AreFilledTo, Fills, FillsNew, IsFilled, Unlinks, UnlinksBy, load_at, load_by}
+use Rattle.esm_loads.specs.Loaded.{PastNewStay}
+use Rattle.esm_loads.specs.Inner.Filling.{AreIdsBelow, Fills, FillsNew, IsFilled, Unlinks, UnlinksBy, load_at, load_by}
 use Rattle.esm_loads.specs.declared.data.Slot.{Slot}
 use Rattle.esm_loads.specs.declared.data.UrlState.{UrlState}
 use Rattle.esm_loads.proofs.Places.{some_is, get_within, set_get, set_other, get_map, set_map, all_get, all_set}
@@ -198,6 +198,13 @@ module _ (ss : List Slot) (r now : RecordParts) where
   filled_after Linking h = inl h
   filled_after Linked h = inl h
 
+  -- what isn't New stays
+  unmoved : (s : ModuleStatus) → UnlinksBy ss s r now → is_past_new s ≡ true → now ≡ r
+  unmoved New h p = cc
+  unmoved Unlinked h p = h
+  unmoved Linking h p = h
+  unmoved Linked h p = h
+
 module _ (ss : List Slot) (id : ℕ) (r : RecordParts) (R new : List RecordParts) (at : slice_get R id ≡ Some r) (u : Unlinks ss id r R new) where
   pub same_after : map before_linking new ≡ map before_linking R
   same_after =
@@ -228,6 +235,20 @@ module _ (ss : List Slot) (id : ℕ) (r : RecordParts) (R new : List RecordParts
           let same = same_id k id f in
           here same (some_is (sym there ∙ (ap (slice_get (slice_set R id u.now)) same ∙ set_get R id r u.now at))) (filled_after ss r u.now r.status u.how)
       by false f = before k q (sym (set_other R id k u.now (apart_id k id f)) ∙ there) p
+
+  pub stay_after : (first : List RecordParts) → PastNewStay first R → PastNewStay first new
+  stay_after first before k q e p = ap (λ rs. slice_get rs k) u.is ∙ by (nat_eq k id) refl
+    where
+      there : slice_get R k ≡ Some q
+      there = before k q e p
+
+      by : (b : Bool) → nat_eq k id ≡ b → slice_get (slice_set R id u.now) k ≡ Some q
+      by true f =
+          let same = same_id k id f in
+          let is : r ≡ q = some_is (sym at ∙ (ap (slice_get R) (sym same) ∙ there)) in
+          let past : is_past_new r.status ≡ true = ap (λ (r : RecordParts). is_past_new r.status) is ∙ p in
+          ap (slice_get (slice_set R id u.now)) same ∙ (set_get R id r u.now at ∙ ap (λ q. Some q) (unmoved ss r u.now r.status u.how past ∙ is))
+      by false f = set_other R id k u.now (apart_id k id f) ∙ there
 
 pub fills_same : (ss : List Slot) (R : List RecordParts) → FillsNew ss R R
 fills_same ss R id r e p = inl e

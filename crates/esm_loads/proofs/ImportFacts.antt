@@ -1,5 +1,5 @@
 -- The load of an import() and its root.
-use Rattle.std.proofs.Common.{◌≡◌, ℕ, ◌<◌, ◌+◌, arith, Bool, true, false, List, [], ◌∷◌, ◌++◌, length, map, Option, Some, None, refl, ap, sym, subst, ◌∙◌}
+use Rattle.std.proofs.Common.{◌≡◌, ℕ, ◌<◌, ◌+◌, arith, Bool, true, false, List, length, map, Option, Some, None, refl, ap, sym, subst, ◌∙◌}
 use Rattle.std.specs.Prelude.{◌==◌, ◌&&◌, slice_get, nat_le, not, Result, Ok, Err, OnOk}
 use Rattle.esm_tree.specs.Syntax.{Item}
 use Rattle.esm_base.specs.Urls.{Text, Url, IsCanonical, IsUsable, is_canonical}
@@ -17,12 +17,12 @@ use Rattle.esm_import_map.specs.ImportMap.{Maps}
 use Rattle.esm_values.specs.Errors.{Errors}
 use Rattle.esm_promise.specs.Code.{Numbered}
 use Rattle.esm_loads.specs.UrlTable.{TableEntry, specifier_error}
-use Rattle.esm_loads.specs.Loading.{Loading, Root, Asked, ForImport, ask}
+use Rattle.esm_loads.specs.Loading.{Root, ForImport}
 use Rattle.esm_loads.specs.Host.{Host, Answered, reject_new}
 use Rattle.esm_loads.specs.ImportCall as import_call
 use Rattle.esm_loads.specs.ImportCall.Imports.{limit, unresolved, asks, answers}
 use Rattle.esm_loads.specs.LoadsView.{urls_of, url_at, place_in, get_by, is_open, entries_in, entry_at, entry_by, load_state}
-use Rattle.esm_loads.specs.LoadsAsLoading.{loading_of, trees_of}
+use Rattle.esm_loads.specs.LoadsAsLoading.{loading_of}
 use Rattle.esm_loads.specs.Fits.{FitRecords, IsFetching}
 use Rattle.esm_loads.specs.Hosted.{host_of, stopped_host, IsImport, IsRooted}
 use Rattle.esm_loads.specs.Inner.Asking.{AddsLoad, IsFetchedAs}
@@ -35,7 +35,6 @@ use Rattle.esm_values.specs.declared.value.PromiseId.{PromiseId}
 use Rattle.esm_loads.proofs.Places.{some_is, all_get, get_map, get_within, map_long, on_ok}
 use Rattle.esm_loads.proofs.PlacesOfUrls.{place_some}
 use Rattle.esm_loads.proofs.Lookups.{slot_url}
-use Rattle.esm_loads.proofs.UrlIndices.{urls_many}
 use Rattle.esm_loads.proofs.EnterFacts.{at_slot}
 use Rattle.esm_loads.proofs.NextFacts.{has_entry}
 use Rattle.esm_loads.proofs.PublicFacts.{added_is}

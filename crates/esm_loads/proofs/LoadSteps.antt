@@ -11,7 +11,7 @@ use Rattle.esm_realm.proofs.Sounds.{distinct_push}
 use Rattle.esm_realm.proofs.Urls.{same_text}
 use Rattle.esm_import_map.specs.ImportMap.{Maps}
 use Rattle.esm_loads.specs.UrlTable.{TableEntry, put_at, with_url}
-use Rattle.esm_loads.specs.Loading.{Loading, LoadState, PendingRequest, Root, Request, open_load, open_load_in, visit, throw, ask}
+use Rattle.esm_loads.specs.Loading.{Root, Request, open_load, open_load_in, visit, throw, ask}
 use Rattle.esm_loads.specs.Loading as loading
 use Rattle.esm_loads.specs.LoadsView.{urls_of, url_at, place_in, get_by, at_url, entries_in, entry_by, id_under, modules_in, is_in, is_open, is_unlinked, request_of, request_by, requests_in, pending_in, throw_of, state_of, load_state, LoadView}
 use Rattle.esm_loads.specs.LoadsAsLoading.{loading_of, trees_of}

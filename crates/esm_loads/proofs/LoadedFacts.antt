@@ -4,7 +4,6 @@ use Rattle.std.specs.Prelude.{◌⊎◌, slice_get}
 use Rattle.esm_base.specs.Urls.{Url}
 use Rattle.esm_ast.specs.Entries.{entries_of}
 use Rattle.esm_realm.specs.Sound.{RecordParts, new_record, url_of}
-use Rattle.esm_realm.specs.declared.record.ModuleStatus.{ModuleStatus}
 use Rattle.esm_realm.specs.declared.record.ModuleStatus.TheVariants.{New}
 use Rattle.esm_import_map.specs.ImportMap.{Maps}
 use Rattle.esm_loads.specs.UrlTable.{Found, Nothing, Faulty, Script, targets_in}
@@ -15,7 +14,6 @@ use Rattle.esm_loads.specs.LoadsAsLoading.{loading_of, trees_of}
 use Rattle.esm_loads.specs.Fits.{FitRecords, records_with}
 use Rattle.esm_loads.specs.Loaded.{HaveLoaded, IsLoadedAt}
 use Rattle.esm_loads.specs.Inner.Filling.{FillsNew, IsFilled}
-use Rattle.esm_loads.specs.declared.data.Slot.{Slot}
 use Rattle.esm_loads.specs.declared.loads.Loads.{Loads}
 use Rattle.esm_loads.proofs.Places.{some_is, get_within, get_push, get_kept}
 use Rattle.esm_loads.proofs.Lookups.{under, id_of_module}

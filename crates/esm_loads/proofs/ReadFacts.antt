@@ -1,19 +1,16 @@
 -- What the jobs of loads read.
 use Rattle.std.proofs.Common.{◌≡◌, ℕ, suc, zero, ◌<◌, ◌≤◌, true, List, [], ◌∷◌, length, map, Option, Some, None, refl, ap, subst, sym, ◌∙◌, arith}
-use Rattle.std.specs.Prelude.{slice_get}
-use Rattle.esm_base.specs.Urls.{Url}
-use Rattle.esm_base.specs.declared.module_id.ModuleId.{ModuleId}
+use Rattle.std.specs.Prelude.{slice_get, IfSome}
 use Rattle.esm_realm.specs.ById as by_id
 use Rattle.esm_realm.specs.Sound.{RecordParts}
 use Rattle.esm_import_map.specs.ImportMap.{Maps}
 use Rattle.esm_loads.specs.Loading as loading
 use Rattle.esm_loads.specs.Whole.{IsWhole}
-use Rattle.esm_loads.specs.LoadsView.{LoadView, urls_of, url_at, get_by, id_in, id_by, id_under, has_id, is_unlinked, load_state, purpose_of, promise_id}
+use Rattle.esm_loads.specs.LoadsView.{LoadView, urls_of, url_at, get_by, id_in, id_by, id_under, is_unlinked, load_state, purpose_of}
 use Rattle.esm_loads.specs.LoadsAsLoading.{loading_of}
 use Rattle.esm_loads.specs.Loaded.{root_url}
 use Rattle.esm_loads.specs.Fits.{FitRecords, IsStageWithin, IsLoadWithin}
 use Rattle.esm_loads.specs.Inner.Reading.{complete_in, complete_by, module_in, module_by}
-use Rattle.esm_loads.specs.declared.data.Slot.{Slot}
 use Rattle.esm_loads.specs.declared.data.UrlState.{UrlState}
 use Rattle.esm_loads.specs.declared.data.UrlState.TheVariants as states
 use Rattle.esm_loads.specs.declared.data.Stage.{Stage}
@@ -67,10 +64,16 @@ complete_load (Some v) k e = (v, refl, by v.stage e)
     by (stages.Complete root) e = ap stages.Complete (some_is e)
     by (stages.Thrown cause) e = cc
 
--- the root of a complete load is a module
-pub root_is : (maps : Maps) (t : Loads) (R : List RecordParts) (s k : ℕ) → FitRecords t R → IsWhole (loading_of maps t R) → complete_by (slice_get t.loads.items s) ≡ Some k
-    → loading.root_of_load (loading_of maps t R) s ≡ root_url R (module_by (slice_get t.urls.slots k))
-root_is maps t R s k fit whole e =
+-- what stands at the place of the root of a complete load
+record HasRoot (maps : Maps) (t : Loads) (R : List RecordParts) (s k : ℕ) : Type 0 where
+  pub id : ℕ
+  pub ends : loading.root_of_load (loading_of maps t R) s ≡ Some (url_at (urls_of t.urls.slots) k)
+  pub module_is : module_by (slice_get t.urls.slots k) ≡ Some (record { 0 = id })
+  pub under : by_id.url_at R id ≡ url_at (urls_of t.urls.slots) k
+  pub past_new : is_unlinked R id ≡ true
+
+has_root : (maps : Maps) (t : Loads) (R : List RecordParts) (s k : ℕ) → FitRecords t R → IsWhole (loading_of maps t R) → complete_by (slice_get t.loads.items s) ≡ Some k → HasRoot maps t R s k
+has_root maps t R s k fit whole e =
     let ss = t.urls.slots in
     let L = loading_of maps t R in
     let v = complete_load (slice_get t.loads.items s) k e in
@@ -85,8 +88,27 @@ root_is maps t R s k fit whole e =
     let state = module_state slot.0.state j.0 (sym own ∙ j.1) in
     let x = under ss start j.0 j.1 in
     let h = fit.matching.have.kept x.place j.0 x.module_is in
-    let root : by_id.url_at R j.0 ≡ start = ap by_id.url_by h.is ∙ (h.under ∙ x.under) in
-    ap loading.root_in at ∙ sym (ap (λ o. root_url R (module_by o)) slot.1 ∙ (ap (λ state. root_url R (module_in state)) state ∙ ap (λ u. Some u) root))
+    record {
+      id = j.0;
+      ends = ap loading.root_in at;
+      module_is = ap module_by slot.1 ∙ ap module_in state;
+      under = ap by_id.url_by h.is ∙ (h.under ∙ x.under);
+      past_new = j.2;
+    }
+
+-- the root of a complete load is a module
+pub root_is : (maps : Maps) (t : Loads) (R : List RecordParts) (s k : ℕ) → FitRecords t R → IsWhole (loading_of maps t R) → complete_by (slice_get t.loads.items s) ≡ Some k
+    → loading.root_of_load (loading_of maps t R) s ≡ root_url R (module_by (slice_get t.urls.slots k))
+root_is maps t R s k fit whole e =
+    let x = has_root maps t R s k fit whole e in
+    x.ends ∙ sym (ap (root_url R) x.module_is ∙ ap (λ u. Some u) x.under)
+
+-- and it isn't New
+pub root_loaded : (maps : Maps) (t : Loads) (R : List RecordParts) (s k : ℕ) → FitRecords t R → IsWhole (loading_of maps t R) → complete_by (slice_get t.loads.items s) ≡ Some k
+    → IfSome (module_by (slice_get t.urls.slots k)) (λ m. is_unlinked R m.0 ≡ true)
+root_loaded maps t R s k fit whole e =
+    let x = has_root maps t R s k fit whole e in
+    subst (λ o. IfSome o (λ m. is_unlinked R m.0 ≡ true)) (sym x.module_is) x.past_new
 
 -- ---- the promise of an import()
 

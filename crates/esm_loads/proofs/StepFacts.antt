@@ -40,6 +40,7 @@ matching_more t new R h k = subst (λ ss. RecordsMatch ss (trees_of new) R) (sym
   known = λ id r e. let f = h.known id r e in (f.0, record { slot = f.1.slot; at = get_kept t.urls.slots k.more f.0 f.1.slot f.1.at; stands = f.1.stands });
   as_many = h.as_many;
   entries = h.entries;
+  spelled = h.spelled;
 }))
 
 pub fits_after : (t new : Loads) (R R' : List RecordParts) → FitRecords t R → AreJoined new (length R) → KeepsUrls t new → map before_linking R' ≡ map before_linking R → FitRecords new R'

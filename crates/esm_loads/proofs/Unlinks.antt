@@ -50,6 +50,7 @@ matching_stale first R ss trees e h = record {
   known = λ id r f. let p = get_stale R first (sym e) id r f in h.known id p.0 p.1;
   as_many = h.as_many ∙ sym (long_stale first R e);
   entries = λ id r tree f g. let p = get_stale R first (sym e) id r f in sym (ap (λ (r : RecordParts). r.entries) p.2) ∙ h.entries id p.0 tree p.1 g;
+  spelled = h.spelled;
 }
 
 module _ (trees : List (List Item)) where

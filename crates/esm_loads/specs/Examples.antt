@@ -12,7 +12,7 @@ use Rattle.esm_promise.specs.Promises.{Pending, Done, job, settled, is_pending}
 use Rattle.esm_promise.specs.Promises.Settled.{Fulfilled, Rejected}
 use Rattle.esm_promise.specs.Reactions.{Loaded, EntryLoaded}
 use Rattle.esm_loads.specs.UrlTable as table
-use Rattle.esm_loads.specs.UrlTable.{TableEntry, Entries, New, Kept, put_at, with_url, no_urls, no_entries, fetch_error}
+use Rattle.esm_loads.specs.UrlTable.{TableEntry, New, put_at, with_url, no_urls, no_entries, fetch_error}
 use Rattle.esm_loads.specs.Loading.{Root, Request, Asked, Open, LoadComplete, Thrown, ForEntry, ForImport, no_pending}
 use Rattle.esm_loads.specs.Host.{Host, opening_host}
 use Rattle.esm_loads.specs.Arrival.{after_fetch, next, AnswersNext, open_asks}

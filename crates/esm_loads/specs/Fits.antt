@@ -1,6 +1,7 @@
 -- When loads fit the records of a realm, and their indices are right.
 use Rattle.std.specs.Prelude.{◌≡◌, ℕ, ◌≤◌, ◌<◌, true, false, List, [], ◌∷◌, ◌++◌, length, slice_get, Some, All}
 use Rattle.esm_tree.specs.Syntax.{Item}
+use Rattle.esm_grammar.specs.ModuleText.{Spells}
 use Rattle.esm_ast.specs.Entries.{entries_of}
 use Rattle.esm_base.specs.declared.limits.TheConstants.{MAX_URLS, MAX_IMPORT_CALLS}
 use Rattle.esm_base.specs.Urls.{Url, IsUsable}
@@ -71,18 +72,23 @@ pub record HasRecord (records : List RecordParts) (id : ℕ) (url : Url) : Type 
   pub is : slice_get records id ≡ Some parts
   pub under : parts.url ≡ url
 
+-- a text spells each of these trees
+abbrev pub HaveTexts : List (List Item) → Type 0
+HaveTexts trees = All (λ (items : List Item). (bytes : List ℕ) × Spells bytes items) trees
+
 -- each module of the table has its record, under its URL
 pub record HaveRecords (slots : List Slot) (records : List RecordParts) : Type 0 where
   pub kept : (k id : ℕ) (m : IsModuleAt slots k id) → HasRecord records id m.slot.url
 
--- the realm's records are just the modules of these loads' table, each under its URL, and each has its tree and the entries
--- of that tree
+-- the realm's records are just the modules of these loads' table, each under its URL, and each has its tree, which was read, and
+-- the entries of that tree
 pub record RecordsMatch (slots : List Slot) (trees : List (List Item)) (records : List RecordParts) : Type 0 where
   pub have : HaveRecords slots records
   pub known : (id : ℕ) (r : RecordParts) → slice_get records id ≡ Some r → (k : ℕ) × IsModuleAt slots k id
   pub as_many : length trees ≡ length records
   pub entries : (id : ℕ) (r : RecordParts) (tree : List Item)
       → slice_get records id ≡ Some r → slice_get trees id ≡ Some tree → r.entries ≡ entries_of tree
+  pub spelled : HaveTexts trees
 
 -- ---- all together
 

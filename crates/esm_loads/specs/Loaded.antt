@@ -20,6 +20,10 @@ abbrev pub HaveLoaded : List RecordParts → Type 0
 HaveLoaded records = (id i : ℕ) (r : RecordParts) → slice_get records id ≡ Some r → is_past_new r.status ≡ true → i < length r.targets
     → IsLoadedAt records r i
 
+-- each record that isn't New is as it was
+abbrev pub PastNewStay : List RecordParts → List RecordParts → Type 0
+PastNewStay old new = (id : ℕ) (r : RecordParts) → slice_get old id ≡ Some r → is_past_new r.status ≡ true → slice_get new id ≡ Some r
+
 -- the URL of a module, where there is one
 abbrev pub root_url : List RecordParts → Option ModuleId → Option Url
 root_url records None = None

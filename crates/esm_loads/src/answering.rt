@@ -10,6 +10,7 @@ ghost use Rattle.esm_loads.specs.UrlTable.{TableEntry};
 ghost use Rattle.esm_loads.specs.LoadsView.{LoadView, urls_of, url_at, request_of, is_open, before_linking};
 ghost use Rattle.esm_loads.specs.LoadsAsLoading.{loading_of};
 ghost use Rattle.esm_loads.specs.Fits.{AreJoined, HaveRecords, IsModuleAt};
+ghost use Rattle.esm_loads.specs.Loaded.{PastNewStay};
 ghost use Rattle.esm_loads.specs.Inner.Steps.{IsLoading, Grown, set_load};
 ghost use Rattle.esm_loads.specs.Inner.Flags.{begun_record};
 ghost use Rattle.esm_loads.specs.Inner.Stops.{StopsIn};
@@ -37,6 +38,7 @@ pub fn finish(loads: &mut Loads, realm: &mut Realm, load: usize)
     ensures joined { AreJoined loads.new (length (records_of realm.old)) }
     ensures same { map before_linking (records_of realm.new)
         ≡ map before_linking (records_of realm.old) }
+    ensures stay { PastNewStay (records_of realm.old) (records_of realm.new) }
     ensures kept { KeepsUrls loads.old loads.new }
     ensures fills { FillsNew loads.new.urls.slots (records_of realm.old) (records_of realm.new) }
     ensures sound { IsSound (records_of realm.new) }
@@ -83,6 +85,7 @@ fn reach(
     ensures joined { OnOk result (AreJoined loads.new (length (records_of realm.old))) }
     ensures same { map before_linking (records_of realm.new)
         ≡ map before_linking (records_of realm.old) }
+    ensures stay { PastNewStay (records_of realm.old) (records_of realm.new) }
     ensures kept { OnOk result (KeepsUrls loads.old loads.new) }
     ensures fills { OnOk result
         (FillsNew loads.new.urls.slots (records_of realm.old) (records_of realm.new)) }
@@ -125,6 +128,7 @@ fn begin_and_reach(
     ensures joined { OnOk result (AreJoined loads.new (length (records_of realm.old))) }
     ensures same { map before_linking (records_of realm.new)
         ≡ map before_linking (records_of realm.old) }
+    ensures stay { PastNewStay (records_of realm.old) (records_of realm.new) }
     ensures kept { OnOk result (KeepsUrls loads.old loads.new) }
     ensures fills { OnOk result
         (FillsNew loads.new.urls.slots (records_of realm.old) (records_of realm.new)) }
@@ -168,6 +172,7 @@ pub fn answer(
     ensures joined { OnOk result (AreJoined loads.new (length (records_of realm.old))) }
     ensures same { map before_linking (records_of realm.new)
         ≡ map before_linking (records_of realm.old) }
+    ensures stay { PastNewStay (records_of realm.old) (records_of realm.new) }
     ensures kept { OnOk result (KeepsUrls loads.old loads.new) }
     ensures fills { OnOk result
         (FillsNew loads.new.urls.slots (records_of realm.old) (records_of realm.new)) }

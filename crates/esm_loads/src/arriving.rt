@@ -18,7 +18,7 @@ ghost use Rattle.esm_loads.specs.Arrival as arrival;
 ghost use Rattle.esm_loads.specs.Arrival.{after_fetch, put_found};
 ghost use Rattle.esm_loads.specs.LoadsView.{every_form, is_open, tree_items, urls_of};
 ghost use Rattle.esm_loads.specs.LoadsAsLoading.{loading_of};
-ghost use Rattle.esm_loads.specs.Fits.{FitRecords, records_with};
+ghost use Rattle.esm_loads.specs.Fits.{FitRecords, HaveTexts, records_with};
 ghost use Rattle.esm_loads.specs.Hosted.{host_of, StopsAt};
 ghost use Rattle.esm_loads.specs.Loaded.{HaveLoaded};
 ghost use Rattle.esm_loads.specs.declared.data.Slot.{Slot};
@@ -131,8 +131,11 @@ fn fill_script(
         (stores (map tree_items trees.old.items) (records_of realm.old) errors.old)
         (stores (map tree_items trees.new.items) (records_of realm.new) errors.new)
         ) }
+    ensures spelled { HaveTexts (map tree_items trees.old.items)
+        → OnOk result (HaveTexts (map tree_items trees.new.items)) }
     ensures sound { IsSound (records_of realm.new) }
 {
+    let _spelled = script.tree();
     let entries = script.share_entries()?;
     let found = targets_of(alloc, import_map, url, script.entries().requests())?;
     match found {
@@ -167,6 +170,8 @@ fn fill(
         (stores (map tree_items trees.old.items) (records_of realm.old) errors.old)
         (stores (map tree_items trees.new.items) (records_of realm.new) errors.new)
         ) }
+    ensures spelled { HaveTexts (map tree_items trees.old.items)
+        → OnOk result (HaveTexts (map tree_items trees.new.items)) }
     ensures sound { IsSound (records_of realm.new) }
 {
     match outcome {

@@ -1,5 +1,5 @@
 // The calls of several loads.
-ghost use Rattle.std.specs.Prelude.{◌≡◌, ◌<◌, ℕ, [], List, length, map, None, Some, Ok, Err, OnOk, true, false};
+ghost use Rattle.std.specs.Prelude.{◌≡◌, ◌<◌, ℕ, [], List, length, map, None, Some, Ok, Err, IfSome, OnOk, true, false};
 ghost use Rattle.esm_base.specs.declared.limits.Limit.{Limit};
 ghost use Rattle.esm_base.specs.declared.end.End.TheVariants.{Fault};
 ghost use Rattle.esm_base.specs.Urls.{Url, has, IsUsable};
@@ -11,11 +11,11 @@ ghost use Rattle.esm_realm.specs.Sound.{IsSound, RecordParts, records_of};
 ghost use Rattle.esm_loads.specs.Arrival.{after_fetch, AnswersNext, next, open_asks};
 ghost use Rattle.esm_loads.specs.UrlTable.{found};
 ghost use Rattle.esm_loads.specs.Loading as loading;
-ghost use Rattle.esm_loads.specs.LoadsView.{before_linking, every_form, promise_id};
+ghost use Rattle.esm_loads.specs.LoadsView.{before_linking, every_form, is_unlinked, promise_id};
 ghost use Rattle.esm_loads.specs.LoadsAsLoading.{asks_entry, loading_of, no_loading};
 ghost use Rattle.esm_loads.specs.Fits.{FitRecords, IsFetching, records_with};
 ghost use Rattle.esm_loads.specs.Hosted.{host_of, IsImport, StopsAt, StopsHost};
-ghost use Rattle.esm_loads.specs.Loaded.{HaveLoaded, root_url};
+ghost use Rattle.esm_loads.specs.Loaded.{HaveLoaded, PastNewStay, root_url};
 ghost use Rattle.esm_loads.specs.Whole.{IsWhole};
 
 use crate::LoadEnd;
@@ -118,6 +118,7 @@ impl Loads {
         ensures fits { OnOk result (FitRecords self.new (records_of realm.new)) }
         ensures records { map before_linking (records_of realm.new)
             ≡ map before_linking (records_of realm.old) }
+        ensures stay { PastNewStay (records_of realm.old) (records_of realm.new) }
         ensures loaded { (maps : Maps) → IsWhole (loading_of maps self.old (records_of realm.old))
             → HaveLoaded (records_of realm.old) → OnOk result (HaveLoaded (records_of realm.new)) }
         ensures sound { IsSound (records_of realm.new) }
@@ -195,6 +196,7 @@ impl Loads {
         ensures fits { OnOk result (FitRecords self.new (records_of realm.new)) }
         ensures records { map before_linking (records_of realm.new)
             ≡ map before_linking (records_of realm.old) }
+        ensures stay { PastNewStay (records_of realm.old) (records_of realm.new) }
         ensures loaded { IsWhole (loading_of import_map.now self.old (records_of realm.old))
             → HaveLoaded (records_of realm.old) → OnOk result (HaveLoaded (records_of realm.new)) }
         ensures sound { IsSound (records_of realm.new) }
@@ -204,12 +206,16 @@ impl Loads {
         )
     }
 
-    /// The root of a load that has ended with all modules loaded; none of any other load. It takes no memory.
+    /// The root of a load that has ended with all modules loaded, which isn't New; none of any other load. It takes no
+    /// memory.
     pub fn root_of_load(&self, load: usize) -> Option<ModuleId>
-        ensures { (maps : Maps) (records : List RecordParts) → FitRecords self.now records
+        ensures root { (maps : Maps) (records : List RecordParts) → FitRecords self.now records
             → IsWhole (loading_of maps self.now records)
             → loading.root_of_load (loading_of maps self.now records) load
             ≡ root_url records result }
+        ensures loaded { (maps : Maps) (records : List RecordParts) → FitRecords self.now records
+            → IsWhole (loading_of maps self.now records)
+            → IfSome result (λ m. is_unlinked records m.0 ≡ true) }
     {
         root_of_load(self, load)
     }

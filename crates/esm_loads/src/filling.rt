@@ -5,6 +5,7 @@ ghost use Rattle.esm_realm.specs.Sound.{IsSound, RecordParts, records_of};
 ghost use Rattle.esm_realm.specs.declared.record.ModuleStatus.TheVariants as statuses;
 ghost use Rattle.esm_loads.specs.LoadsView.{before_linking, id_under, is_in, is_unlinked};
 ghost use Rattle.esm_loads.specs.Fits.{AreBelow};
+ghost use Rattle.esm_loads.specs.Loaded.{PastNewStay};
 ghost use Rattle.esm_loads.specs.Inner.Filling.{AreIdsBelow, Fills, FillsNew, Unlinks, load_at};
 
 use crate::asked_urls::AskedUrls;
@@ -132,6 +133,7 @@ pub fn unlink(urls: &AskedUrls, ids: &[u32], realm: &mut Realm)
     requires below { AreIdsBelow urls.now.slots (length (records_of realm.old)) }
     ensures same { map before_linking (records_of realm.new)
         ≡ map before_linking (records_of realm.old) }
+    ensures stay { PastNewStay (records_of realm.old) (records_of realm.new) }
     ensures unlinked { (id : ℕ) → is_unlinked (records_of realm.new) id
         ≡ (is_unlinked (records_of realm.old) id || is_in ids.now id) }
     ensures fills { FillsNew urls.now.slots (records_of realm.old) (records_of realm.new) }

@@ -17,7 +17,7 @@ ghost use Rattle.esm_loads.specs.Hosted.{host_of, IsImport, IsRooted};
 ghost use Rattle.esm_loads.specs.UrlTable.{specifier_error};
 ghost use Rattle.esm_loads.specs.Loading.{Loading};
 ghost use Rattle.esm_loads.specs.Host.{reject_new};
-ghost use Rattle.esm_loads.specs.Loaded.{HaveLoaded};
+ghost use Rattle.esm_loads.specs.Loaded.{HaveLoaded, PastNewStay};
 ghost use Rattle.esm_loads.specs.Whole.{IsWhole};
 ghost use Rattle.esm_loads.specs.Inner.Asking.{IsFetchedAs};
 ghost use Rattle.esm_loads.specs.Inner.Filling.{FillsNew};
@@ -73,6 +73,7 @@ pub fn import_url(
     ensures fits { OnOk result (FitRecords loads.new (records_of realm.new)) }
     ensures same { map before_linking (records_of realm.new)
         ≡ map before_linking (records_of realm.old) }
+    ensures stay { PastNewStay (records_of realm.old) (records_of realm.new) }
     ensures fills { OnOk result
         (FillsNew loads.new.urls.slots (records_of realm.old) (records_of realm.new)) }
     ensures sound { IsSound (records_of realm.new) }
@@ -217,6 +218,7 @@ pub fn import_call(
     ensures fits { OnOk result (FitRecords loads.new (records_of realm.new)) }
     ensures same { map before_linking (records_of realm.new)
         ≡ map before_linking (records_of realm.old) }
+    ensures stay { PastNewStay (records_of realm.old) (records_of realm.new) }
     ensures loaded { IsWhole (loading_of import_map.now loads.old (records_of realm.old))
         → HaveLoaded (records_of realm.old) → OnOk result (HaveLoaded (records_of realm.new)) }
     ensures sound { IsSound (records_of realm.new) }

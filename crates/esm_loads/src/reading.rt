@@ -1,9 +1,9 @@
 // What the jobs of loads read. ECMA-262, ContinueDynamicImport.
-ghost use Rattle.std.specs.Prelude.{◌≡◌, ℕ, List, slice_get};
+ghost use Rattle.std.specs.Prelude.{◌≡◌, ℕ, List, IfSome, slice_get, true};
 ghost use Rattle.esm_import_map.specs.ImportMap.{Maps};
 ghost use Rattle.esm_realm.specs.Sound.{RecordParts};
 ghost use Rattle.esm_loads.specs.Loading as loading;
-ghost use Rattle.esm_loads.specs.LoadsView.{promise_id};
+ghost use Rattle.esm_loads.specs.LoadsView.{is_unlinked, promise_id};
 ghost use Rattle.esm_loads.specs.LoadsAsLoading.{loading_of};
 ghost use Rattle.esm_loads.specs.Fits.{FitRecords};
 ghost use Rattle.esm_loads.specs.Loaded.{root_url};
@@ -32,10 +32,13 @@ fn complete_root(loads: &Loads, load: usize) -> Option<usize>
 
 /// The root of a load that has ended with all modules loaded.
 pub fn root_of_load(loads: &Loads, load: usize) -> Option<ModuleId>
-    ensures { (maps : Maps) (records : List RecordParts) → FitRecords loads.now records
+    ensures root { (maps : Maps) (records : List RecordParts) → FitRecords loads.now records
         → IsWhole (loading_of maps loads.now records)
         → loading.root_of_load (loading_of maps loads.now records) load
         ≡ root_url records result }
+    ensures loaded { (maps : Maps) (records : List RecordParts) → FitRecords loads.now records
+        → IsWhole (loading_of maps loads.now records)
+        → IfSome result (λ m. is_unlinked records m.0 ≡ true) }
 {
     match complete_root(loads, load) {
         Some(place) => loads.urls.module_at(place),

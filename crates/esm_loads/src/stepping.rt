@@ -16,7 +16,7 @@ ghost use Rattle.esm_loads.specs.LoadsAsLoading.{loading_of, trees_of};
 ghost use Rattle.esm_loads.specs.Fits.{AreJoined, FitRecords, HaveRecords};
 ghost use Rattle.esm_loads.specs.declared.data.Slot.{Slot};
 ghost use Rattle.esm_loads.specs.Hosted.{host_of, StopsHost};
-ghost use Rattle.esm_loads.specs.Loaded.{HaveLoaded};
+ghost use Rattle.esm_loads.specs.Loaded.{HaveLoaded, PastNewStay};
 ghost use Rattle.esm_loads.specs.Whole.{IsWhole};
 ghost use Rattle.esm_loads.specs.Inner.Answering.{MayGoOn};
 ghost use Rattle.esm_loads.specs.Inner.Filling.{FillsNew};
@@ -136,6 +136,7 @@ fn respond_to(
     ensures fits { OnOk result (FitRecords loads.new (records_of realm.new)) }
     ensures same { map before_linking (records_of realm.new)
         ≡ map before_linking (records_of realm.old) }
+    ensures stay { PastNewStay (records_of realm.old) (records_of realm.new) }
     ensures fills { OnOk result
         (FillsNew loads.new.urls.slots (records_of realm.old) (records_of realm.new)) }
     ensures sound { IsSound (records_of realm.new) }
@@ -170,6 +171,7 @@ pub fn respond(
     ensures fits { OnOk result (FitRecords loads.new (records_of realm.new)) }
     ensures same { map before_linking (records_of realm.new)
         ≡ map before_linking (records_of realm.old) }
+    ensures stay { PastNewStay (records_of realm.old) (records_of realm.new) }
     ensures fills { OnOk result
         (FillsNew loads.new.urls.slots (records_of realm.old) (records_of realm.new)) }
     ensures sound { IsSound (records_of realm.new) }
@@ -222,6 +224,7 @@ pub fn answer_next(
     ensures fits { OnOk result (FitRecords loads.new (records_of realm.new)) }
     ensures same { map before_linking (records_of realm.new)
         ≡ map before_linking (records_of realm.old) }
+    ensures stay { PastNewStay (records_of realm.old) (records_of realm.new) }
     ensures loaded { (maps : Maps) → IsWhole (loading_of maps loads.old (records_of realm.old))
         → HaveLoaded (records_of realm.old) → OnOk result (HaveLoaded (records_of realm.new)) }
     ensures sound { IsSound (records_of realm.new) }

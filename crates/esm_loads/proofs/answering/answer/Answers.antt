@@ -1,5 +1,5 @@
 -- By what stands there.
-use Rattle.std.proofs.Common.{◌≡◌, ◌∙◌, ap, sym, subst, refl, [], length, Some}
+use Rattle.std.proofs.Common.{◌∙◌, ap, sym, subst, refl, [], length, Some}
 use Rattle.esm_realm.specs.Sound.{records_of}
 use Rattle.esm_loads.specs.Load.{Enters, Answers}
 use Rattle.esm_loads.specs.Loading.{begin}

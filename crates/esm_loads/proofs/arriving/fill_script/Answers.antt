@@ -1,13 +1,17 @@
-use Rattle.std.proofs.Common.{ap, refl, ◌∙◌, ◌++◌, ◌∷◌, [], Ok, Err, map}
+use Rattle.std.proofs.Common.{ℕ, List, ap, refl, subst, sym, ◌∙◌, ◌++◌, ◌∷◌, [], Ok, Err, map}
 use Rattle.std.specs.Arc.{arc_value}
 use Rattle.std.proofs.lemmas.List.{map-append}
 use Rattle.esm_tree.specs.Syntax.{Parts}
+use Rattle.std.proofs.lemmas.List.Elements.{All-push}
+use Rattle.esm_tree.specs.Syntax.{Item}
+use Rattle.esm_grammar.specs.ModuleText.{Spells}
 use Rattle.esm_ast.specs.Entries.{EntryLists}
 use Rattle.esm_ast.specs.Script.{spelled_text}
 use Rattle.esm_realm.specs.Sound.{records_of, new_record}
 use Rattle.esm_values.specs.Errors.{make_error, fault}
 use Rattle.esm_values.specs.declared.errors.FaultKind.TheVariants.{TypeError}
 use Rattle.esm_loads.specs.LoadsView.{tree_items}
+use Rattle.esm_loads.specs.Fits.{HaveTexts}
 use Rattle.esm_loads.specs.Inner.Arriving.Filled.{AsModule}
 use Rattle.esm_loads.proofs.ArrivedEntry.{broken, sound_record, found_script, requests_are}
 use Rattle.esm_loads.proofs.arriving.fill_script.Goals as goal
@@ -31,3 +35,11 @@ pub returns-in_ok-error-in-Err-clause-filled : goal.returns-in_ok-error-in-Err-c
 returns-in_ok-error-in-Err-clause-filled c =
     broken _ _ _ _ _ _ _ c.in_ok-error-in-Err.ensures.id (found_script c.args.import_map.now c.args.url.now (spelled_text c.args.script.now) c.requests.result.now (Err _) (c.requests.ensures ∙ requests_are _ _ (c.entries.ensures.entries ∙ c.entries.ensures.of_tree)) (rw c.in-Err.is at c.in_ok-found.ensures)) refl refl
     (c.in_ok-error-in-Err.ensures.ok ∙ ap (λ m. make_error c.args.errors.now (fault TypeError m)) c.as_str.ensures.value)
+
+-- the tree that is added is the script's, whose bytes spell it
+pub returns-in_ok-id-in-Ok-clause-spelled : goal.returns-in_ok-id-in-Ok-clause-spelled
+returns-in_ok-id-in-Ok-clause-spelled c before =
+    let old = map tree_items c.args.trees.now.items in
+    let items = c.args.script.now.tree.items in
+    let is = ap (map tree_items) c.in_ok-push-in-Ok.ensures.items ∙ map-append tree_items c.args.trees.now.items _ ∙ ap (λ (t : Parts). old ++ t.items ∷ []) c.in_ok-share_tree-in-Ok.ensures in
+    subst HaveTexts (sym is) (All-push (λ (items : List Item). (bytes : List ℕ) × Spells bytes items) old items before (c.args.script.now.bytes, c.tree-spelled.ensures.spelled))

@@ -43,7 +43,7 @@ returns-clause-fits c =
     let at = c.open_place-place.ensures in
     subst (λ l. FitRecords l (records_of c.fill.new.realm)) (sym (c.settle.ensures at.slot at.at))
     (arrived.stored_fits c.args.map.now c.args.loads.now (records_of c.args.realm.now) (records_of c.fill.new.realm) c.open_place-place.result c.args.url.now (outcome_view c.args.outcome.now) c.in_ok-state.state c.args.errors.now c.fill.new.errors c.fill.new.trees
-    c.requires.fits at c.requires.answered c.in_ok-state.ensures.filled)
+    c.requires.fits at c.requires.answered c.in_ok-state.ensures.filled (c.in_ok-state.ensures.spelled c.requires.fits.matching.spelled))
 
 pub returns-clause-records : goal.returns-clause-records
 returns-clause-records c =

@@ -1,5 +1,5 @@
 -- The requests before have loaded their modules.
-use Rattle.std.proofs.Common.{◌≡◌, ℕ, length, Some}
+use Rattle.std.proofs.Common.{◌≡◌, length, Some}
 use Rattle.std.specs.Prelude.{slice_get}
 use Rattle.esm_realm.specs.Sound.{RecordParts, IsSound, records_of}
 use Rattle.esm_loads.specs.Inner.Filling.{Fills}

@@ -1,5 +1,5 @@
 -- The record with this id.
-use Rattle.std.proofs.Common.{◌≡◌, ap, sym, subst, arith, length, map, ◌∙◌}
+use Rattle.std.proofs.Common.{ap, sym, subst, arith, map, ◌∙◌}
 use Rattle.std.specs.Prelude.{◌<◌, slice_set}
 use Rattle.esm_realm.specs.Sound.{RecordParts, IsSound, parts_of, records_of}
 use Rattle.esm_realm.specs.declared.record.ModuleStatus.TheVariants.{Unlinked}

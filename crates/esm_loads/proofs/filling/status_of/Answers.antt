@@ -1,5 +1,5 @@
 -- The record with this id.
-use Rattle.std.proofs.Common.{ap, sym, subst, arith, length, ◌∙◌}
+use Rattle.std.proofs.Common.{ap, sym, subst, arith, ◌∙◌}
 use Rattle.std.specs.Prelude.{◌<◌}
 use Rattle.esm_realm.specs.Sound.{RecordParts, parts_of}
 use Rattle.esm_loads.proofs.Places.{index_get, map_long, some_is}

@@ -1,5 +1,5 @@
 -- Each module becomes Unlinked in its turn.
-use Rattle.std.proofs.Common.{◌≡◌, ◌<◌, ◌∙◌, ap, sym, subst, length, arith, refl, Bool, true, false}
+use Rattle.std.proofs.Common.{◌<◌, ◌∙◌, ap, sym, subst, length, arith, true}
 use Rattle.std.specs.Prelude.{◌||◌, slice_index_or}
 use Rattle.esm_realm.specs.Sound.{records_of}
 use Rattle.esm_loads.specs.LoadsView.{is_in, is_unlinked}
@@ -33,6 +33,7 @@ loop-i-preserved c =
     record {
       same = facts.same_after ss id r.0 R new r.1 u ∙ c.loop-i.invariant.same;
       unlinked = lists.one_more first R new c.args.ids.now c.loop-i.i id c.loop-i.invariant.unlinked (get_at c.args.ids.now c.loop-i.i 0 c.loop-i-test.true) (facts.more_after ss id r.0 R new r.1 u);
+      stay = facts.stay_after ss id r.0 R new r.1 u first c.loop-i.invariant.stay;
       fills = facts.fills_after ss id r.0 R new r.1 u first c.loop-i.invariant.fills;
       sound = c.unlink_one.ensures.sound;
     }

@@ -1,5 +1,5 @@
 -- By the place of the URL.
-use Rattle.std.proofs.Common.{◌≡◌, ap, sym, ◌∙◌, arith, rules, true, false, Some}
+use Rattle.std.proofs.Common.{◌≡◌, ap, sym, ◌∙◌, arith, rules, true, false}
 use Rattle.esm_loads.specs.LoadsView.{urls_of}
 use Rattle.esm_loads.proofs.Places.{get_within, some_is, closed_by}
 use Rattle.esm_loads.proofs.PlacesOfUrls.{place_some}

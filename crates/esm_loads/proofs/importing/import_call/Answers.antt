@@ -1,16 +1,14 @@
 -- By what the specifier resolves to.
-use Rattle.std.proofs.Common.{◌≡◌, ◌<◌, ◌+◌, ℕ, [], Ok, Err, ap, sym, subst, refl, ◌∙◌, length}
+use Rattle.std.proofs.Common.{ℕ, [], Ok, Err, ap, sym, subst, refl}
 use Rattle.esm_base.specs.Urls.{Url}
 use Rattle.esm_realm.specs.ById.{url_at}
 use Rattle.esm_realm.specs.Sound.{records_of}
-use Rattle.esm_specifier.specs.Resolution.{resolution_of_specifier}
 use Rattle.esm_loads.specs.LoadsAsLoading.{loading_of}
 use Rattle.esm_loads.specs.Fits.{FitRecords}
 use Rattle.esm_loads.specs.Hosted.{host_of}
 use Rattle.esm_loads.specs.ImportCall.{BeginsImport}
 use Rattle.esm_loads.specs.Loaded.{HaveLoaded}
 use Rattle.esm_loads.specs.Inner.Filling.{FillsNew}
-use Rattle.esm_loads.specs.declared.loads.Loads.{Loads}
 use Rattle.esm_loads.proofs.LoadedFacts.{have_after}
 use Rattle.esm_loads.proofs.Whole.{stays_whole}
 use Rattle.esm_loads.proofs.ImportFacts as facts

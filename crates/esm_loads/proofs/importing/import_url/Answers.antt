@@ -1,9 +1,8 @@
 -- The load is added, and its root is asked for or answered.
-use Rattle.std.proofs.Common.{◌≡◌, ◌<◌, ap, sym, subst, refl, ◌∙◌, length, arith, None, Ok, Err, ◌++◌, ◌∷◌, [], length-append}
+use Rattle.std.proofs.Common.{◌≡◌, ap, subst, refl, ◌∙◌, length, arith, Ok, Err, ◌∷◌, [], length-append}
 use Rattle.std.proofs.lemmas.Option.{slice_get_within}
 use Rattle.esm_realm.specs.Sound.{records_of}
 use Rattle.esm_loads.specs.Loading.{Loading, Root, ask}
-use Rattle.esm_loads.specs.Host.{Host}
 use Rattle.esm_loads.specs.ImportCall as import_call
 use Rattle.esm_loads.specs.LoadsView.{urls_of, url_at}
 use Rattle.esm_loads.specs.LoadsAsLoading.{loading_of, trees_of}

@@ -1,6 +1,5 @@
 -- The URL of a record is canonical.
-use Rattle.std.proofs.Common.{ap, sym, subst}
-use Rattle.std.specs.Prelude.{◌≡◌}
+use Rattle.std.proofs.Common.{sym, subst}
 use Rattle.esm_base.specs.Ends.{Gives}
 use Rattle.esm_base.specs.Urls.{IsCanonical}
 use Rattle.esm_realm.specs.Sound.{records_of}

@@ -1,5 +1,5 @@
 -- The record with this id.
-use Rattle.std.proofs.Common.{◌∙◌, sym, arith, length, subst}
+use Rattle.std.proofs.Common.{◌∙◌, sym, arith, subst}
 use Rattle.std.specs.Prelude.{◌<◌}
 use Rattle.esm_realm.specs.Sound.{parts_of}
 use Rattle.esm_loads.proofs.Places.{index_get, map_long}
