@@ -27,14 +27,14 @@ use Rattle.esm_env.specs.Cells.{Cell, Reading, read_cell}
 use Rattle.esm_env.specs.Cells.{Reading as reading}
 use Rattle.esm_env.specs.Reading.{IsReadingOf, IsMemberOf}
 use Rattle.esm_env.specs.Scopes.{Scopes, scope_in, import_of, cells_of, read_in, read_or}
-use Rattle.esm_env.specs.Faithful.{HasScope}
+use Rattle.esm_env.specs.Faithful.{HasScope, AreScopesOf}
 use Rattle.esm_env.specs.Laws.{ReadsRight}
 use Rattle.esm_env.specs.declared.scope.ModuleScope.{ModuleScope}
 use Rattle.esm_body.specs.Scopes.{Scope, in_scopes}
 use Rattle.esm_body.specs.State.{State, Importing, take_steps, steps_by, add_line, line_by}
 use Rattle.esm_body.specs.Acts.{Inner, Performs, Displays, DisplaysAll, ReadsBy, ReadsName, ReadsMemberOf, BeginsBy, read_answer, error_member, over_scopes, refuse_import, with_state}
 use Rattle.esm_body.specs.Fits.{IsKnown, AreLinked}
-use Rattle.esm_body.specs.Importers.{AreScopesOf, Begun, MayBegin, KeepsModules, IsLawful, outer_with}
+use Rattle.esm_body.specs.Importers.{Begun, MayBegin, KeepsModules, IsLawful, outer_with}
 use Rattle.esm_body.specs.View.{engine_of, state_of}
 use Rattle.esm_body.specs.Inner.Log.{TookSteps, AddedLine}
 use Rattle.esm_body.specs.Inner.Names.{reading_in, said_out, told_as, Tells}

@@ -1,6 +1,7 @@
 -- What setting and writing a name come to.
 use Rattle.std.proofs.Common.{◌≡◌, ℕ, nat_eq, zero, suc, ◌+◌, ◌<◌, ◌≤◌, Bool, true, false, List, [], ◌∷◌, ◌++◌, map, length, refl, ap, subst, sym, ◌∙◌, arith, get_or, slice_set, eqb, ◌⊎◌, inl, inr, MutBor}
 use Rattle.std.proofs.lemmas.Bool.Decides.{eqb_tells}
+use mathlib.Core.Bool.{true≢false}
 use Rattle.std.specs.Prelude.{Option, Some, None, is_some, Result, Ok, Err, IfOk, option_map, if◌then◌else◌, ⊤}
 use Rattle.esm_base.specs.declared.memory.Memory.{Memory}
 use Rattle.std.specs.Arc.{arc_value}
@@ -19,7 +20,8 @@ use Rattle.esm_env.specs.Calls.{scopes_of, IsWrittenBy, IsWrittenIn, IsInitialis
 use Rattle.esm_env.specs.Cells.{Cell, Cells}
 use Rattle.esm_env.specs.Writing.{Writing, writing_of}
 use Rattle.esm_env.specs.Scopes.{Scopes, own_cell, scope_in, import_in, written_by, cells_of, wrote_set}
-use Rattle.esm_env.specs.Faithful.{IsFaithful, HasScope, HasImports, IsLikeScope}
+use Rattle.esm_env.specs.Makes.{OthersStay}
+use Rattle.esm_env.specs.Faithful.{IsFaithful, HasScope, HasImports, IsLikeScope, AreScopesOf}
 use Rattle.esm_env.specs.Laws.{WritesRight}
 use Rattle.esm_env.specs.declared.scope.ModuleScope.{ModuleScope}
 use Rattle.esm_env.specs.declared.scope.Target.{Target}
@@ -29,7 +31,6 @@ use Rattle.esm_env.specs.declared.scope.Wrote.TheVariants as wrote
 use Rattle.esm_body.specs.Scopes.{Scope, in_scope, in_scopes, set_by, set_in, set_where, set_in_scopes}
 use Rattle.esm_body.specs.State.{State, Importing}
 use Rattle.esm_body.specs.Acts.{Inner, module_write, scope_write, write_in, write_name, set_at, set_name}
-use Rattle.esm_body.specs.Importers.{AreScopesOf}
 use Rattle.esm_body.specs.View.{state_of}
 use Rattle.esm_body.specs.Inner.Slots.{slot_of, scope_of_slots}
 use Rattle.esm_body.specs.Inner.Stack.{scope_of_level, scopes_round}
@@ -328,15 +329,24 @@ scope_early e late like m t k = by (scope_in e m) refl (subst (IsLikeScope (scop
     by None e h = absurd (subst (λ o. IsLikeScope o (Some t)) e h)
     by (Some s) e h = let l = subst (λ o. IsLikeScope o (Some t)) e h in (s, e, l.0, l.1)
 
-like_scopes : (g : Modules ℕ) (linked : ℕ → Bool) (e late : Scopes) → AreScopesOf g linked e → IsFaithful g late → ((n : ℕ) → IsLikeScope (scope_in e n) (scope_in late n))
-    → AreScopesOf g linked late
-like_scopes g linked e late a faithful like = record {
+-- where the scope of a linked module alone has changed, what isn't linked has nothing written still
+unwritten_late : (g : Modules ℕ) (linked : ℕ → Bool) (e late : Scopes) (m : ℕ) → AreScopesOf g linked e → linked m ≡ true → OthersStay e m late
+    → (n : ℕ) (x : List ℕ) → linked n ≡ false → cells_of late n x ≡ None
+unwritten_late g linked e late m a here others n x away =
+    let other : n ≡ m → ⊥ = λ same. true≢false (sym here ∙ ap linked (sym same) ∙ away) in
+    ap (λ o. written_by o x) (others n other) ∙ a.unwritten n x away
+
+like_scopes : (g : Modules ℕ) (linked : ℕ → Bool) (e late : Scopes) (m : ℕ) → AreScopesOf g linked e → IsFaithful g late
+    → ((n : ℕ) → IsLikeScope (scope_in e n) (scope_in late n)) → linked m ≡ true → OthersStay e m late → AreScopesOf g linked late
+like_scopes g linked e late m a faithful like here others = record {
   faithful = faithful;
   trees = λ m t k. let s = scope_early e late like m t k in (λ j. (arc_value (s.3 j)).items) ∙ a.trees m s.0 s.1;
   made = λ m l. let s = a.made m l in scope_late e late like m s.0 s.1;
   bound = λ m t l k x. let s = scope_early e late like m t k in
       rw s.2 (has_late e late like (import_in s.0.imports.items x) (a.bound m s.0 l s.1 x));
   imports = λ m t l k x. let s = scope_early e late like m t k in (λ j. is_some (import_in (s.2 j).items x)) ∙ a.imports m s.0 l s.1 x;
+  inside = λ m t x i k im. let s = scope_early e late like m t k in a.inside m s.0 x i s.1 im;
+  unwritten = unwritten_late g linked e late m a here others;
 }
 
 abbrev Stays : Wrote → Type 0
@@ -393,30 +403,30 @@ module _ {I : Type 0} (modules : I → Modules ℕ) (linked : I → ℕ → Bool
 
   -- what is thrown, and what is then, is the definitions'
   pub writes_is : (old new : List (Scope CodeValue)) (e late : Scopes) (m : ℕ) (x : List ℕ) (v : Value) (result : Wrote) (es es' : Errors) (told : Option Value)
-      → WritesRight → AreScopesOf (modules i) (linked i) e → Home e m → (o : Option (Cell CodeValue)) → WritesAt o old e m x v result new late → ThrowsWrote x result es told es'
+      → WritesRight → AreScopesOf (modules i) (linked i) e → linked i m ≡ true → Home e m → (o : Option (Cell CodeValue)) → WritesAt o old e m x v result new late → ThrowsWrote x result es told es'
       → ((thrown told, At new late es') ≡ write_in nat_eq modules begins m (At old e es) x (value_of v) o) × AreScopesOf (modules i) (linked i) late
-  writes_is old new e late m x v result es es' told right a home (Some c) h t = (
+  writes_is old new e late m x v result es es' told right a here home (Some c) h t = (
     ap (λ late. (thrown told, At new late es')) h.1
         ∙ block_is old new e m x v es es' told c.constant c.value (subst (λ r. ScopesWrote old x v r new) h.0 h.2) (subst (λ r. ThrowsWrote x r es told es') h.0 t),
     subst (AreScopesOf (modules i) (linked i)) (sym h.1) a,
   )
-  writes_is old new e late m x v result es es' told right a home None h t = (
+  writes_is old new e late m x v result es es' told right a here home None h t = (
     ap (λ new. (thrown told, At new late es')) h.1
         ∙ module_is old e late m x v result es es' told h.0 t
         ∙ ap (module_write nat_eq modules begins m (At old e es) x) (right.writes (modules i) e late m home.0 x v result a.faithful home.1 home.2 h.0),
-    like_scopes (modules i) (linked i) e late a (right.faithful_written (modules i) e late m x v result a.faithful h.0) (right.stays_written e late m x v result h.0),
+    like_scopes (modules i) (linked i) e late m a (right.faithful_written (modules i) e late m x v result a.faithful h.0) (right.stays_written e late m x v result h.0) here h.0.1,
   )
 
   pub sets_is : (ss new : List (Scope CodeValue)) (e late : Scopes) (m : ℕ) (x : List ℕ) (v : Value) (es : Errors)
-      → WritesRight → AreScopesOf (modules i) (linked i) e → (ss ≡ [] → (c : Cell CodeValue) × (own_cell e m x ≡ Some c)) → SetsAt ss e m x v new late
+      → WritesRight → AreScopesOf (modules i) (linked i) e → linked i m ≡ true → (ss ≡ [] → (c : Cell CodeValue) × (own_cell e m x ≡ Some c)) → SetsAt ss e m x v new late
       → (At new late es ≡ set_at nat_eq modules begins m ss (state_of engine e ps es i) x (value_of v)) × AreScopesOf (modules i) (linked i) late
-  sets_is [] new e late m x v es right a own h =
+  sets_is [] new e late m x v es right a here own h =
       let c = own refl in
       let cells = right.sets e late m x v c.0 c.1 h.0 in (
         λ j. With (h.1 j) e es (cells j),
-        like_scopes (modules i) (linked i) e late a (right.faithful_set (modules i) e late m x v a.faithful h.0) (right.stays_set e late m x v h.0),
+        like_scopes (modules i) (linked i) e late m a (right.faithful_set (modules i) e late m x v a.faithful h.0) (right.stays_set e late m x v h.0) here h.0.1,
       )
-  sets_is (s ∷ ss) new e late m x v es right a own h = (λ j. At (h.0 j) (h.1 j) es, subst (AreScopesOf (modules i) (linked i)) (sym h.1) a)
+  sets_is (s ∷ ss) new e late m x v es right a here own h = (λ j. At (h.0 j) (h.1 j) es, subst (AreScopesOf (modules i) (linked i)) (sym h.1) a)
 
 -- ---- code under way
 
@@ -439,7 +449,7 @@ module _ {I S : Type 0} (seen : I → S) (modules : S → Modules ℕ) (linked :
         let home : (t : ModuleScope) × (scope_in (scopes_of w.envs.now) w.now.at.0 ≡ Some t) × HasImports (modules (seen w.imports.now)) w.now.at.0 t =
         (s.0, s.1, scopes.imports w.now.at.0 s.0 here s.1) in
         let r = writes_is modules linked begins w.engine.now w.promises.now (seen w.imports.now) (scopes_round w.now.levels.items) (scopes_round after.now.levels.items)
-        (scopes_of w.envs.now) (scopes_of after.envs.now) w.now.at.0 x v result w.errors.now after.errors.now told right scopes home
+        (scopes_of w.envs.now) (scopes_of after.envs.now) w.now.at.0 x v result w.errors.now after.errors.now told right scopes here home
         (in_scopes (scopes_round w.now.levels.items) x) to.1 t in
         ((λ j. (thrown told, Late after (like.engine j) (like.promises j) after.errors.now (like.imports j))) ∙ r.0, scopes_after w after like r.1),
   )
@@ -449,8 +459,8 @@ module _ {I S : Type 0} (seen : I → S) (modules : S → Modules ℕ) (linked :
       → SetsName seen modules linked fits begins w x v after
   sets_name w after x v right like errors to = (
     like,
-    λ scopes own.
+    λ scopes here own.
         let r = sets_is modules linked begins w.engine.now w.promises.now (seen w.imports.now) (scopes_round w.now.levels.items) (scopes_round after.now.levels.items)
-        (scopes_of w.envs.now) (scopes_of after.envs.now) w.now.at.0 x v w.errors.now right scopes own to.1 in
+        (scopes_of w.envs.now) (scopes_of after.envs.now) w.now.at.0 x v w.errors.now right scopes here own to.1 in
         ((λ j. Late after (like.engine j) (like.promises j) (errors j) (like.imports j)) ∙ r.0, scopes_after w after like r.1),
   )

@@ -1,6 +1,5 @@
 -- What lies outside of bodies, as the code has it: the modules that are there, and what begins an import().
 use Rattle.std.specs.Prelude.{◌≡◌, ◌<◌, ℕ, Bool, true, List, [], length, Some, Result, Ok, Err}
-use Rattle.std.specs.Arc.{arc_value}
 use Rattle.esm_base.specs.declared.limits.Limit.{Limit}
 use Rattle.esm_resolve.specs.Graph.{Graph}
 use Rattle.esm_values.specs.Value.{Value}
@@ -10,9 +9,8 @@ use Rattle.esm_promise.specs.Code.{Numbered}
 use Rattle.esm_promise.specs.Promises.{Settled, make, settle, is_pending}
 use Rattle.esm_promise.specs.Outer.{Outer}
 use Rattle.esm_env.specs.Modules.{Modules, entries}
-use Rattle.esm_env.specs.Faithful.{IsFaithful, HasScope, HasImports}
-use Rattle.esm_env.specs.Scopes.{Scopes, scope_in, import_in}
-use Rattle.esm_env.specs.declared.scope.ModuleScope.{ModuleScope}
+use Rattle.esm_env.specs.Faithful.{AreScopesOf}
+use Rattle.esm_env.specs.Scopes.{Scopes}
 use Rattle.esm_body.specs.State.{Importing}
 use Rattle.esm_body.specs.Bodies.{await_on, given_by}
 use Rattle.esm_body.specs.Fits.{AreLinked, IsKnown}
@@ -29,14 +27,6 @@ pub record HasLinked (g : Modules ℕ) (linked : ℕ → Bool) (h : Graph) (urls
   pub same : (m : ℕ) → linked m ≡ true → h.entries m ≡ entries g m
   pub target : (m request : ℕ) → linked m ≡ true → request < length (entries g m).requests → h.target m request ≡ g.target m request
   pub url : (m : ℕ) → linked m ≡ true → urls m ≡ g.url m
-
--- the scopes that were made are those of the modules, and each linked module has one, in which each import is bound
-pub record AreScopesOf (g : Modules ℕ) (linked : ℕ → Bool) (e : Scopes) : Type 0 where
-  pub faithful : IsFaithful g e
-  pub trees : (m : ℕ) (s : ModuleScope) → scope_in e m ≡ Some s → (arc_value s.tree).items ≡ g.tree m
-  pub made : (m : ℕ) → linked m ≡ true → (s : ModuleScope) × (scope_in e m ≡ Some s)
-  pub bound : (m : ℕ) (s : ModuleScope) → linked m ≡ true → scope_in e m ≡ Some s → (x : List ℕ) → HasScope e (import_in s.imports.items x)
-  pub imports : (m : ℕ) (s : ModuleScope) → linked m ≡ true → scope_in e m ≡ Some s → HasImports g m s
 
 module _ {I : Type 0} (modules : I → Modules ℕ) (linked : I → ℕ → Bool) (fits : Outer ℕ I → Type 0) (begins : Importing ℕ I) where
   -- a module that is linked begins an import() whose promise was made

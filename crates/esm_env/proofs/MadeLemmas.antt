@@ -1,13 +1,13 @@
 -- A scope that was made from the tree fits it.
-use Rattle.std.proofs.Common.{◌≡◌, ℕ, suc, ◌+◌, Bool, true, false, List, [], ◌∷◌, ◌++◌, map, refl, ap, subst, sym, ◌∙◌, arith}
-use Rattle.std.specs.Prelude.{Option, Some, slice_get}
+use Rattle.std.proofs.Common.{◌≡◌, ℕ, zero, suc, ◌+◌, Bool, true, false, List, [], ◌∷◌, ◌++◌, map, refl, ap, subst, sym, ◌∙◌, arith}
+use Rattle.std.specs.Prelude.{Option, Some, None, slice_get}
 use Rattle.std.specs.Str.{bytes_eq}
 use Rattle.std.proofs.lemmas.List.{map-append}
 use Rattle.esm_tree.specs.Syntax.{Item}
 use Rattle.esm_env.specs.Declarations.{Initial, Unset, FunctionAt, Declaration, FunctionCode, declared_in, body_of, functions_of, functions_by, function_named, declared_named, initial_by}
 use Rattle.esm_base.specs.declared.module_id.ModuleId.{ModuleId}
-use Rattle.esm_env.specs.Slots.{place_in, place_by, slot_in}
-use Rattle.esm_env.specs.Makes.{unset_slot, unset_slots, function_slot, function_slots, names_by, function_names}
+use Rattle.esm_env.specs.Slots.{place_in, place_by, slot_in, valued_by, written_in}
+use Rattle.esm_env.specs.Makes.{unset_slot, unset_slots, function_slot, function_slots, names_by, function_names, slots_for}
 use Rattle.esm_env.specs.Faithful.{SlotFits}
 use Rattle.esm_env.specs.Laws.{MadeFits}
 use Rattle.esm_env.specs.declared.slots.Slot.{Slot}
@@ -39,3 +39,25 @@ pub made_fits : MadeFits
 made_fits m items x =
     let functions = subst (λ ns. SlotFits m.0 (slot_in (function_slots m 0 ns) x) (function_named 0 (functions_of items) x)) (names_are items) (functions_fit m 0 (functions_of items) x) in
     declared_fit m.0 (declared_in (body_of items)) (function_slots m 0 (function_names items)) x (function_named 0 (functions_of items) x) functions
+
+-- ---- nothing is written in it
+
+abbrev NothingIn : List Slot → Type 0
+NothingIn ss = (k : ℕ) → written_in (slice_get ss k) ≡ None
+
+none_first : (s : Slot) (ss : List Slot) → s.written ≡ None → NothingIn ss → NothingIn (s ∷ ss)
+none_first s ss e h zero = ap valued_by e
+none_first s ss e h (suc k) = h k
+
+functions_unwritten : (m : ModuleId) (index : ℕ) (names : List (List ℕ)) → NothingIn (function_slots m index names)
+functions_unwritten m index [] k = refl
+functions_unwritten m index (name ∷ names) k =
+    none_first (function_slot m index name) (function_slots m (index + 1) names) refl (functions_unwritten m (index + 1) names) k
+
+declared_unwritten : (ds : List Declaration) (rest : List Slot) → NothingIn rest → NothingIn (unset_slots ds ++ rest)
+declared_unwritten [] rest h k = h k
+declared_unwritten (d ∷ ds) rest h k = none_first (unset_slot d) (unset_slots ds ++ rest) refl (declared_unwritten ds rest h) k
+
+pub made_unwritten : (m : ModuleId) (items : List Item) (x : List ℕ) → written_in (slot_in (slots_for m items) x) ≡ None
+made_unwritten m items x =
+    declared_unwritten (declared_in (body_of items)) (function_slots m 0 (function_names items)) (functions_unwritten m 0 (function_names items)) (place_in (slots_for m items) x)

@@ -1,13 +1,16 @@
 -- Scopes that were made from the trees of modules, with their imports bound as linking binds them.
-use Rattle.std.specs.Prelude.{◌≡◌, ℕ, false, List, Option, Some, None, is_some}
+use Rattle.std.specs.Prelude.{◌≡◌, ℕ, Bool, true, false, List, Option, Some, None, is_some}
+use Rattle.std.specs.Arc.{arc_value}
+use Rattle.esm_ast.specs.declared.entries.ImportEntry.{ImportEntry}
+use Rattle.esm_resolve.specs.Graph.{IsSound}
 use Rattle.esm_env.specs.Declarations.{Initial, Unset, FunctionAt, initial}
 use Rattle.esm_values.specs.Value.{Func, Namespace}
 use Rattle.esm_values.specs.Code.{value_of}
-use Rattle.esm_env.specs.Modules.{Modules}
+use Rattle.esm_env.specs.Modules.{Modules, graph}
 use Rattle.esm_env.specs.Bindings as names
 use Rattle.esm_env.specs.Bindings.{Binds, import_as}
 use Rattle.esm_env.specs.Slots.{slot_in, valued_by}
-use Rattle.esm_env.specs.Scopes.{Scopes, scope_in, import_in}
+use Rattle.esm_env.specs.Scopes.{Scopes, scope_in, import_in, cells_of}
 use Rattle.esm_env.specs.declared.slots.Slot.{Slot}
 use Rattle.esm_env.specs.declared.scope.Target.{Target}
 use Rattle.esm_env.specs.declared.scope.Target.TheVariants as targets
@@ -43,6 +46,19 @@ IsFaithful g e = (m : ℕ) (s : ModuleScope) → scope_in e m ≡ Some s → IsF
 -- each import of the module is bound, as linking sees to: a resolution without an end is a fault of linking
 abbrev pub HasImports : Modules ℕ → ℕ → ModuleScope → Type 0
 HasImports g m s = (x : List ℕ) → is_some (import_in s.imports.items x) ≡ is_some (import_as g m x)
+
+-- the scopes that were made are those of the modules. Each linked module has one, in which each import is bound, to what has a scope
+pub record AreScopesOf (g : Modules ℕ) (linked : ℕ → Bool) (e : Scopes) : Type 0 where
+  pub faithful : IsFaithful g e
+  pub trees : (m : ℕ) (s : ModuleScope) → scope_in e m ≡ Some s → (arc_value s.tree).items ≡ g.tree m
+  pub made : (m : ℕ) → linked m ≡ true → (s : ModuleScope) × (scope_in e m ≡ Some s)
+  pub bound : (m : ℕ) (s : ModuleScope) → linked m ≡ true → scope_in e m ≡ Some s → (x : List ℕ) → HasScope e (import_in s.imports.items x)
+  pub imports : (m : ℕ) (s : ModuleScope) → linked m ≡ true → scope_in e m ≡ Some s → HasImports g m s
+  -- all that its imports lead to is there
+  pub inside : (m : ℕ) (s : ModuleScope) (x : List ℕ) (i : ImportEntry) → scope_in e m ≡ Some s → import_as g m x ≡ Some i
+      → IsSound (graph g) (g.number (g.target m i.request))
+  -- nothing was written in a module that isn't linked
+  pub unwritten : (m : ℕ) (x : List ℕ) → linked m ≡ false → cells_of e m x ≡ None
 
 -- the same scope, but for what was written
 abbrev pub IsLikeScope : Option ModuleScope → Option ModuleScope → Type 0

@@ -1,6 +1,7 @@
 -- Linking keeps scopes right, and so does what leaves the modules that have scopes as they are.
 use Rattle.std.proofs.Common.{◌≡◌, ◌⊎◌, inl, inr, ℕ, zero, suc, ◌+◌, ◌<◌, Bool, true, false, nat_eq, List, [], ◌∷◌, length, Option, Some, None, refl, ap, subst, sym, ◌∙◌, arith, eqb-true}
 use Rattle.std.specs.Prelude.{is_some, Result, Ok, Err}
+use Rattle.std.proofs.lemmas.Option.{slice_get_within}
 use Rattle.std.specs.Arc.{arc_value}
 use mathlib.Core.Bool.{true≢false}
 use Rattle.esm_base.specs.Lists.{is_in, IsSameness}
@@ -9,7 +10,9 @@ use Rattle.esm_base.specs.declared.end.End.TheVariants.{Fault, Memory}
 use Rattle.esm_tree.specs.Syntax.{Parts}
 use Rattle.esm_tree.specs.declared.node.Wanted.{Wanted}
 use Rattle.esm_tree.specs.declared.node.Wanted.TheVariants as wanted
+use Rattle.esm_ast.specs.Entries.{entries_of}
 use Rattle.esm_ast.specs.declared.entries.ImportEntry.{ImportEntry}
+use Rattle.esm_ast.proofs.Requests.{names_requests}
 use Rattle.esm_realm.specs.declared.record.ModuleStatus.{ModuleStatus}
 use Rattle.esm_realm.specs.declared.record.ModuleStatus.TheVariants as statuses
 use Rattle.esm_realm.specs.Sound.{RecordParts}
@@ -17,30 +20,35 @@ use Rattle.esm_realm.specs.ById.{status_of, is_unlinked}
 use Rattle.esm_realm.proofs.Lists.{either}
 use Rattle.esm_realm.proofs.Numbers.{own, in_first, in_later, in_cons}
 use Rattle.esm_realm.proofs.Urls.{cases}
+use Rattle.esm_resolve.specs.Graph.{IsSound as IsSoundFrom}
 use Rattle.esm_resolve.specs.declared.graph.Binding.TheVariants as bindings
 use Rattle.esm_resolve.specs.declared.graph.Resolution.{Resolution}
 use Rattle.esm_resolve.specs.declared.graph.Resolution.TheVariants as resolutions
 use Rattle.esm_env.specs.Declarations.{Initial, initial}
-use Rattle.esm_env.specs.Modules.{Modules, entries, Exports}
+use Rattle.esm_env.specs.Modules.{Modules, entries, graph, Exports}
 use Rattle.esm_env.specs.Bindings as names
 use Rattle.esm_env.specs.Bindings.{CellOf, WholeOf, Binds, import_as, whole_only, whole_by, own_by, target_of}
-use Rattle.esm_env.specs.Faithful.{SlotFits, target_in, HasScope, IsFaithful, IsFaithfulAt, HasImports}
-use Rattle.esm_env.specs.Scopes.{Scopes, scope_in, import_in}
-use Rattle.esm_env.specs.Slots.{slot_in}
+use Rattle.esm_env.specs.Faithful.{SlotFits, target_in, HasScope, IsFaithful, IsFaithfulAt, HasImports, AreScopesOf}
+use Rattle.esm_env.specs.Scopes.{Scopes, scope_in, import_in, written_by, cells_of}
+use Rattle.esm_env.specs.Slots.{slot_in, written_in}
 use Rattle.esm_env.specs.declared.scope.ModuleScope.{ModuleScope}
 use Rattle.esm_env.specs.declared.scope.Target.{Target}
 use Rattle.esm_env.specs.declared.scope.Target.TheVariants as targets
+use Rattle.esm_env.proofs.MadeLemmas.{made_unwritten}
+use Rattle.esm_resolve.specs.Resolution.{module_id}
 use Rattle.esm_link.specs.Link as link
 use Rattle.esm_link.specs.Realm.{modules_of, items_by, fault_of, is_linked, relinked, IsRelinked, IsLinkedBy, LinkedAs, IsLinkedScope, MakesScopes}
 use Rattle.esm_link.specs.Local.{AreWhole, AgreeOn, AreTheLinked, AreLinkable}
-use Rattle.esm_body.specs.Importers.{AreScopesOf}
 use Rattle.esm_link.specs.Scopes.{linked_in, IsLinkedRealm, LinkKeepsScopes, ScopesAreLocal}
+use Rattle.esm_link.specs.Inner.Graph.{IsInside}
 use Rattle.esm_link.specs.declared.LinkFault.{LinkFault}
-use Rattle.esm_link.proofs.Local.{agree_itself, imported_below, home, binds_alike, import_alike}
+use Rattle.esm_link.proofs.Local.{agree_itself, imported_below, reached, home, binds_alike, import_alike}
 use Rattle.esm_link.proofs.ClosedLinks.{AreClosed, linking_closed, cut_closed}
 use Rattle.esm_link.proofs.FaithfulScopes.{linked_scopes_are_faithful}
 use Rattle.esm_link.proofs.FromLinked.{chosen, chosen_are, chosen_only, links_from_linked}
+use Rattle.esm_link.proofs.Linking.{sound_records, inside_of}
 use Rattle.esm_link.proofs.Marking.{plain_modules, length_plain}
+use Rattle.esm_link.proofs.Resolved.{sound}
 
 -- ---- what an import is bound to is among the modules that are there
 
@@ -125,6 +133,12 @@ status_below [] x h = absurd (true≢false (sym h))
 status_below (r ∷ rs) zero h = omega arith
 status_below (r ∷ rs) (suc x) h = let lt = status_below rs x h in omega (arith, lt)
 
+not_linked : (s : ModuleStatus) → is_unlinked s ≡ true → is_linked s ≡ false
+not_linked statuses.New u = absurd (true≢false (sym u))
+not_linked statuses.Unlinked u = refl
+not_linked statuses.Linking u = absurd (true≢false (sym u))
+not_linked statuses.Linked u = absurd (true≢false (sym u))
+
 linked_status : (s : ModuleStatus) → is_linked s ≡ true → s ≡ statuses.Linked
 linked_status statuses.New h = absurd (true≢false (sym h))
 linked_status statuses.Unlinked h = absurd (true≢false (sym h))
@@ -134,7 +148,7 @@ linked_status statuses.Linked h = refl
 -- ---- statuses behind linking
 
 module _ (trees : List Parts) (rs new : List RecordParts) (there : ℕ → Bool) (root : ℕ) (result : Result (Unit {0}) (End LinkFault))
-    (whole : AreWhole (modules_of trees rs) there) (linkable : AreLinkable rs there) (p : there root ≡ true)
+    (inside : IsInside trees rs) (whole : AreWhole (modules_of trees rs) there) (linkable : AreLinkable rs there) (p : there root ≡ true)
     (linked_whole : AreWhole (modules_of trees rs) (linked_in rs)) (l : IsLinkedBy trees rs root result new) where
   abbrev g : Modules ℕ
   g = modules_of trees rs
@@ -217,6 +231,13 @@ module _ (trees : List Parts) (rs new : List RecordParts) (there : ℕ → Bool)
       let k = the_end.closed.good x h in
       ap is_linked (the_end.relinked_is.status x (good_below x k) ∙ ap (λ b. relinked b (status_of rs x)) h) ∙ now_linked (status_of rs x) (status_good x k)
 
+  -- what was Linked is Linked still
+  stays : (x : ℕ) → linked_in rs x ≡ true → linked_in new x ≡ true
+  stays x h = closed_is x (the_end.closed.old x (linked_are x (status_below rs x h) ∙ h))
+
+  was_not : (x : ℕ) → linked_in new x ≡ false → linked_in rs x ≡ false
+  was_not x h = either (cases (linked_in rs x)) (λ k. absurd (true≢false (sym (stays x k) ∙ h))) (λ k. k)
+
   modules_are : modules_of trees new ≡ g
   modules_are = sym (plain_modules trees new) ∙ ap (modules_of trees) the_end.relinked_is.rest ∙ plain_modules trees rs
 
@@ -265,6 +286,30 @@ module _ (trees : List Parts) (rs new : List RecordParts) (there : ℕ → Bool)
         (λ k. let s = old.made m k in (s.0, others_stay m k ∙ s.1))
         (λ k. some_scope m (scope_in after m) (new_scope m h k.1))
 
+    -- ---- what imports lead to
+
+    leads_inside : (m : ℕ) (s : ModuleScope) (i : ImportEntry) → LinkedScope m s → IsSoundFrom (graph g) (g.target m i.request)
+    leads_inside m s i k =
+        let below : m < length rs = subst (λ n. m < n) inside.trees_are.as_many (slice_get_within trees m k.tree k.tree_is) in
+        sound trees rs inside (g.target m i.request) (inside.target m i.request below)
+
+    inside_new : (m : ℕ) (s : ModuleScope) (x : List ℕ) (i : ImportEntry) → scope_in after m ≡ Some s → import_as g m x ≡ Some i
+        → IsSoundFrom (graph g) (g.target m i.request)
+    inside_new m s x i is im = either (origin m s is) (λ k. old.inside m s x i k im) (leads_inside m s i)
+
+    -- ---- what was written
+
+    nothing : (m : ℕ) (x : List ℕ) (o : Option ModuleScope) → IsLinkedScope trees rs m o → written_by o x ≡ None
+    nothing m x None k = refl
+    nothing m x (Some s) k = ap (λ ss. written_in (slot_in ss x)) k.made.0 ∙ made_unwritten (module_id m) k.tree.items x
+
+    pub cells_stay : (m : ℕ) (x : List ℕ) → cells_of after m x ≡ cells_of e m x
+    cells_stay m x = either (cases (is_unlinked (status_of rs m)))
+        (λ u. either (makes.unlinked m u)
+        (λ k. ap (λ o. written_by o x) k)
+        (λ k. nothing m x (scope_in after m) k ∙ sym (old.unwritten m x (not_linked (status_of rs m) u))))
+        (λ u. ap (λ o. written_by o x) (makes.others m u))
+
     imports_new : (m : ℕ) (s : ModuleScope) → linked_in new m ≡ true → scope_in after m ≡ Some s → HasImports g m s
     imports_new m s h is = either (came m h)
         (λ k. old.imports m s k (sym (others_stay m k) ∙ is))
@@ -277,6 +322,8 @@ module _ (trees : List Parts) (rs new : List RecordParts) (there : ℕ → Bool)
       made = made_new;
       imports = imports_new;
       bound = λ m s h is. imports_have g (linked_in new) whole_new after made_new m s h (faithful_new m s is);
+      inside = inside_new;
+      unwritten = λ m x h. cells_stay m x ∙ old.unwritten m x (was_not m h);
     }
 
     realm_new : IsLinkedRealm trees new after
@@ -286,8 +333,12 @@ module _ (trees : List Parts) (rs new : List RecordParts) (there : ℕ → Bool)
     }
 
 pub link_keeps_scopes : LinkKeepsScopes
-link_keeps_scopes trees rs new e after there root result whole linkable p l makes old =
-    realm_new trees rs new there root result whole linkable p old.whole l e after makes old.scopes
+link_keeps_scopes trees rs new e after there root result sound_is trees_are whole linkable p l makes old =
+    let inside = inside_of trees rs (sound_records trees rs sound_is trees_are) in
+    record {
+      realm = realm_new trees rs new there root result inside whole linkable p old.whole l e after makes old.scopes;
+      cells = cells_stay trees rs new there root result inside whole linkable p old.whole l e after makes old.scopes;
+    }
 
 -- ---- other modules that agree on what has scopes
 
@@ -298,14 +349,38 @@ one_local g h there m s k p f = record {
   namespace = f.namespace;
 }
 
+-- the other one is whole, too
+whole_other : (g h : Modules ℕ) (there : ℕ → Bool) → AgreeOn g h there → AreWhole h there
+whole_other g h there k = record {
+  targets = λ m i p lt.
+      let below : i < length (entries g m).requests = subst (λ items. i < length (entries_of items).requests) (k.tree m p) lt in
+      subst (λ n. there n ≡ true) (sym (k.target m i p below)) (k.whole.targets m i p below);
+  named = k.named;
+}
+
+-- exports can be resolved from what is there, where all of it has numbers
+sound_there : (h : Modules ℕ) (there : ℕ → Bool) (w : AreWhole h there) → ((m : ℕ) → there m ≡ true → h.number m < h.size)
+    → (t : ℕ) → there t ≡ true → IsSoundFrom (graph h) (h.number t)
+sound_there h there w below t p n r =
+    let s = reached h there w p r in
+    record { below = subst (λ n. n < h.size) s.number_is (below (h.named n) s.there_is); exports = (names_requests (h.tree (h.named n))).exports }
+
+leads_there : (g h : Modules ℕ) (there : ℕ → Bool) → AgreeOn g h there → ((m : ℕ) → there m ≡ true → h.number m < h.size)
+    → (m : ℕ) (x : List ℕ) (i : ImportEntry) → there m ≡ true → import_as h m x ≡ Some i → IsSoundFrom (graph h) (h.number (h.target m i.request))
+leads_there g h there k below m x i p im =
+    let w = whole_other g h there k in
+    sound_there h there w below (h.target m i.request) (w.targets m i.request p (imported_below h there w m x i im))
+
 pub scopes_are_local : ScopesAreLocal
 scopes_are_local = record {
-  all = λ g h there linked e k here old. record {
+  all = λ g h there linked e k below here old. record {
     faithful = λ m s is. one_local g h there m s k (here m s is) (old.faithful m s is);
     trees = λ m s is. old.trees m s is ∙ sym (k.tree m (here m s is));
     made = old.made;
     imports = λ m s l is x. old.imports m s l is x ∙ ap is_some (sym (import_alike nat_eq g h there k m x (here m s is)));
     bound = old.bound;
+    inside = λ m s x i is im. leads_there g h there k below m x i (here m s is) im;
+    unwritten = old.unwritten;
   };
   one = one_local;
   linked = λ trees others rs qs there m o k p same l. record {

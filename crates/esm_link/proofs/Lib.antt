@@ -21,3 +21,4 @@ pub mod SpelledNames
 pub mod DeclaredNames
 pub mod OwnExports
 pub mod SameRecords
+pub mod KeptRecords

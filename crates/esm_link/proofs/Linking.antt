@@ -77,7 +77,7 @@ id_inside : (l : Option ModuleId) (n : ℕ) → 0 < n → IfSome l (λ m. m.0 < 
 id_inside None n lt h = lt
 id_inside (Some m) n lt h = h
 
-sound_records : (trees : List Parts) (rs : List RecordParts) → IsSound rs → AreTrees trees rs → IsWhole trees rs
+pub sound_records : (trees : List Parts) (rs : List RecordParts) → IsSound rs → AreTrees trees rs → IsWhole trees rs
 sound_records trees rs s t = record {
   few = s.few;
   inside = λ x t lt h.

@@ -3,7 +3,7 @@ ghost use Rattle.esm_link.specs.Laws.{ClosesWhole, HasLinking, LinkedScopesAreFa
 ghost use Rattle.esm_link.specs.Local.{ClosingIsLocal, LinkingIsLocal, LinksFromLinked, RecordsAgree};
 ghost use Rattle.esm_link.specs.Naming.{LinkingFollowsNames};
 ghost use Rattle.esm_link.specs.Parsed.{SpelledIsBound};
-ghost use Rattle.esm_link.specs.Scopes.{LinkKeepsScopes, ScopesAreLocal};
+ghost use Rattle.esm_link.specs.Scopes.{LinkKeepsScopes, LinkLeavesRecords, RecordsKeepScopes, ScopesAreLocal};
 
 /// Linking a module has one outcome: a fault or none, and the modules that are closed then.
 pub fn one_linking<N>()
@@ -52,12 +52,23 @@ pub fn records_agree()
 {}
 
 /// Linking keeps scopes right, whatever it answers: each Linked module has its own, each import of which is bound to what
-/// has a scope, and what a Linked module requests is Linked.
+/// has a scope, nothing is written in what isn't Linked, and what a Linked module requests is Linked. All that was written
+/// stays.
 pub fn link_keeps_scopes()
     ensures { LinkKeepsScopes }
 {}
 
-/// Scopes that are right over some modules are right over others that agree on all that have scopes.
+/// Linking leaves each record as it was but for its status, whatever it answers: Unlinked modules may have become Linked.
+pub fn link_leaves_records()
+    ensures { LinkLeavesRecords }
+{}
+
+/// What keeps the records and the trees of all that have scopes, and links nothing, keeps scopes right.
+pub fn records_keep_scopes()
+    ensures { RecordsKeepScopes }
+{}
+
+/// Scopes that are right over some modules are right over others that agree on all that have scopes, which have numbers there.
 pub fn scopes_are_local()
     ensures { ScopesAreLocal }
 {}

@@ -156,6 +156,6 @@ module _ {I S : Type 0} (seen : I → S) (modules : S → Modules ℕ) (linked :
 
   -- a declaration sets its name in the innermost block, or in the module
   abbrev pub SetsName : Inside I → List ℕ → Value → Inside I → Type 0
-  SetsName w x v after = IsLike w after × (HasScopes seen modules linked fits begins w → IsDeclared w x
+  SetsName w x v after = IsLike w after × (HasScopes seen modules linked fits begins w → HasHome w → IsDeclared w x
       → (inner_of seen after ≡ set_name nat_eq modules begins w.now.at.0 (inner_of seen w) x (value_of v))
       × HasScopes seen modules linked fits begins after)
