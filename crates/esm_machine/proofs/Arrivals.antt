@@ -31,7 +31,7 @@ use Rattle.esm_machine.specs.Held.{Held, StandsFor, IsHeld, entry_by, with_host,
 use Rattle.esm_machine.specs.Represents.{IsLive}
 use Rattle.esm_machine.specs.Arrivals.{urls_with, HaveRecords, HasArrived, ArrivalsAreOfTheWorld}
 use Rattle.esm_machine.proofs.Grown.{records_are_added}
-use Rattle.esm_machine.proofs.Numbers.{number}
+use Rattle.esm_machine.specs.Inner.Numbers.{number}
 use Rattle.esm_machine.proofs.Opens.{loading_is_of_the_world}
 
 -- ---- a pending request is answered

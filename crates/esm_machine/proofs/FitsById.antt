@@ -24,7 +24,7 @@ use Rattle.esm_machine.specs.Seen.{names, modules, linked}
 use Rattle.esm_machine.specs.Held.{Held, StandsFor, world_of}
 use Rattle.esm_machine.specs.FitsById.{IsLinkedId, KnowsId, FitsById, WorldsFitById}
 use Rattle.esm_machine.proofs.HoldsBack.{rest_back}
-use Rattle.esm_machine.proofs.Numbers.{number, number_url}
+use Rattle.esm_machine.specs.Inner.Numbers.{number, number_url}
 
 -- ---- the same linked modules, in the order that is held
 

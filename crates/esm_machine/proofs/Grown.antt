@@ -31,7 +31,7 @@ use Rattle.esm_world.proofs.FitBodies.{known_out}
 use Rattle.esm_values.specs.Numbering.{numbering, is_total}
 use Rattle.esm_machine.specs.Held.{Held, EntryHeld, Underway, Ended, Failed, entry_by, world_of, IsHeld, with_record, RecordsAreAdded}
 use Rattle.esm_values.proofs.Numbered.{numbers_urls}
-use Rattle.esm_machine.proofs.Numbers.{url, number, url_number, number_url}
+use Rattle.esm_machine.specs.Inner.Numbers.{url, number, url_number, number_url}
 use Rattle.esm_machine.proofs.Alike.{rest_alike}
 
 -- ---- lists

@@ -23,7 +23,7 @@ use Rattle.esm_world.specs.Turn.{Turn}
 use Rattle.esm_world.specs.Run.{Runs, asks, ending, shown, IsAllowed}
 use Rattle.esm_world.proofs.OneRun.{runs_one}
 use Rattle.esm_machine.specs.Held.{Held, EntryHeld, Underway, Ended, Failed, entry_by, state_of, world_of}
-use Rattle.esm_machine.proofs.Numbers.{url_number}
+use Rattle.esm_machine.specs.Inner.Numbers.{url_number}
 use Rattle.esm_machine.specs.Seen.{Seen, names, modules}
 use Rattle.esm_machine.specs.Represents.{TurnEnd, State, ShowsBy, Shows, asks_by_stop, ending_by_stop, ending_of, StoppedAs, IsLineBy, IsLineByStop, Tells, OpeningRepresents, TellsTheRun, TurnsAreTaken}
 use Rattle.esm_machine.proofs.Opens.{opens_as_world}

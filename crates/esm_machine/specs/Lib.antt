@@ -5,3 +5,8 @@ pub mod Following
 pub mod Steps
 pub mod FitsById
 pub mod Arrivals
+pub mod Evaluating
+pub mod Imports
+pub mod Kept
+pub mod Calls
+pub mod Inner

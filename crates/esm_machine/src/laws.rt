@@ -1,10 +1,31 @@
 // Laws of the definitions, as functions without effect.
+ghost use Rattle.esm_body.specs.Importers.{IsLawful};
+ghost use Rattle.esm_machine.specs.Evaluating.{EvaluationIsOfTheWorld};
 ghost use Rattle.esm_machine.specs.Following.{BodiesAreOfTheWorld, LinkingIsOfTheWorld};
 ghost use Rattle.esm_machine.specs.Held.{LoadingIsOfTheWorld, OpensAsWorld, RecordsAreAdded};
 ghost use Rattle.esm_machine.specs.Arrivals.{ArrivalsAreOfTheWorld};
 ghost use Rattle.esm_machine.specs.FitsById.{WorldsFitById};
 ghost use Rattle.esm_machine.specs.Steps.{StepsAreOfTheWorld};
+ghost use Rattle.esm_machine.specs.Imports.{ImportsAreThere};
+ghost use Rattle.esm_machine.specs.Kept.{RecordsShow};
 ghost use Rattle.esm_machine.specs.Represents.{OpeningRepresents, TellsTheRun, TurnsAreTaken};
+ghost use Rattle.esm_machine.specs.Seen.{Begins, Fits, linked, modules};
+
+/// What bodies rely on holds of what lies outside of them: what fits stays so by all that bodies do to promises and errors, and
+/// an `import()` has one outcome.
+pub fn imports_are_lawful()
+    ensures { IsLawful modules linked Fits Begins }
+{}
+
+/// What is linked is there, by ids, and exports can be resolved from each id, whatever the records and the loads are.
+pub fn imports_are_there()
+    ensures { ImportsAreThere }
+{}
+
+/// As long as nothing is lost, the records have what is seen of modules.
+pub fn records_show()
+    ensures { RecordsShow }
+{}
 
 /// What bodies do by ids, they do in the world.
 pub fn bodies_are_of_the_world()
@@ -64,3 +85,30 @@ pub fn arrivals_are_of_the_world()
 {
     esm_resolve::laws::shared_set()
 }
+/// Bodies with all that they read and write beside the promises, as contracts see them.
+pub trait ShownBodies {
+    ghost use Rattle.std.specs.Prelude.{ℕ};
+    ghost use Rattle.esm_base.specs.declared.limits.Limit.{Limit};
+    ghost use Rattle.esm_values.specs.Errors.{Errors};
+    ghost use Rattle.esm_env.specs.Cells.{Cells};
+    ghost use Rattle.esm_body.specs.State.{Engine};
+    ghost use Rattle.esm_eval.specs.Calls.{CodeCalls};
+    ghost use Rattle.esm_eval.specs.Host.{Outside};
+    ghost use Rattle.esm_machine.specs.Seen.{Seen};
+
+    /// What lies outside of bodies.
+    ghost seen: { Self → Seen };
+    /// The errors that were made.
+    ghost errors: { Self → Errors };
+    /// The cells that were written.
+    ghost cells: { Self → Cells ℕ };
+    /// The engine.
+    ghost engine: { Self → Engine ℕ };
+    /// What a call for a body does.
+    ghost acts: { CodeCalls (Outside Self) Limit };
+}
+
+/// Evaluating a module by ids, and what follows the end of a body, are so in the world, where each call for a body is.
+pub fn evaluation_is_of_the_world<B: ShownBodies>()
+    ensures { EvaluationIsOfTheWorld B.seen B.errors B.cells B.engine B.acts }
+{}

@@ -1,0 +1,57 @@
+// What is read of the records of modules, by id.
+ghost use Rattle.std.specs.Prelude.{◌≡◌, ◌≤◌, ◌<◌, length, slice_get, true, false};
+ghost use Rattle.esm_base.specs.declared.limits.TheConstants.{MAX_URLS};
+ghost use Rattle.esm_realm.specs.ById.{entries_at, loaded_at, url_at};
+ghost use Rattle.esm_realm.specs.Sound.{records_of};
+ghost use Rattle.esm_machine.specs.Imports.{loaded_or};
+
+use esm_ast::Entries;
+use esm_base::ModuleId;
+use esm_realm::Realm;
+
+/// How many modules there are.
+pub fn count_of(realm: &Realm) -> u32
+    requires { length (records_of realm.now) ≤ MAX_URLS }
+    ensures { result ≡ length (records_of realm.now) }
+{
+    realm.records.len() as u32
+}
+
+/// Whether there is a module with this id.
+pub fn has_module(realm: &Realm, m: ModuleId) -> bool
+    ensures yes { result ≡ true → m.0 < length (records_of realm.now) }
+    ensures no { result ≡ false → length (records_of realm.now) ≤ m.0 }
+{
+    (m.0 as usize) < realm.records.len()
+}
+
+/// The entries of a module.
+pub fn entries_of(realm: &Realm, m: ModuleId) -> &Entries
+    requires { m.0 < length (records_of realm.now) }
+    ensures { result.now ≡ entries_at (records_of realm.now) m.0 }
+{
+    &realm.records[m.0 as usize].entries
+}
+
+/// The module that a request has loaded, or the module itself where it has loaded none.
+pub fn loaded_of(realm: &Realm, m: ModuleId, request: usize) -> ModuleId
+    requires { m.0 < length (records_of realm.now) }
+    ensures { result.0 ≡ loaded_or m.0 (slice_get (loaded_at (records_of realm.now) m.0) request) }
+{
+    match realm.records[m.0 as usize].loaded.get(request) {
+        Some(Some(target)) => *target,
+        Some(None) => m,
+        None => m,
+    }
+}
+
+/// The URL of a module; empty where there is none.
+pub fn url_of(realm: &Realm, m: ModuleId) -> &str
+    ensures { result.now ≡ url_at (records_of realm.now) m.0 }
+{
+    if has_module(realm, m) {
+        realm.records[m.0 as usize].url.as_str()
+    } else {
+        ""
+    }
+}

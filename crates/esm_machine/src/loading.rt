@@ -1,0 +1,137 @@
+// Fetches and answers, as what lies outside of bodies takes them.
+ghost use Rattle.std.specs.Prelude.{◌≡◌, ◌<◌, ℕ, List, Bool, true, false, None, Some, IfOk, OnOk, Ok, length, All};
+ghost use Rattle.std.specs.Arc.{arc_value};
+ghost use Rattle.esm_base.specs.Lists.{EachOnce};
+ghost use Rattle.esm_base.specs.Urls.{IsUsable, Url, has, same_url};
+ghost use Rattle.esm_ast.specs.Outcome.{outcome_view};
+ghost use Rattle.esm_promise.specs.Code.{Numbered};
+ghost use Rattle.esm_loads.specs.Arrival.{after_fetch, next, open_asks};
+ghost use Rattle.esm_loads.specs.Hosted.{host_of};
+ghost use Rattle.esm_loads.specs.Loading as loading;
+ghost use Rattle.esm_loads.specs.LoadsView.{every_form, promise_id};
+ghost use Rattle.esm_loads.specs.UrlTable.{found};
+ghost use Rattle.esm_machine.specs.Calls.{AnswersBy, FetchesBy, LeavesModules, UnlessLost, condition_fetched, condition_of, opening_seen, urls_with};
+ghost use Rattle.esm_machine.specs.Imports.{is_whole, seen_of};
+ghost use Rattle.esm_machine.specs.declared.condition.Condition.TheVariants as conditions;
+
+use crate::condition::{Condition, condition_after};
+use crate::imports::Imports;
+use esm_ast::Outcome;
+use esm_base::{Memory, Text};
+use esm_import_map::ImportMap;
+use esm_loads::{LoadEnd, Loads};
+use esm_promise::Promises;
+use esm_realm::Realm;
+use esm_values::{Errors, PromiseId};
+use std::alloc::Global;
+use std::sync::Arc;
+
+impl Imports {
+    /// The entry is asked for, by a load that has the first promise.
+    pub fn opening(
+        alloc: Global,
+        import_map: Arc<ImportMap>,
+        entry: &Text,
+        promise: PromiseId,
+    ) -> Result<Imports, Memory>
+        requires usable { IsUsable entry.now }
+        requires first { promise.0 ≡ 0 }
+        ensures opens { IfOk result (λ i. seen_of i
+            ≡ opening_seen (arc_value import_map) entry.now) }
+        ensures maps { IfOk result (λ i. i.maps ≡ arc_value import_map) }
+        ensures whole { IfOk result (λ i. is_whole i.condition ≡ true) }
+    {
+        esm_loads::laws::opens_with_entry();
+        esm_loads::laws::stays_orderly();
+        esm_loads::laws::stays_whole();
+        let realm = Realm::new(alloc);
+        let mut loads = Loads::new(alloc);
+        match loads.ask_entry(&realm, entry, promise) {
+            Ok(()) => Ok(Imports {
+                realm,
+                loads,
+                import_map,
+                condition: Condition::Whole,
+            }),
+            Err(_end) => Err(Memory),
+        }
+    }
+
+    /// A fetch has ended: its bytes are counted, and what it came to stands under the URL.
+    ///
+    /// HTML, fetch a single module script and create a JavaScript module script.
+    pub fn arrive(
+        &mut self,
+        errors: &mut Errors,
+        url: &Text,
+        outcome: &Outcome,
+    ) -> Result<(), LoadEnd>
+        requires whole { is_whole self.old.condition ≡ true }
+        requires open { has (open_asks (seen_of self.old).loading) url.now ≡ true }
+        requires answered { next (seen_of self.old).loading ≡ None }
+        ensures fetches { (named : ℕ → Url) (promises : Numbered) → FetchesBy result
+            (after_fetch (host_of named promises errors.old (seen_of self.old).loading) url.now
+            (outcome_view outcome.now))
+            (host_of named promises errors.new (seen_of self.new).loading) }
+        ensures urls { OnOk result ((seen_of self.new).urls ≡ urls_with (seen_of self.old).urls
+            url.now (found self.old.maps every_form url.now (outcome_view outcome.now))) }
+        ensures linked { OnOk result ((seen_of self.new).linked ≡ (seen_of self.old).linked) }
+        ensures condition { self.new.condition ≡ condition_fetched result }
+        ensures maps { self.new.maps ≡ self.old.maps }
+    {
+        esm_loads::laws::stays_orderly();
+        esm_loads::laws::stays_whole();
+        match self
+            .loads
+            .arrive(&mut self.realm, errors, &self.import_map, url, outcome)
+        {
+            Ok(()) => Ok(()),
+            Err(end) => {
+                self.condition = Condition::Lost;
+                Err(end)
+            }
+        }
+    }
+
+    /// The first pending request of a fetched URL is answered; false exactly where there is none.
+    ///
+    /// ECMA-262, FinishLoadingImportedModule and ContinueDynamicImport.
+    pub fn step(&mut self, promises: &mut Promises, errors: &mut Errors) -> Result<bool, LoadEnd>
+        requires whole { is_whole self.old.condition ≡ true }
+        ensures answers { (named : ℕ → Url) → AnswersBy result
+            (host_of named promises.old errors.old (seen_of self.old).loading)
+            (host_of named promises.new errors.new (seen_of self.new).loading) }
+        ensures unchanged { result ≡ Ok false → (self.new ≡ self.old)
+            × (promises.new ≡ promises.old) × (errors.new ≡ errors.old) }
+        ensures modules { UnlessLost self.new.condition
+            (LeavesModules (seen_of self.old) (seen_of self.new)) }
+        ensures condition { self.new.condition ≡ condition_of result }
+        ensures maps { self.new.maps ≡ self.old.maps }
+    {
+        esm_loads::laws::only_grows();
+        esm_loads::laws::stays_orderly();
+        esm_loads::laws::stays_whole();
+        match self.loads.step(&mut self.realm, promises, errors) {
+            Ok(answered) => Ok(answered),
+            Err(end) => {
+                self.condition = condition_after(end);
+                Err(end)
+            }
+        }
+    }
+
+    /// The promise of the `import()` that a load is for; none of the load of an entry.
+    pub fn import_promise(&self, load: usize) -> Option<PromiseId>
+        ensures { loading.import_promise (seen_of self.now).loading load ≡ promise_id result }
+    {
+        self.loads.import_promise(load)
+    }
+
+    /// The URLs that are asked and not fetched, in order of asking.
+    pub fn asks(&self) -> &[Text]
+        requires whole { is_whole self.now.condition ≡ true }
+        ensures { result.now ≡ open_asks (seen_of self.now).loading }
+    {
+        self.loads.asks()
+    }
+}
