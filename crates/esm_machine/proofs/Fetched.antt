@@ -27,7 +27,8 @@ use Rattle.esm_loads.specs.UrlTable.{TableEntry, Entries, Found, Nothing, Faulty
 use Rattle.esm_loads.specs.Whole.{IsWhole}
 use Rattle.esm_loads.specs.declared.loads.Loads.{Loads}
 use Rattle.esm_link.specs.Realm.{is_linked}
-use Rattle.esm_machine.specs.Calls.{FetchesBy, urls_with}
+use Rattle.esm_machine.specs.Arrivals.{urls_with}
+use Rattle.esm_machine.specs.Calls.{FetchesBy}
 use Rattle.esm_machine.specs.Imports.{imported, is_whole, seen_of, linked_urls}
 use Rattle.esm_machine.specs.Kept.{GoesOn}
 use Rattle.esm_machine.specs.declared.condition.Condition.{Condition}

@@ -1,5 +1,5 @@
 -- What the calls of loading leave of what lies outside of bodies.
-use Rattle.std.specs.Prelude.{◌≡◌, Bool, true, false, List, [], ◌∷◌, ◌++◌, Some, None, Result, Ok, Err}
+use Rattle.std.specs.Prelude.{◌≡◌, Bool, true, false, [], Some, None, Result, Ok, Err}
 use Rattle.esm_base.specs.declared.end.End.{End}
 use Rattle.esm_base.specs.declared.end.End.TheVariants as ends
 use Rattle.esm_base.specs.declared.limits.Limit.{Limit}
@@ -9,7 +9,6 @@ use Rattle.esm_loads.specs.Arrival.{AnswersNext, next}
 use Rattle.esm_loads.specs.Host.{Host}
 use Rattle.esm_loads.specs.Loading.{opening_loading}
 use Rattle.esm_loads.specs.LoadsView.{every_form}
-use Rattle.esm_loads.specs.UrlTable.{Found, Nothing, Faulty, Script}
 use Rattle.esm_machine.specs.Seen.{Seen}
 use Rattle.esm_machine.specs.Imports.{condition_by}
 use Rattle.esm_machine.specs.declared.condition.Condition.{Condition}
@@ -59,9 +58,3 @@ abbrev pub FetchesBy : Result (Unit {0}) (End Limit) → Host → Host → Type 
 FetchesBy (Ok u) fetched after = after ≡ fetched
 FetchesBy (Err (ends.Fault limit)) fetched after = fetched.imports.stopped ≡ Some limit
 FetchesBy (Err ends.Memory) fetched after = Unit {0}
-
--- a module text brings one record more, and anything else none
-abbrev pub urls_with : List Url → Url → Found → List Url
-urls_with urls url Nothing = urls
-urls_with urls url (Faulty f) = urls
-urls_with urls url (Script m) = urls ++ url ∷ []

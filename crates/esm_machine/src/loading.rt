@@ -10,7 +10,8 @@ ghost use Rattle.esm_loads.specs.Hosted.{host_of};
 ghost use Rattle.esm_loads.specs.Loading as loading;
 ghost use Rattle.esm_loads.specs.LoadsView.{every_form, promise_id};
 ghost use Rattle.esm_loads.specs.UrlTable.{found};
-ghost use Rattle.esm_machine.specs.Calls.{AnswersBy, FetchesBy, LeavesModules, UnlessLost, condition_fetched, condition_of, opening_seen, urls_with};
+ghost use Rattle.esm_machine.specs.Arrivals.{urls_with};
+ghost use Rattle.esm_machine.specs.Calls.{AnswersBy, FetchesBy, LeavesModules, UnlessLost, condition_fetched, condition_of, opening_seen};
 ghost use Rattle.esm_machine.specs.Imports.{is_whole, seen_of};
 ghost use Rattle.esm_machine.specs.declared.condition.Condition.TheVariants as conditions;
 
