@@ -46,3 +46,13 @@ pub mod Shown
 pub mod CallLemmas
 pub mod StartLemmas
 pub mod NamesWritten
+pub mod Turning
+pub mod DeclaredLemmas
+pub mod SlotLevels
+pub mod TurnParts
+pub mod TurnLemmas
+pub mod TurnSteps
+pub mod Evaluated
+pub mod TurnTakes
+pub mod Advanced
+pub mod Used

@@ -15,6 +15,7 @@ mod members;
 mod names;
 mod scopes;
 mod starts;
+mod turn;
 mod work;
 mod world;
 mod writes;
