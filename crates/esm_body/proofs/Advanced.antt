@@ -1,8 +1,7 @@
 -- What the evaluation of a statement's expression comes to: its value is used or awaited, or it throws, calls or stops.
-use Rattle.std.proofs.Common.{◌≡◌, ◌<◌, ℕ, nat_eq, Bool, true, false, List, [], ◌∷◌, length, Option, None, Vec, Global, refl, ap, subst, sym, ◌∙◌}
+use Rattle.std.proofs.Common.{◌≡◌, ℕ, nat_eq, Bool, true, false, List, length, Option, None, Vec, Global, refl, ap, subst, sym}
 use Rattle.std.specs.Prelude.{Result, Ok, Err}
 use Rattle.std.specs.Arc.{arc_value}
-use Rattle.esm_base.specs.declared.limits.Limit.{Limit}
 use Rattle.esm_resolve.specs.Graph.{Graph}
 use Rattle.esm_resolve.specs.SharedSet.{SharedSetAgrees, SharedSetEnds}
 use Rattle.esm_values.specs.Code.{CodeValue, value_of, values_of, func_value, numbered}
@@ -16,7 +15,7 @@ use Rattle.esm_expr_eval.specs.Terms.{Term}
 use Rattle.esm_expr_eval.specs.Terms.Term.{Val}
 use Rattle.esm_promise.specs.Outer.{Outer}
 use Rattle.esm_env.specs.Modules.{Modules}
-use Rattle.esm_body.specs.Rest.{Rest, end, more}
+use Rattle.esm_body.specs.Rest.{Rest, more}
 use Rattle.esm_body.specs.Rest.{Use as Purpose}
 use Rattle.esm_body.specs.Rest.{Part as parts}
 use Rattle.esm_body.specs.Rest.{Use as uses}

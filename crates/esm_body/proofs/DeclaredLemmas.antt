@@ -1,8 +1,7 @@
 -- Outside of all blocks, what remains of a body sets only names that its module declares.
-use Rattle.std.proofs.Common.{◌≡◌, ℕ, suc, Bool, true, false, List, [], ◌∷◌, ◌++◌, Option, Some, None, refl, ap, subst, sym, ◌∙◌}
+use Rattle.std.proofs.Common.{◌≡◌, ℕ, Bool, true, false, List, [], ◌∷◌, ◌++◌, Option, Some, None, refl, subst}
 use Rattle.std.proofs.lemmas.List.{append_assoc}
 use Rattle.std.proofs.lemmas.Slice.Eq.{bytes_eq-Decides}
-use Rattle.std.specs.Prelude.{⊤}
 use Rattle.std.specs.Str.{bytes_eq}
 use Rattle.esm_base.specs.declared.limits.Limit.{Limit}
 use Rattle.esm_tree.specs.Syntax as x
@@ -13,12 +12,12 @@ use Rattle.esm_values.specs.Plans.{Rewritten as comes}
 use Rattle.esm_values.specs.Plans.{Acting, Rewritten, Plan, Follows, inside}
 use Rattle.esm_values.specs.Plans.{Follows as follows}
 use Rattle.esm_values.specs.Plans.Plan.{Ends, Asks}
-use Rattle.esm_values.specs.Acts.{Act, AnswerTo}
+use Rattle.esm_values.specs.Acts.{AnswerTo}
 use Rattle.esm_values.specs.Operators.{Values, values}
 use Rattle.esm_expr_eval.specs.Terms.{Term}
-use Rattle.esm_env.specs.Declarations.{Declaration, Initial, declared_by, declares, declared_in, declared_named, initial, initial_by, body_of, functions_of, function_named}
+use Rattle.esm_env.specs.Declarations.{Declaration, Initial, declared_by, declares, declared_in, declared_named, initial_by, body_of, functions_of, function_named}
 use Rattle.esm_env.specs.Modules.{Modules}
-use Rattle.esm_body.specs.Rest.{Use, Part, Rest, end, more, whole, begin, does_init, does_bindings, fill_rest, branch}
+use Rattle.esm_body.specs.Rest.{Use, Rest, end, more, whole, begin, does_init, does_bindings, fill_rest, branch}
 use Rattle.esm_body.specs.Rest.Part.{Whole, Does, Stands, In, Tries}
 use Rattle.esm_body.specs.Rest.{Use as uses}
 use Rattle.esm_body.specs.State.{State, Importing}

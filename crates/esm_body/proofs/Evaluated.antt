@@ -1,11 +1,10 @@
 -- Where the evaluation of a statement's expression leads, of the whole.
-use Rattle.std.proofs.Common.{◌≡◌, ℕ, nat_eq, Bool, true, false, List, [], ◌∷◌, length, Option, Some, None, refl, ap, subst, sym, ◌∙◌}
-use Rattle.std.specs.Prelude.{⊤, Result, Ok, Err}
+use Rattle.std.proofs.Common.{◌≡◌, ℕ, nat_eq, Bool, true, List, [], ◌∷◌, refl, ap, subst, sym, ◌∙◌}
+use Rattle.std.specs.Prelude.{Result, Ok, Err}
 use Rattle.std.specs.Arc.{arc_value}
 use Rattle.esm_base.specs.declared.limits.Limit.{Limit}
 use Rattle.esm_values.specs.Value.{Namespace}
-use Rattle.esm_values.specs.Code.{CodeValue, value_of, values_of, func_value, numbered}
-use Rattle.esm_values.specs.declared.value.Value.{Value}
+use Rattle.esm_values.specs.Code.{CodeValue, numbered}
 use Rattle.esm_values.specs.Plans.{Rewritten as comes}
 use Rattle.esm_expr_eval.specs.Ends.{TermEnd, Leads}
 use Rattle.esm_expr_eval.specs.Ends.{TermEnd as ends}
@@ -15,19 +14,18 @@ use Rattle.esm_promise.specs.Outer.{Outer}
 use Rattle.esm_env.specs.Modules.{Modules}
 use Rattle.esm_body.specs.Rest.{Part, Rest, Use, end, more}
 use Rattle.esm_body.specs.Rest.{Part as parts}
-use Rattle.esm_body.specs.Rest.{Use as uses}
 use Rattle.esm_body.specs.State.{State, Importing}
 use Rattle.esm_body.specs.Acts.{Inner}
-use Rattle.esm_body.specs.BodyRewriting.{RewrittenBody, On, Waits, RewritesBody}
+use Rattle.esm_body.specs.BodyRewriting.{RewrittenBody, On, RewritesBody}
 use Rattle.esm_body.specs.BodyRewriting.{RewritesBody as rule}
 use Rattle.esm_body.specs.Segment.{RewritesOutermost}
 use Rattle.esm_body.specs.Fits.{Kind}
-use Rattle.esm_body.specs.Inner.Chains.{Comes, here, last, later, Turns, only, behind}
-use Rattle.esm_body.specs.Inner.Contexts.{Context, Block, Trying, scopes_in, placed, surrounded, caught_in}
+use Rattle.esm_body.specs.Inner.Chains.{Comes, here, later, Turns, only, behind}
+use Rattle.esm_body.specs.Inner.Contexts.{Context, Block, Trying, scopes_in, surrounded, caught_in}
 use Rattle.esm_body.specs.Inner.Declared.{IsNameOf, SetsRest}
-use Rattle.esm_body.specs.Inner.Stack.{innermost, in_front_of, scopes_round}
+use Rattle.esm_body.specs.Inner.Stack.{innermost, in_front_of}
 use Rattle.esm_body.specs.Inner.World.{state_in, inner_of, HasScopes, IsSame, ActsInside, url_inside}
-use Rattle.esm_body.specs.Inner.Turn.{code_contexts, IsReadyFor, Moved, move_of, Came, Halted, Turned}
+use Rattle.esm_body.specs.Inner.Turn.{code_contexts, IsReadyFor, Moved, Turned}
 use Rattle.esm_body.specs.declared.log.Stop.{Stop}
 use Rattle.esm_body.specs.declared.log.Stop.TheVariants as stops
 use Rattle.esm_body.specs.declared.inside.Inside.{Inside}

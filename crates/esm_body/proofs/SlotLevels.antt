@@ -1,11 +1,11 @@
 -- Levels that changed in their slots alone: what remains is the same, in scopes with the new values.
-use Rattle.std.proofs.Common.{◌≡◌, ℕ, suc, ◌+◌, ◌<◌, List, [], ◌∷◌, ◌++◌, length, refl, ap, subst, sym, ◌∙◌, arith}
+use Rattle.std.proofs.Common.{◌≡◌, ℕ, ◌+◌, ◌<◌, List, [], ◌∷◌, ◌++◌, length, refl, ap, sym, ◌∙◌, arith}
 use Rattle.esm_tree.specs.Syntax.{Stmt as Statement}
 use Rattle.esm_tree.specs.Flat.{stmt_part}
 use Rattle.esm_values.specs.Code.{CodeValue}
 use Rattle.esm_body.specs.Scopes.{Scope}
 use Rattle.esm_body.specs.Rest.{Rest, end}
-use Rattle.esm_body.specs.Inner.Contexts.{Context, Block, Trying, surrounded, rescoped, retaken}
+use Rattle.esm_body.specs.Inner.Contexts.{Context, surrounded, rescoped, retaken}
 use Rattle.esm_body.specs.Inner.Stack.{contexts_of, context_by, innermost, levels_rest, in_front, scopes_round, scope_of_level, AreLevels}
 use Rattle.esm_body.specs.Inner.Written.{OnlySlots}
 use Rattle.esm_body.specs.declared.work.Kind.{Kind}

@@ -1,43 +1,37 @@
 -- Each turn of code under way is one rewriting or more.
-use Rattle.std.proofs.Common.{◌≡◌, ℕ, nat_eq, suc, ◌+◌, ◌<◌, ◌≤◌, Bool, true, false, List, [], ◌∷◌, length, Option, Some, None, refl, ap, subst, sym, ◌∙◌, arith}
-use Rattle.std.specs.Prelude.{⊤, Result, Ok, Err}
+use Rattle.std.proofs.Common.{◌≡◌, ℕ, nat_eq, Bool, List, [], ◌∷◌, length, Option, Some, None, refl, ap, subst, sym, ◌∙◌, arith}
+use Rattle.std.specs.Prelude.{Result, Ok}
 use Rattle.std.specs.Arc.{arc_value}
-use Rattle.esm_base.specs.declared.limits.Limit.{Limit}
-use Rattle.esm_base.specs.declared.memory.Memory.{Memory}
 use Rattle.esm_tree.specs.Syntax as x
 use Rattle.esm_tree.specs.Syntax.{Stmts, nothing}
 use Rattle.esm_tree.specs.Syntax.{Stmt as Statement}
 use Rattle.esm_tree.specs.Flat.{stmt_part}
 use Rattle.esm_tree.specs.declared.node.StmtId.{StmtId}
-use Rattle.esm_values.specs.Code.{CodeValue, value_of, numbered}
+use Rattle.esm_values.specs.Code.{CodeValue, value_of}
 use Rattle.esm_values.specs.declared.value.Value.{Value}
-use Rattle.esm_values.specs.Acts.{Act as act}
 use Rattle.esm_values.specs.Operators.{is_true, look_of}
 use Rattle.esm_values.specs.Plans.{Rewritten as comes}
-use Rattle.esm_values.specs.Plans.{Follows as follows}
-use Rattle.esm_expr_eval.specs.Terms.{Term}
 use Rattle.esm_expr_eval.specs.Terms.Term.{Val}
 use Rattle.esm_promise.specs.Outer.{Outer}
 use Rattle.esm_env.specs.Modules.{Modules}
-use Rattle.esm_body.specs.Rest.{Part, Rest, end, more, begin}
+use Rattle.esm_body.specs.Rest.{Part, Rest, more}
 use Rattle.esm_body.specs.Rest.{Part as parts}
 use Rattle.esm_body.specs.Rest.{Use as uses}
-use Rattle.esm_body.specs.State.{State, Importing}
-use Rattle.esm_body.specs.Acts.{Inner, set_name, write_name, Performs}
-use Rattle.esm_body.specs.BodyRewriting.{RewrittenBody, On, Gives, Waits, RewritesBody, wrote}
+use Rattle.esm_body.specs.State.{Importing}
+use Rattle.esm_body.specs.Acts.{Inner, write_name}
+use Rattle.esm_body.specs.BodyRewriting.{On, RewritesBody, wrote}
 use Rattle.esm_body.specs.BodyRewriting.{RewritesBody as rule}
 use Rattle.esm_body.specs.Segment.{RewritesOutermost}
 use Rattle.esm_body.specs.Fits.{Kind}
 use Rattle.esm_body.specs.Inner.Calls.{begun_branch}
-use Rattle.esm_body.specs.Inner.Chains.{Turns, only, behind}
-use Rattle.esm_body.specs.Inner.Contexts.{Context, scopes_in, surrounded, retaken, caught_in}
+use Rattle.esm_body.specs.Inner.Chains.{Turns, only}
+use Rattle.esm_body.specs.Inner.Contexts.{Context, surrounded, retaken, caught_in}
 use Rattle.esm_body.specs.Inner.Declared.{IsNameOf, SetsRest}
-use Rattle.esm_body.specs.Inner.Stack.{contexts_of, innermost, in_front_of, scopes_round, levels_rest, chosen, assigned, use_of, AreLevels}
-use Rattle.esm_body.specs.Inner.World.{state_in, inner_of, HasScopes, IsSame, IsReady, ActsInside}
-use Rattle.esm_body.specs.Inner.Written.{OnlySlots, IsLike, SetsName, WritesName, thrown}
-use Rattle.esm_body.specs.Inner.Turn.{IsCode, IsOutcome, code_rest, code_contexts, used, unbegun, SameCode, IsReadyFor, TurnsTo, Moved, move_of, Keeps, Came, Halted, Turned, Threw}
+use Rattle.esm_body.specs.Inner.Stack.{contexts_of, innermost, in_front_of, scopes_round, levels_rest, chosen, assigned, use_of}
+use Rattle.esm_body.specs.Inner.World.{state_in, inner_of, HasScopes}
+use Rattle.esm_body.specs.Inner.Written.{IsLike, SetsName, WritesName, thrown}
+use Rattle.esm_body.specs.Inner.Turn.{IsCode, IsOutcome, code_rest, code_contexts, used, SameCode, IsReadyFor, Came, Turned, Threw}
 use Rattle.esm_body.specs.declared.log.Stop.{Stop}
-use Rattle.esm_body.specs.declared.log.Stop.TheVariants as stops
 use Rattle.esm_body.specs.declared.inside.Inside.{Inside}
 use Rattle.esm_body.specs.declared.turn.Outcome.{Outcome}
 use Rattle.esm_body.specs.declared.turn.Outcome.TheVariants as o
@@ -47,7 +41,7 @@ use Rattle.esm_body.specs.declared.work.Use.TheVariants as u
 use Rattle.esm_body.proofs.Moved as moved
 use Rattle.esm_body.proofs.Paths.{scopes_are}
 use Rattle.esm_body.proofs.SlotLevels.{rounds_many, slots_many, slots_contexts, slots_rest, slots_levels, slots_some}
-use Rattle.esm_body.proofs.TurnParts.{keeps_itself, keeps_same, keeps_like, keeps_now, part_held, is_ready, declared_cell, Front, front_goes, front_stops, front_gives, front_waits, front_throws, rest_is, threw_turned, thrown_retaken, ready_stepped}
+use Rattle.esm_body.proofs.TurnParts.{keeps_itself, keeps_like, keeps_now, declared_cell, Front, front_goes, front_gives, front_throws, rest_is, threw_turned, thrown_retaken}
 
 module _ {I S : Type 0} (seen : I → S) (modules : S → Modules ℕ) (linked : S → ℕ → Bool) (fits : Outer ℕ S → Type 0) (begins : Importing ℕ S) where
   abbrev Ready : Inside I → Kind → Rest CodeValue → Type 0

@@ -1,43 +1,40 @@
 -- Parts of the proof of a turn: what code under way keeps, and rewritings of its innermost block.
-use Rattle.std.proofs.Common.{◌≡◌, ℕ, nat_eq, suc, ◌+◌, ◌<◌, ◌≤◌, Bool, true, false, List, [], ◌∷◌, ◌++◌, length, Option, Some, None, refl, ap, subst, sym, ◌∙◌, arith, MutBor}
-use Rattle.std.specs.Prelude.{⊤, Result, Ok, Err}
+use Rattle.std.proofs.Common.{◌≡◌, ℕ, nat_eq, Bool, true, false, List, [], ◌∷◌, length, Option, Some, None, refl, ap, subst, sym, ◌∙◌, arith, MutBor}
+use Rattle.std.specs.Prelude.{Result, Ok, Err}
 use Rattle.std.specs.Arc.{arc_value}
 use Rattle.esm_base.specs.declared.limits.Limit.{Limit}
 use Rattle.esm_base.specs.declared.module_id.ModuleId.{ModuleId}
 use Rattle.esm_tree.specs.Syntax.{Item}
-use Rattle.esm_values.specs.Value.{Namespace}
 use Rattle.esm_values.specs.Value.{Value as Language}
 use Rattle.esm_values.specs.Code.{CodeValue, value_of}
 use Rattle.esm_values.specs.declared.value.Value.{Value}
 use Rattle.esm_values.specs.Acts.{Act as act}
 use Rattle.esm_values.specs.Plans.{Rewritten as comes}
-use Rattle.esm_expr_eval.specs.Terms.Term.{Val}
 use Rattle.esm_promise.specs.Code.{Numbered}
 use Rattle.esm_promise.specs.Outer.{Outer}
 use Rattle.esm_env.specs.Modules.{Modules}
 use Rattle.esm_env.specs.Cells.{Cell}
-use Rattle.esm_env.specs.Declarations.{Initial, initial}
+use Rattle.esm_env.specs.Declarations.{initial}
 use Rattle.esm_env.specs.Faithful.{SlotFits}
 use Rattle.esm_env.specs.Slots.{slot_in, cell_in, slot_cell}
 use Rattle.esm_env.specs.Calls.{scopes_of}
 use Rattle.esm_env.specs.Scopes.{scope_in, own_cell, cell_by}
 use Rattle.esm_env.specs.declared.envs.Envs.{Envs}
 use Rattle.esm_env.specs.declared.slots.Slot.{Slot}
-use Rattle.esm_body.specs.Scopes.{Scope, handler_scope}
-use Rattle.esm_body.specs.Rest.{Part, Rest, end, more, whole}
-use Rattle.esm_body.specs.Rest.Part.{In}
-use Rattle.esm_body.specs.State.{State, Importing, take_steps, steps_by}
+use Rattle.esm_body.specs.Scopes.{Scope}
+use Rattle.esm_body.specs.Rest.{Part, Rest, more}
+use Rattle.esm_body.specs.State.{State, Importing, steps_by}
 use Rattle.esm_body.specs.Acts.{Inner, over_scopes, Performs}
 use Rattle.esm_body.specs.BodyRewriting.{RewrittenBody, On, Gives, Waits, RewritesBody}
 use Rattle.esm_body.specs.Segment.{RewritesOutermost}
 use Rattle.esm_body.specs.Fits.{Kind, HoldsPart, HoldsRest, HoldScopes, FitsState, Knows}
-use Rattle.esm_body.specs.Inner.Chains.{Turns, only, behind}
+use Rattle.esm_body.specs.Inner.Chains.{Turns}
 use Rattle.esm_body.specs.Inner.Contexts.{Context, Block, Trying, scopes_in, surrounded, retaken, caught_in}
 use Rattle.esm_body.specs.Inner.Declared.{IsNameOf, SetsRest}
-use Rattle.esm_body.specs.Inner.Stack.{contexts_of, innermost, in_front_of, scopes_round}
+use Rattle.esm_body.specs.Inner.Stack.{innermost, in_front_of, scopes_round}
 use Rattle.esm_body.specs.Inner.World.{state_in, inner_of, HasScopes, IsSame, IsReady}
 use Rattle.esm_body.specs.Inner.Written.{IsLike}
-use Rattle.esm_body.specs.Inner.Turn.{IsCode, code_rest, code_contexts, SameLoans, SameCode, TreesStay, IsReadyFor, TurnsTo, Moved, move_of, Keeps, Came, Halted, Turned, Threw, ThrewTo, LeadsOut}
+use Rattle.esm_body.specs.Inner.Turn.{code_rest, code_contexts, SameLoans, TreesStay, IsReadyFor, TurnsTo, Moved, move_of, Keeps, Came, Turned, Threw, ThrewTo}
 use Rattle.esm_body.specs.declared.engine.Engine.{Engine}
 use Rattle.esm_body.specs.declared.log.Stop.{Stop}
 use Rattle.esm_body.specs.declared.log.Stop.TheVariants as stops
@@ -45,12 +42,10 @@ use Rattle.esm_body.specs.declared.inside.Inside.{Inside}
 use Rattle.esm_body.specs.declared.turn.Outcome.{Outcome}
 use Rattle.esm_body.specs.declared.turn.Outcome.TheVariants as o
 use Rattle.esm_body.specs.declared.work.Activation.{Activation}
-use Rattle.esm_body.specs.declared.work.Level.{Level}
 use Rattle.esm_body.proofs.CaughtLemmas.{thrown_is}
 use Rattle.esm_body.proofs.Levels.{levels_surround}
 use Rattle.esm_body.proofs.Moved as moved
-use Rattle.esm_body.proofs.Paths.{scopes_are, held_inside, outer_goes, outer_stops, outer_waits, outer_gives, outer_throws, thrown_in}
-use Rattle.esm_body.proofs.SlotLevels.{rounds_many}
+use Rattle.esm_body.proofs.Paths.{scopes_are, held_inside, outer_goes, outer_stops, outer_waits, outer_gives, outer_throws}
 
 apart : {limit : Limit} → ◌≡◌ {A = Result (Unit {0}) Limit} (Ok tt) (Err limit) → ⊥
 apart e = cc

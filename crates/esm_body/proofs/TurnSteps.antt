@@ -1,35 +1,33 @@
 -- Turns that take a step, and those that evaluate an expression.
-use Rattle.std.proofs.Common.{◌≡◌, ◌<◌, ◌≤◌, ℕ, nat_eq, Bool, true, false, List, [], ◌∷◌, ◌++◌, length, Option, Some, None, refl, ap, subst, sym, ◌∙◌}
-use Rattle.std.specs.Prelude.{⊤, Result, Ok, Err}
+use Rattle.std.proofs.Common.{◌≡◌, ◌<◌, ◌≤◌, ℕ, nat_eq, Bool, List, [], ◌∷◌, length, ap, subst, sym, ◌∙◌}
+use Rattle.std.specs.Prelude.{Result, Ok, Err}
 use Rattle.std.specs.Arc.{arc_value}
 use Rattle.esm_base.specs.declared.limits.Limit.{Limit}
-use Rattle.esm_tree.specs.Syntax.{Stmt as Statement, Parts}
+use Rattle.esm_tree.specs.Syntax.{Parts}
 use Rattle.esm_tree.specs.Flat.{stmt_part, stmt_of, need_of, IsStmtBelow}
 use Rattle.esm_tree.specs.declared.node.StmtId.{StmtId}
 use Rattle.esm_tree.specs.declared.node.StmtNode.{StmtNode}
-use Rattle.esm_values.specs.Code.{CodeValue, value_of, values_of, func_value, numbered}
+use Rattle.esm_values.specs.Code.{CodeValue, value_of, values_of, numbered}
 use Rattle.esm_values.specs.declared.value.Value.{Value}
 use Rattle.esm_values.specs.Acts.{Act as act}
 use Rattle.esm_values.specs.Plans.{Rewritten as comes}
 use Rattle.esm_values.specs.Plans.{Follows as follows}
-use Rattle.esm_expr_eval.specs.Terms.{Term}
 use Rattle.esm_expr_eval.specs.Terms.Term.{Val}
 use Rattle.esm_promise.specs.Outer.{Outer}
 use Rattle.esm_env.specs.Modules.{Modules}
-use Rattle.esm_body.specs.Rest.{Part, Rest, Use, end, more, begin}
+use Rattle.esm_body.specs.Rest.{Part, Rest, more, begin}
 use Rattle.esm_body.specs.Rest.{Part as parts}
 use Rattle.esm_body.specs.Rest.{Use as uses}
-use Rattle.esm_body.specs.State.{State, Importing, steps_by}
-use Rattle.esm_body.specs.Acts.{Inner, over_scopes, Performs}
-use Rattle.esm_body.specs.BodyRewriting.{RewrittenBody, On, Gives, Waits, RewritesBody}
+use Rattle.esm_body.specs.State.{Importing}
+use Rattle.esm_body.specs.Acts.{Performs}
+use Rattle.esm_body.specs.BodyRewriting.{On}
 use Rattle.esm_body.specs.BodyRewriting.{RewritesBody as rule}
-use Rattle.esm_body.specs.Segment.{RewritesOutermost}
 use Rattle.esm_body.specs.Fits.{Kind, Knows}
-use Rattle.esm_body.specs.Inner.Chains.{Comes, Turns, only, behind}
-use Rattle.esm_body.specs.Inner.Contexts.{Context, scopes_in, surrounded, caught_in}
-use Rattle.esm_body.specs.Inner.Stack.{contexts_of, innermost, in_front_of, levels_rest, scopes_round, use_of, AreLevels, Becomes, IsNodeOf}
+use Rattle.esm_body.specs.Inner.Chains.{Turns, only}
+use Rattle.esm_body.specs.Inner.Contexts.{surrounded}
+use Rattle.esm_body.specs.Inner.Stack.{innermost, levels_rest, scopes_round, AreLevels, Becomes, IsNodeOf}
 use Rattle.esm_body.specs.Inner.World.{state_in, inner_of, HasScopes, IsSame, IsReady, Answers, ActsInside}
-use Rattle.esm_body.specs.Inner.Turn.{IsCode, code_rest, code_contexts, used, unbegun, SameCode, IsReadyFor, Came, Halted, Turned}
+use Rattle.esm_body.specs.Inner.Turn.{IsCode, code_rest, code_contexts, used, unbegun, IsReadyFor, Came, Halted, Turned}
 use Rattle.esm_body.specs.declared.inside.Inside.{Inside}
 use Rattle.esm_body.specs.declared.log.Stop.{Stop}
 use Rattle.esm_body.specs.declared.log.Stop.TheVariants as stops
@@ -37,7 +35,7 @@ use Rattle.esm_body.specs.declared.turn.Outcome.TheVariants as o
 use Rattle.esm_body.specs.declared.work.Activation.{Activation}
 use Rattle.esm_body.specs.declared.work.Use.TheVariants as u
 use Rattle.esm_body.proofs.Led.{same_both}
-use Rattle.esm_body.proofs.TurnParts.{keeps_itself, keeps_same, keeps_now, part_held, is_ready, Front, front_goes, front_stops, rest_is, ready_stepped}
+use Rattle.esm_body.proofs.TurnParts.{keeps_same, keeps_now, part_held, is_ready, front_goes, front_stops, rest_is, ready_stepped}
 
 -- the node of a statement of a tree, seen over another view of the tree
 pub node_there : (tree view : Parts) (id : StmtId) (node : StmtNode) → view ≡ tree → stmt_part view.stmts id ≡ stmt_of view.exprs view.stmts node → need_of node ≤ length view.exprs → IsStmtBelow id.0 node → IsNodeOf tree id node

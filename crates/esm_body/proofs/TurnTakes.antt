@@ -1,15 +1,13 @@
 -- The next part is taken, or the innermost level is left.
-use Rattle.std.proofs.Common.{◌≡◌, ℕ, nat_eq, suc, ◌+◌, ◌<◌, ◌≤◌, Bool, List, [], ◌∷◌, length, Option, Some, None, refl, ap, subst, sym, ◌∙◌, arith}
-use Rattle.std.specs.Prelude.{⊤, Result, Ok, Err}
+use Rattle.std.proofs.Common.{◌≡◌, ℕ, ◌≤◌, Bool, List, [], ◌∷◌, length, Option, Some, None, refl, subst, sym, ◌∙◌, arith}
+use Rattle.std.specs.Prelude.{Result}
 use Rattle.std.specs.Arc.{arc_value}
 use Rattle.esm_tree.specs.Syntax.{Stmt as Statement}
 use Rattle.esm_values.specs.Code.{CodeValue}
-use Rattle.esm_values.specs.Plans.{Rewritten as comes}
 use Rattle.esm_promise.specs.Outer.{Outer}
 use Rattle.esm_env.specs.Modules.{Modules}
 use Rattle.esm_body.specs.Rest.{Rest, end, more}
 use Rattle.esm_body.specs.State.{Importing}
-use Rattle.esm_body.specs.BodyRewriting.{On}
 use Rattle.esm_body.specs.Fits.{Kind}
 use Rattle.esm_body.specs.Inner.Contexts.{surrounded}
 use Rattle.esm_body.specs.Inner.Stack.{contexts_of, innermost, in_front_of, levels_rest, part_of, AreLevels, IsTaken, IsLeft, IsWork}

@@ -1,7 +1,6 @@
 -- Rewritings one after another: what they leave fits, and takes steps or makes smaller what remains.
-use Rattle.std.proofs.Common.{◌≡◌, ℕ, zero, suc, ◌+◌, ◌<◌, ◌≤◌, Bool, true, List, [], ◌∷◌, length, Some, refl, ap, subst, sym, ◌∙◌, arith}
+use Rattle.std.proofs.Common.{◌≡◌, ℕ, suc, ◌+◌, Bool, true, [], refl, subst, arith}
 use Rattle.esm_base.specs.declared.limits.Limit.{Limit}
-use Rattle.esm_base.specs.declared.limits.TheConstants.{MAX_STEPS}
 use Rattle.esm_values.specs.Value.{Value}
 use Rattle.esm_values.specs.Plans.{Rewritten as comes}
 use Rattle.esm_promise.specs.Outer.{Outer}
@@ -15,9 +14,9 @@ use Rattle.esm_body.specs.Fits.{Kind, HoldsRest, FitsState, Knows}
 use Rattle.esm_body.specs.Inner.Chains.{Comes, here, last, later, Turns, only, behind}
 use Rattle.esm_body.proofs.Grown.{size_rest}
 use Rattle.esm_body.proofs.OneAct.{BeginsOne}
-use Rattle.esm_body.proofs.SomeAct.{BeginsSome, Took, took_both}
+use Rattle.esm_body.proofs.SomeAct.{BeginsSome, took_both}
 use Rattle.esm_body.proofs.SomeMove.{Left, Fits', Halted, some_move}
-use Rattle.esm_body.proofs.Follows.{Landed, landed_by}
+use Rattle.esm_body.proofs.Follows.{landed_by}
 
 module _ {N I : Type 0} (same : N → N → Bool) (modules : I → Modules N) (begins : Importing N I) where
   pub then_turns : {m : N} {w mid late : State N I} {r s : Rest (Value N)} {move : RewrittenBody (Value N) Limit}

@@ -1,5 +1,5 @@
 -- A value is used for a purpose that was read.
-use Rattle.std.proofs.Common.{◌≡◌, ℕ, Bool, List, refl, subst, sym}
+use Rattle.std.proofs.Common.{◌≡◌, ℕ, Bool, subst, sym}
 use Rattle.std.specs.Prelude.{Result}
 use Rattle.esm_promise.specs.Outer.{Outer}
 use Rattle.esm_env.specs.Modules.{Modules}

@@ -1,4 +1,4 @@
-use Rattle.std.proofs.Common.{◌≡◌, ap, sym}
+use Rattle.std.proofs.Common.{ap, sym}
 use Rattle.esm_body.specs.Rest.{Use as uses}
 use Rattle.esm_body.specs.declared.work.Use.TheVariants as u
 use Rattle.esm_body.proofs.TurnLemmas.{sets_came}

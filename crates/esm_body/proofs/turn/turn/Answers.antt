@@ -1,4 +1,4 @@
-use Rattle.std.proofs.Common.{Some, Option, ap, refl, ◌∙◌}
+use Rattle.std.proofs.Common.{Some, ap, refl, ◌∙◌}
 use Rattle.std.specs.Prelude.{Ok}
 use Rattle.esm_body.specs.declared.work.Work.TheVariants as w
 use Rattle.esm_body.proofs.TurnTakes.{taken_code, taken_work, taken_may, taken_turned, untaken_code, untaken_ends, untaken_may, untaken_turned}

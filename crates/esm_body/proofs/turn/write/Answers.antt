@@ -1,6 +1,5 @@
-use Rattle.std.proofs.Common.{◌≡◌, ap, ◌∙◌}
+use Rattle.std.proofs.Common.{◌≡◌}
 use Rattle.std.specs.Arc.{arc_value}
-use Rattle.esm_tree.specs.Syntax.{Parts}
 use Rattle.esm_tree.specs.Flat.{stmt_part}
 use Rattle.esm_body.specs.Inner.Stack.{assigned}
 use Rattle.esm_body.proofs.TurnLemmas.{like_code, writes_came, writes_turned}
