@@ -56,3 +56,11 @@ pub mod Evaluated
 pub mod TurnTakes
 pub mod Advanced
 pub mod Used
+pub mod Filled
+pub mod NextLemmas
+pub mod FailsLemmas
+pub mod Lighter
+pub mod Entered
+pub mod Followed
+pub mod TurnsOn
+pub mod Stepping

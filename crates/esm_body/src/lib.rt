@@ -14,6 +14,7 @@ mod log;
 mod members;
 mod names;
 mod scopes;
+mod segment;
 mod starts;
 mod turn;
 mod work;
