@@ -1,5 +1,5 @@
 -- The code of a function that is called is that of its module.
-use Rattle.std.proofs.Common.{◌≡◌, ℕ, nat_eq, Bool, true, List, [], ◌∷◌, length, Option, Some, None, refl, ap, subst, sym, ◌∙◌}
+use Rattle.std.proofs.Common.{◌≡◌, ℕ, Bool, List, length, Option, Some, None, ap, subst, sym, ◌∙◌}
 use Rattle.std.specs.Prelude.{Ok}
 use Rattle.std.specs.Arc.{arc_value}
 use Rattle.esm_tree.specs.Syntax.{Item}

@@ -1,8 +1,7 @@
 -- A throw of a function is one of the expression that called it.
-use Rattle.std.proofs.Common.{◌≡◌, ℕ, nat_eq, Bool, List, [], Option, Some, None, refl, ap, subst, sym, ◌∙◌}
+use Rattle.std.proofs.Common.{◌≡◌, ℕ, nat_eq, Bool, refl, subst, sym, ◌∙◌}
 use Rattle.std.specs.Prelude.{Result}
 use Rattle.std.specs.Arc.{arc_value}
-use Rattle.esm_base.specs.declared.limits.Limit.{Limit}
 use Rattle.esm_values.specs.Code.{CodeValue, value_of, numbered}
 use Rattle.esm_values.specs.declared.value.Value.{Value}
 use Rattle.esm_values.specs.Plans.{Rewritten as comes}
@@ -10,13 +9,13 @@ use Rattle.esm_expr_eval.specs.Frames.{around}
 use Rattle.esm_expr_eval.specs.Machine.{rest_of, at_rest}
 use Rattle.esm_expr_eval.specs.Rewriting.{Rewrites}
 use Rattle.esm_expr_eval.specs.Rewriting.{Rewrites as step}
-use Rattle.esm_expr_eval.specs.Terms.{Term, fill}
+use Rattle.esm_expr_eval.specs.Terms.{fill}
 use Rattle.esm_expr_eval.specs.Terms.Term.{Fails}
 use Rattle.esm_expr_eval.proofs.Ends.{fill_around}
 use Rattle.esm_expr_eval.proofs.Steps.{rewritten}
 use Rattle.esm_promise.specs.Outer.{Outer}
 use Rattle.esm_env.specs.Modules.{Modules}
-use Rattle.esm_body.specs.Rest.{Rest, more}
+use Rattle.esm_body.specs.Rest.{more}
 use Rattle.esm_body.specs.Rest.{Part as parts}
 use Rattle.esm_body.specs.State.{Importing}
 use Rattle.esm_body.specs.Acts.{Performs}

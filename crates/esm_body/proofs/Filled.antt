@@ -1,29 +1,28 @@
 -- What stands for a call under way stands there alone: what else remains of code under way holds no call.
-use Rattle.std.proofs.Common.{◌≡◌, ℕ, Bool, List, [], ◌∷◌, ◌++◌, length, map, Option, Some, None, refl, ap, subst, sym, ◌∙◌}
+use Rattle.std.proofs.Common.{◌≡◌, ℕ, List, [], ◌∷◌, ◌++◌, length, map, Option, Some, None, refl, ap, sym, ◌∙◌}
 use Rattle.std.specs.Arc.{arc_value}
 use Rattle.esm_tree.specs.Syntax as ast
 use Rattle.esm_tree.specs.Syntax.{Stmt as Statement}
 use Rattle.esm_tree.specs.Flat.{stmt_part, part}
-use Rattle.esm_values.specs.Code.{CodeValue, value_of, numbered}
-use Rattle.esm_expr_eval.specs.Terms.{Term, Terms, term, terms, compared_terms, links, fill, fill_all, fill_compared, fill_links}
-use Rattle.esm_expr_eval.specs.Terms.Term.{Val, Or, And, Equal, Sum, Not, Post, Print, NewError, Import}
+use Rattle.esm_values.specs.Code.{CodeValue, numbered}
+use Rattle.esm_expr_eval.specs.Terms.{Term, term, terms, compared_terms, links, fill, fill_all, fill_compared, fill_links}
+use Rattle.esm_expr_eval.specs.Terms.Term.{Or, And, Equal, Sum, Not, Post, Print, NewError, Import}
 use Rattle.esm_expr_eval.specs.Terms.Terms.{more as more_terms}
 use Rattle.esm_expr_eval.specs.Terms.Compared.{compared}
 use Rattle.esm_expr_eval.specs.Terms.LinkTerms.{member, call}
 use Rattle.esm_expr_eval.specs.Frames.{around, at_focus}
-use Rattle.esm_expr_eval.specs.Machine.{rest_of, at_rest, IsSound, IsGiven}
+use Rattle.esm_expr_eval.specs.Machine.{rest_of, at_rest, IsGiven}
 use Rattle.esm_expr_eval.specs.declared.frame.Focus.{Focus}
 use Rattle.esm_expr_eval.specs.declared.frame.Focus.TheVariants as focus
 use Rattle.esm_expr_eval.specs.declared.machine.ExprFrame.{ExprFrame}
 use Rattle.esm_expr_eval.proofs.Ends.{fill_around}
 use Rattle.esm_body.specs.Scopes.{Scope}
-use Rattle.esm_body.specs.Rest.{Part, Rest, Use, end, more, fill_part, fill_rest}
+use Rattle.esm_body.specs.Rest.{Part, Rest, end, more, fill_part, fill_rest}
 use Rattle.esm_body.specs.Rest.{Part as parts}
 use Rattle.esm_body.specs.Inner.Contexts.{Context, Block, Trying, placed, surrounded}
-use Rattle.esm_body.specs.Inner.Stack.{in_front, in_front_of, part_of, awaited_by, use_of, contexts_of, context_by, innermost, scope_of_level, handler_of, caught_of, AreWork, AreLevels, IsWork}
+use Rattle.esm_body.specs.Inner.Stack.{in_front, in_front_of, part_of, awaited_by, use_of, contexts_of, context_by, innermost, scope_of_level, AreWork, AreLevels, IsWork}
 use Rattle.esm_body.specs.Inner.Turn.{IsCode}
 use Rattle.esm_body.specs.declared.work.Activation.{Activation}
-use Rattle.esm_body.specs.declared.work.Doing.{Doing}
 use Rattle.esm_body.specs.declared.work.Kind.{Kind}
 use Rattle.esm_body.specs.declared.work.Kind.TheVariants as k
 use Rattle.esm_body.specs.declared.work.Level.{Level}

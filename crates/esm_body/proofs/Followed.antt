@@ -1,7 +1,7 @@
 -- What follows an outcome: code goes on, a caller does, a function is entered, or the segment ends.
 use Rattle.std.proofs.Common.{◌≡◌, ℕ, nat_eq, ◌<◌, ◌≤◌, Bool, true, false, List, [], ◌∷◌, ◌++◌, length, Option, Some, None, Vec, Global, refl, ap, subst, sym, ◌∙◌, arith}
 use Rattle.std.proofs.lemmas.Bool.Decides.{nat_tests}
-use Rattle.std.specs.Prelude.{⊤, nat_lt, Result, Ok, Err}
+use Rattle.std.specs.Prelude.{nat_lt, Result, Ok, Err}
 use Rattle.std.specs.Arc.{arc_value}
 use Rattle.esm_base.specs.declared.limits.TheConstants.{MAX_CALL_DEPTH}
 use Rattle.esm_values.specs.Value.{Undefined}
@@ -13,17 +13,15 @@ use Rattle.esm_expr_eval.specs.Terms.Term.{Val, Fails}
 use Rattle.esm_promise.specs.Outer.{Outer}
 use Rattle.esm_env.specs.Declarations.{FunctionCode}
 use Rattle.esm_env.specs.Modules.{Modules, function_of}
-use Rattle.esm_env.specs.Calls.{scopes_of}
 use Rattle.esm_body.specs.Rest.{Rest}
 use Rattle.esm_body.specs.State.{State, Importing, new_error}
-use Rattle.esm_body.specs.View.{state_of}
-use Rattle.esm_body.specs.Segment.{Active, active, Next, Goes, Over, call_by, called, called_by, return_to, throw_to, wait_by, too_deep}
+use Rattle.esm_body.specs.Segment.{Active, Next, Goes, call_by, called, called_by, return_to, throw_to, wait_by, too_deep}
 use Rattle.esm_body.specs.Inner.Chains.{IsFitNext}
 use Rattle.esm_body.specs.Inner.Declared.{IsNameOf, SetsRest}
-use Rattle.esm_body.specs.Inner.Running.{callers_of, waiting, doing_filled, IsCaller, AreCallers, IsEnded, Belongs, EndBelongs, done_by, next_after, ending, Continues, EndsHere, Followed, GivesBack, ThrowsBack, CallsIn, IsTooDeep, IsThere, IsCallee, FollowsFit, with_fault}
+use Rattle.esm_body.specs.Inner.Running.{callers_of, waiting, doing_filled, AreCallers, IsEnded, EndBelongs, done_by, ending, EndsHere, Followed, GivesBack, ThrowsBack, CallsIn, IsTooDeep, IsThere, IsCallee, FollowsFit, with_fault}
 use Rattle.esm_body.specs.Inner.Stack.{caller_of, doing_part, in_front_of, standing_rest, IsUse}
 use Rattle.esm_body.specs.Inner.Turn.{IsCode, IsCalling, code_rest}
-use Rattle.esm_body.specs.Inner.World.{state_in, HasScopes}
+use Rattle.esm_body.specs.Inner.World.{state_in}
 use Rattle.esm_body.specs.declared.inside.Inside.{Inside}
 use Rattle.esm_body.specs.declared.log.Stop.{Stop}
 use Rattle.esm_body.specs.declared.log.Stop.TheVariants as stops

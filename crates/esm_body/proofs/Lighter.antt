@@ -1,5 +1,5 @@
 -- What follows rewritings takes steps, of which there are no more than may be, or less remains of it and its callers.
-use Rattle.std.proofs.Common.{◌≡◌, ℕ, zero, suc, ◌+◌, ◌<◌, ◌≤◌, Bool, true, false, List, [], ◌∷◌, length, Option, Some, None, refl, ap, subst, sym, ◌∙◌, arith}
+use Rattle.std.proofs.Common.{◌≡◌, ℕ, suc, ◌<◌, ◌≤◌, Bool, true, false, List, [], ◌∷◌, length, Option, Some, None, refl, arith}
 use Rattle.std.specs.Prelude.{⊤, nat_lt}
 use Rattle.esm_base.specs.declared.limits.Limit.{Limit}
 use Rattle.esm_base.specs.declared.limits.TheConstants.{MAX_STEPS, MAX_CALL_DEPTH}
@@ -15,10 +15,10 @@ use Rattle.esm_body.specs.State.{State, Importing}
 use Rattle.esm_body.specs.BodyRewriting.{RewrittenBody, On, Gives, Waits}
 use Rattle.esm_body.specs.Segment.{Active, Next, Goes, Over, next_by, call_by, called, return_to}
 use Rattle.esm_body.specs.Fits.{Kind}
-use Rattle.esm_body.proofs.Grown.{size_rest, same_rest}
+use Rattle.esm_body.proofs.Grown.{same_rest}
 use Rattle.esm_body.proofs.OneAct.{BeginsOne}
 use Rattle.esm_body.proofs.SomeAct.{BeginsSome, Took}
-use Rattle.esm_body.proofs.SomeSegment.{weight, measure}
+use Rattle.esm_body.proofs.SomeSegment.{measure}
 use Rattle.esm_body.proofs.Turning.{Lands}
 
 module _ {N : Type 0} where

@@ -1,6 +1,5 @@
 -- The callers of what runs: one more, one fewer, and the innermost goes on with what stands for its call.
-use Rattle.std.proofs.Common.{◌≡◌, ℕ, nat_eq, suc, ◌+◌, Bool, List, [], ◌∷◌, ◌++◌, length, Option, Some, None, refl, ap, subst, sym, ◌∙◌, arith}
-use Rattle.std.specs.Prelude.{⊤}
+use Rattle.std.proofs.Common.{◌≡◌, ℕ, nat_eq, ◌+◌, Bool, List, [], ◌∷◌, ◌++◌, length, Some, refl, ap, subst, sym, ◌∙◌, arith}
 use Rattle.std.specs.Arc.{arc_value}
 use Rattle.esm_values.specs.Code.{CodeValue, value_of}
 use Rattle.esm_values.specs.declared.value.Value.{Value}
@@ -8,9 +7,9 @@ use Rattle.esm_expr_eval.specs.Terms.{Term}
 use Rattle.esm_expr_eval.specs.Terms.Term.{Val, Fails}
 use Rattle.esm_promise.specs.Outer.{Outer}
 use Rattle.esm_env.specs.Modules.{Modules}
-use Rattle.esm_body.specs.Rest.{Rest, fill_rest}
+use Rattle.esm_body.specs.Rest.{fill_rest}
 use Rattle.esm_body.specs.State.{State, Importing}
-use Rattle.esm_body.specs.Segment.{Active, Next, Goes, Over, return_to, throw_to}
+use Rattle.esm_body.specs.Segment.{Next, Goes, return_to, throw_to}
 use Rattle.esm_body.specs.Inner.Declared.{IsNameOf, SetsRest}
 use Rattle.esm_body.specs.Inner.Running.{callers_of, waiting, doing_filled, place_rest, IsPlace, IsCaller, AreCallers, body_at, Belongs, CallersBelong, going, Continues, GivesBack, ThrowsBack}
 use Rattle.esm_body.specs.Inner.Stack.{caller_of, doing_part}

@@ -1,8 +1,7 @@
 -- Turns one after another: up to one that took a step, and over these up to the end.
-use Rattle.std.proofs.Common.{◌≡◌, ℕ, nat_eq, ◌+◌, ◌-◌, ◌<◌, ◌≤◌, Bool, true, List, [], ◌∷◌, length, Option, Some, None, refl, ap, subst, sym, ◌∙◌, arith}
+use Rattle.std.proofs.Common.{◌≡◌, ℕ, nat_eq, ◌-◌, ◌<◌, ◌≤◌, Bool, List, [], length, refl, ap, subst, sym, ◌∙◌, arith}
 use Rattle.std.specs.Prelude.{Result, Ok, Err}
 use Rattle.std.specs.Arc.{arc_value}
-use Rattle.esm_base.specs.declared.limits.Limit.{Limit}
 use Rattle.esm_base.specs.declared.limits.TheConstants.{MAX_STEPS}
 use Rattle.esm_values.specs.Code.{CodeValue}
 use Rattle.esm_promise.specs.Outer.{Outer}
@@ -11,7 +10,7 @@ use Rattle.esm_body.specs.Rest.{Rest}
 use Rattle.esm_body.specs.State.{State, Importing}
 use Rattle.esm_body.specs.Segment.{Ended as ended}
 use Rattle.esm_body.specs.Inner.Chains.{EndsSo}
-use Rattle.esm_body.specs.Inner.Running.{callers_of, place_rest, ended_of, IsPlace, AreCallers, MayRun, next_after, Continues, Followed, FollowsFit, MayFollow, LeadsOn, GoesOn, IsOver, Went, Stepped, Ran, RanBehind}
+use Rattle.esm_body.specs.Inner.Running.{callers_of, place_rest, ended_of, IsPlace, AreCallers, MayRun, Followed, FollowsFit, LeadsOn, GoesOn, IsOver, Went, Stepped, Ran, RanBehind}
 use Rattle.esm_body.specs.Inner.Turn.{IsCode, Keeps}
 use Rattle.esm_body.specs.Inner.World.{state_in}
 use Rattle.esm_body.specs.declared.inside.Inside.{Inside}

@@ -1,5 +1,5 @@
 -- One turn and what follows it: a segment of what is left is one of the whole, and less is left.
-use Rattle.std.proofs.Common.{◌≡◌, ℕ, nat_eq, ◌+◌, ◌<◌, ◌≤◌, Bool, true, List, [], ◌∷◌, ◌++◌, length, Option, Some, None, MutBor, refl, ap, subst, sym, ◌∙◌, arith}
+use Rattle.std.proofs.Common.{◌≡◌, ℕ, nat_eq, Bool, true, List, [], ◌∷◌, ◌++◌, Option, Some, MutBor, refl, ap, subst, sym, ◌∙◌}
 use Rattle.std.specs.Prelude.{⊤, Result, Ok, Err}
 use Rattle.std.specs.Arc.{arc_value}
 use Rattle.esm_base.specs.declared.limits.Limit.{Limit}
@@ -11,19 +11,19 @@ use Rattle.esm_values.specs.Plans.{Rewritten as comes}
 use Rattle.esm_expr_eval.specs.Terms.Term.{Val}
 use Rattle.esm_promise.specs.Outer.{Outer}
 use Rattle.esm_env.specs.Modules.{Modules}
-use Rattle.esm_body.specs.Rest.{Rest, end, fill_rest}
+use Rattle.esm_body.specs.Rest.{Rest, end}
 use Rattle.esm_body.specs.State.{State, Importing}
 use Rattle.esm_body.specs.BodyRewriting.{RewrittenBody, On, Gives, Waits}
-use Rattle.esm_body.specs.Segment.{Active, Next, Goes, Over, Segment, next_by}
+use Rattle.esm_body.specs.Segment.{Active, Next, Segment, next_by}
 use Rattle.esm_body.specs.Segment.{Ended as ended}
 use Rattle.esm_body.specs.Segment.{Segment as segment}
-use Rattle.esm_body.specs.Fits.{FitsRun, FitCallers, FitsState, kind_by}
+use Rattle.esm_body.specs.Fits.{FitsRun, FitCallers, kind_by}
 use Rattle.esm_body.specs.Inner.Chains.{Turns, EndsSo, IsFitNext}
 use Rattle.esm_body.specs.Inner.Declared.{IsNameOf, SetsRest, SetsMove}
 use Rattle.esm_body.specs.Inner.Running.{callers_of, place_rest, body_at, Belongs, CallersBelong, Running, MayRun, done_by, next_after, going, ending, Followed, FollowsFit, MayFollow, LeadsTo, by_turns, by_end, LinksStay, Went}
 use Rattle.esm_body.specs.Inner.Stack.{caller_of}
-use Rattle.esm_body.specs.Inner.Turn.{IsCode, IsReadyFor, MayTurn, Moved, Came, Halted, Keeps, SameCode, Turned, move_of}
-use Rattle.esm_body.specs.Inner.World.{state_in, HasScopes}
+use Rattle.esm_body.specs.Inner.Turn.{IsCode, MayTurn, Moved, Came, Keeps, Turned, move_of}
+use Rattle.esm_body.specs.Inner.World.{state_in}
 use Rattle.esm_body.specs.declared.inside.Inside.{Inside}
 use Rattle.esm_body.specs.declared.log.Stop.{Stop}
 use Rattle.esm_body.specs.declared.log.Stop.TheVariants as stops
@@ -37,7 +37,7 @@ use Rattle.esm_body.specs.declared.work.Activation.{Activation}
 use Rattle.esm_body.specs.declared.work.Caller.{Caller}
 use Rattle.esm_body.proofs.DeclaredLemmas.{turns_set}
 use Rattle.esm_body.proofs.Follows.{back, fits_next, ends_whole}
-use Rattle.esm_body.proofs.Lighter.{Advances, Onward, lighter, done_lighter}
+use Rattle.esm_body.proofs.Lighter.{Onward, lighter, done_lighter}
 use Rattle.esm_body.proofs.OneAct.{BeginsOne}
 use Rattle.esm_body.proofs.SomeAct.{BeginsSome}
 use Rattle.esm_body.proofs.SomeSegment.{measure}

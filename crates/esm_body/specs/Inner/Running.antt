@@ -1,5 +1,5 @@
 -- Code under way with its callers, the last of which is the body, and what follows its outcomes.
-use Rattle.std.specs.Prelude.{◌≡◌, ◌<◌, ◌≤◌, ℕ, nat_eq, Bool, true, List, [], ◌∷◌, ◌++◌, length, Option, Some, None, Result, Ok, Err, ⊤, codes}
+use Rattle.std.specs.Prelude.{◌≡◌, ◌<◌, ◌≤◌, ℕ, nat_eq, Bool, true, List, [], ◌∷◌, ◌++◌, length, Option, Some, Result, Ok, Err, ⊤, codes}
 use Rattle.std.specs.Arc.{arc_value}
 use Rattle.esm_base.specs.declared.limits.Limit.{Limit}
 use Rattle.esm_base.specs.declared.limits.TheConstants.{MAX_STEPS}
@@ -26,7 +26,7 @@ use Rattle.esm_body.specs.Fits.{FitsRun, IsKnown}
 use Rattle.esm_body.specs.Inner.Chains.{Turns, EndsSo, IsFitNext}
 use Rattle.esm_body.specs.Inner.Declared.{IsNameOf, SetsRest, SetsMove}
 use Rattle.esm_body.specs.Inner.Stack.{in_front_of, standing_rest, awaited_by, use_of, caller_of, IsUse}
-use Rattle.esm_body.specs.Inner.Turn.{IsCode, IsCalling, IsOutcome, Keeps, code_rest, move_of}
+use Rattle.esm_body.specs.Inner.Turn.{IsCode, IsCalling, Keeps, code_rest, move_of}
 use Rattle.esm_body.specs.Inner.World.{state_in, HasScopes}
 use Rattle.esm_body.specs.declared.inside.Inside.{Inside}
 use Rattle.esm_body.specs.declared.log.Stop.{Stop}

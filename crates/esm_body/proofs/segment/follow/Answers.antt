@@ -1,4 +1,7 @@
-use Rattle.std.proofs.Common.{arith, length}
+use Rattle.std.proofs.Common.{arith, subst, sym}
+use Rattle.std.specs.Prelude.{Ok}
+use Rattle.esm_body.specs.Inner.Running.{Followed}
+use Rattle.esm_body.specs.declared.turn.Outcome.{Outcome}
 use Rattle.esm_body.proofs.Followed.{on_followed, done_followed, returned_followed, thrown_followed, waits_followed, deep_followed}
 use Rattle.esm_body.proofs.segment.follow.Goals as goal
 
@@ -12,7 +15,8 @@ pub give_back-requires-clause-belong : goal.give_back-requires-clause-belong
 give_back-requires-clause-belong g c = c.requires.fits.1.before
 
 pub returns-in-Done : goal.returns-in-Done
-returns-in-Done g c = rw c.in-Done.is (done_followed g.I.Importer.seen g.I.Importer.modules g.I.Importer.linked g.I.Importer.fits g.I.Importer.begins c.args.inside.now c.give_back.new.inside c.args.callers.now.items c.give_back.new.callers.items c.give_back.result c.give_back.ensures)
+returns-in-Done g c = subst (λ (x : Outcome). Followed g.I.Importer.seen g.I.Importer.modules g.I.Importer.linked g.I.Importer.fits g.I.Importer.begins c.args.inside.now c.args.callers.now.items x (Ok c.give_back.result) c.give_back.new.inside c.give_back.new.callers.items) (sym c.in-Done.is)
+    (done_followed g.I.Importer.seen g.I.Importer.modules g.I.Importer.linked g.I.Importer.fits g.I.Importer.begins c.args.inside.now c.give_back.new.inside c.args.callers.now.items c.give_back.new.callers.items c.give_back.result c.give_back.ensures)
 
 pub give_back-requires-in-Returns-clause-made : goal.give_back-requires-in-Returns-clause-made
 give_back-requires-in-Returns-clause-made g c = c.requires.fits.1.made
@@ -22,7 +26,8 @@ give_back-requires-in-Returns-clause-belong g c = c.requires.fits.1.before
 
 pub returns-in-Returns : goal.returns-in-Returns
 returns-in-Returns g c =
-    rw c.in-Returns.is (returned_followed g.I.Importer.seen g.I.Importer.modules g.I.Importer.linked g.I.Importer.fits g.I.Importer.begins c.args.inside.now c.give_back-in-Returns.new.inside c.requires.fits.0 c.args.callers.now.items c.give_back-in-Returns.new.callers.items c.in-Returns.value c.give_back-in-Returns.result (rw c.in-Returns.is at c.requires.fits.1) c.give_back-in-Returns.ensures)
+    subst (λ (x : Outcome). Followed g.I.Importer.seen g.I.Importer.modules g.I.Importer.linked g.I.Importer.fits g.I.Importer.begins c.args.inside.now c.args.callers.now.items x (Ok c.give_back-in-Returns.result) c.give_back-in-Returns.new.inside c.give_back-in-Returns.new.callers.items) (sym c.in-Returns.is)
+    (returned_followed g.I.Importer.seen g.I.Importer.modules g.I.Importer.linked g.I.Importer.fits g.I.Importer.begins c.args.inside.now c.give_back-in-Returns.new.inside c.requires.fits.0 c.args.callers.now.items c.give_back-in-Returns.new.callers.items c.in-Returns.value c.give_back-in-Returns.result (rw c.in-Returns.is at c.requires.fits.1) c.give_back-in-Returns.ensures)
 
 pub throw_back-requires-clause-made : goal.throw_back-requires-clause-made
 throw_back-requires-clause-made g c = c.requires.fits.1.made
@@ -31,7 +36,8 @@ pub throw_back-requires-clause-belong : goal.throw_back-requires-clause-belong
 throw_back-requires-clause-belong g c = c.requires.fits.1.before
 
 pub returns-in-Thrown : goal.returns-in-Thrown
-returns-in-Thrown g c = rw c.in-Thrown.is (thrown_followed g.I.Importer.seen g.I.Importer.modules g.I.Importer.linked g.I.Importer.fits g.I.Importer.begins c.args.inside.now c.throw_back.new.inside c.args.callers.now.items c.throw_back.new.callers.items c.in-Thrown.value c.throw_back.result c.throw_back.ensures)
+returns-in-Thrown g c = subst (λ (x : Outcome). Followed g.I.Importer.seen g.I.Importer.modules g.I.Importer.linked g.I.Importer.fits g.I.Importer.begins c.args.inside.now c.args.callers.now.items x (Ok c.throw_back.result) c.throw_back.new.inside c.throw_back.new.callers.items) (sym c.in-Thrown.is)
+    (thrown_followed g.I.Importer.seen g.I.Importer.modules g.I.Importer.linked g.I.Importer.fits g.I.Importer.begins c.args.inside.now c.throw_back.new.inside c.args.callers.now.items c.throw_back.new.callers.items c.in-Thrown.value c.throw_back.result c.throw_back.ensures)
 
 pub call-requires-clause-calling : goal.call-requires-clause-calling
 call-requires-clause-calling g c = rw c.in-Calls.is at c.requires.outcome

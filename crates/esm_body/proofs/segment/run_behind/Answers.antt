@@ -1,4 +1,6 @@
-use Rattle.std.proofs.Common.{[]}
+use Rattle.std.proofs.Common.{[], subst}
+use Rattle.std.specs.Prelude.{Err}
+use Rattle.esm_body.specs.Inner.Running.{Followed}
 use Rattle.esm_body.proofs.TurnsOn.{may_run}
 use Rattle.esm_body.proofs.Stepping.{ran_behind, ended_behind, stopped_behind}
 use Rattle.esm_body.proofs.segment.run_behind.Goals as goal
@@ -31,4 +33,5 @@ returns-in-Over g c =
     ended_behind g.I.Importer.seen g.I.Importer.modules g.I.Importer.linked g.I.Importer.fits g.I.Importer.begins c.args.inside.now c.follow.new.inside c.follow.new.callers.items c.requires.fits.0 c.args.outcome c.in-Over.ended c.requires.code c.requires.fits.1 (rw (c.in-Over.is, c.requires.none) at c.in-Ok.ensures)
 
 pub returns-in-Err : goal.returns-in-Err
-returns-in-Err g c = stopped_behind g.I.Importer.seen g.I.Importer.modules g.I.Importer.linked g.I.Importer.fits g.I.Importer.begins c.args.inside.now c.follow.new.inside c.follow.new.callers.items c.args.outcome c.in-Err.stop (rw c.requires.none at c.in-Err.ensures)
+returns-in-Err g c = stopped_behind g.I.Importer.seen g.I.Importer.modules g.I.Importer.linked g.I.Importer.fits g.I.Importer.begins c.args.inside.now c.follow.new.inside c.follow.new.callers.items c.args.outcome c.in-Err.stop 
+    (subst (λ cs. Followed g.I.Importer.seen g.I.Importer.modules g.I.Importer.linked g.I.Importer.fits g.I.Importer.begins c.args.inside.now cs c.args.outcome (Err c.in-Err.stop) c.follow.new.inside c.follow.new.callers.items) c.requires.none c.in-Err.ensures)
