@@ -74,17 +74,19 @@ module _ {I S : Type 0} (seen : I → S) (modules : S → Modules ℕ) (linked :
   -- ---- what runs goes on
 
   pub on_followed : (w : Inside I) (awaits : Bool) (cs : List Caller) → IsCode w.now → AreCallers cs → Fit w awaits cs o.On → Follows w cs o.On (Ok (n.Goes p.Turn)) w cs
-  on_followed w awaits cs code callers fit =
-      (refl, record {
-        code = code;
-        place = tt;
-        callers = callers;
-        keeps = keeps_itself seen modules linked fits begins w fit.made;
-        belongs = record { tree = fit.tree; sets = fit.sets };
-        before = fit.before;
-        imports = refl;
-        body = refl;
-      })
+  on_followed w awaits cs code callers fit = (
+    refl,
+    record {
+      code = code;
+      place = tt;
+      callers = callers;
+      keeps = keeps_itself seen modules linked fits begins w fit.made;
+      belongs = record { tree = fit.tree; sets = fit.sets };
+      before = fit.before;
+      imports = refl;
+      body = refl;
+    },
+  )
 
   -- ---- ends and throws
 
@@ -136,8 +138,7 @@ module _ {I S : Type 0} (seen : I → S) (modules : S → Modules ℕ) (linked :
   pub waits_followed : (w : Inside I) (awaits : Bool) (cs : List Caller) (u : Value) (purpose : Use) → IsUse (length (arc_value w.now.tree).stmts) purpose → Fit w awaits cs (o.Waits u purpose)
       → Follows w cs (o.Waits u purpose) (Ok (n.Over (e.Awaits u purpose))) w cs
   waits_followed w awaits cs u purpose named fit =
-      let none = no_callers (At w) awaits (value_of u) (standing_rest w.now purpose) cs fit.next in
-      (
+      let none = no_callers (At w) awaits (value_of u) (standing_rest w.now purpose) cs fit.next in (
         (λ j. wait_by nat_eq modules begins (value_of u) (standing_rest w.now purpose) (callers_of (none j)) (At w)),
         ends_here w w cs (e.Awaits u purpose) (e.Awaits u purpose) refl refl none named (record { tree = fit.tree; sets = fit.sets }),
       )
@@ -153,11 +154,10 @@ module _ {I S : Type 0} (seen : I → S) (modules : S → Modules ℕ) (linked :
   deep_goes : (w : Inside I) (awaits : Bool) (cs : List Caller) (f : FuncId) (vs : Vec Value Global) (d : Doing) (u : Value) → IsCode w.now → IsCalling (length (arc_value w.now.tree).stmts) d → AreCallers cs → MAX_CALL_DEPTH ≤ length cs
       → Fit w awaits cs (o.Calls f vs d) → value_of u ≡ new_error (At w) → Follows w cs (o.Calls f vs d) (Ok (n.Goes (p.Throws d u))) (with_fault w) cs
   deep_goes w awaits cs f vs d u code calling callers deep fit made =
-      let filled = fill_code (Fails (new_error (At w))) w.now (doing_part (arc_value w.now.tree).stmts d) code in
-      (
+      let filled = fill_code (Fails (new_error (At w))) w.now (doing_part (arc_value w.now.tree).stmts d) code in (
         (λ j. call_by nat_eq modules begins (no_depth cs deep j) w.now.at.0 (part w d) (callers_of cs) (At w) (Called w f vs))
-        ∙ (λ j. Some (Goes w.now.at.0 (filled j) (callers_of cs) (too_deep nat_eq modules begins (At w))))
-        ∙ (λ j. Some (Goes w.now.at.0 (doing_filled w.now d (Fails (sym made j))) (callers_of cs) (At (with_fault w)))),
+            ∙ (λ j. Some (Goes w.now.at.0 (filled j) (callers_of cs) (too_deep nat_eq modules begins (At w))))
+            ∙ (λ j. Some (Goes w.now.at.0 (doing_filled w.now d (Fails (sym made j))) (callers_of cs) (At (with_fault w)))),
         record {
           code = code;
           place = calling;
@@ -184,20 +184,19 @@ module _ {I S : Type 0} (seen : I → S) (modules : S → Modules ℕ) (linked :
 
   in_goes : (w : Inside I) (a : Activation) (awaits : Bool) (cs : List Caller) (f : FuncId) (vs : Vec Value Global) (d : Doing) → IsCode w.now → IsCalling (length (arc_value w.now.tree).stmts) d → AreCallers cs → length cs < MAX_CALL_DEPTH
       → Fit w awaits cs (o.Calls f vs d) → IsCallee seen modules linked fits begins w f vs.items a → Follows w cs (o.Calls f vs d) (Ok (n.Goes p.Turn)) (record w { now = a }) (cs ++ waiting w.now d ∷ [])
-  in_goes w a awaits cs f vs d code calling callers few fit callee =
-      (
-        (λ j. call_by nat_eq modules begins (depth cs few j) w.now.at.0 (part w d) (callers_of cs) (At w) (callee.told j)) ∙ (λ j. Some (Goes a.at.0 (code_rest a) (sym (callers_more cs (waiting w.now d)) j) (At w))),
-        record {
-          code = callee.code;
-          place = tt;
-          callers = callers_push cs (waiting w.now d) callers (record { code = code; calling = calling });
-          keeps = keeps_now seen modules linked fits begins w w a (keeps_itself seen modules linked fits begins w fit.made);
-          belongs = callee.belongs;
-          before = belong_push modules (seen w.imports.now) cs (waiting w.now d) fit.before (record { tree = fit.tree; sets = fit.sets });
-          imports = refl;
-          body = body_pushed a w.now cs d;
-        },
-      )
+  in_goes w a awaits cs f vs d code calling callers few fit callee = (
+    (λ j. call_by nat_eq modules begins (depth cs few j) w.now.at.0 (part w d) (callers_of cs) (At w) (callee.told j)) ∙ (λ j. Some (Goes a.at.0 (code_rest a) (sym (callers_more cs (waiting w.now d)) j) (At w))),
+    record {
+      code = callee.code;
+      place = tt;
+      callers = callers_push cs (waiting w.now d) callers (record { code = code; calling = calling });
+      keeps = keeps_now seen modules linked fits begins w w a (keeps_itself seen modules linked fits begins w fit.made);
+      belongs = callee.belongs;
+      before = belong_push modules (seen w.imports.now) cs (waiting w.now d) fit.before (record { tree = fit.tree; sets = fit.sets });
+      imports = refl;
+      body = body_pushed a w.now cs d;
+    },
+  )
 
   -- a function is entered, and its caller waits
   pub in_followed : (w after : Inside I) (a : Activation) (awaits : Bool) (cs late : List Caller) (f : FuncId) (vs : Vec Value Global) (d : Doing) (r : Result CodeNext Stop) → IsCode w.now → IsCalling (length (arc_value w.now.tree).stmts) d → AreCallers cs → length cs < MAX_CALL_DEPTH

@@ -168,38 +168,35 @@ module _ {I S : Type 0} (seen : I → S) (modules : S → Modules ℕ) (linked :
 
   module _ (w mid after : Inside I) (late : List Caller) (out : Outcome) (spot : Place) (h : Followed seen modules linked fits begins w [] out (Ok (n.Goes spot)) mid late) where
     pub ran_behind : (r : Result Ended Stop) → Ran' mid spot late r after → RanBehind seen modules linked fits begins w out r after
-    ran_behind (Ok how) s =
-        (
-          subst (λ z. EndsSo nat_eq modules begins z (ended_of how after.now) (At after)) (sym h.0) s.0,
-          record {
-            code = s.1.code;
-            ended = s.1.ended;
-            belongs = s.1.belongs;
-            keeps = keeps_both seen modules linked fits begins h.1.keeps s.1.keeps (imports_link seen modules linked fits begins w mid h.1.imports);
-            body = s.1.body ∙ h.1.body;
-          },
-        )
-    ran_behind (Err (stops.Limit limit)) s =
-        (
-          subst (λ z. EndsSo nat_eq modules begins z (ended.Stopped limit) (At after)) (sym h.0) s.0,
-          keeps_both seen modules linked fits begins h.1.keeps s.1 (imports_link seen modules linked fits begins w mid h.1.imports),
-        )
+    ran_behind (Ok how) s = (
+      subst (λ z. EndsSo nat_eq modules begins z (ended_of how after.now) (At after)) (sym h.0) s.0,
+      record {
+        code = s.1.code;
+        ended = s.1.ended;
+        belongs = s.1.belongs;
+        keeps = keeps_both seen modules linked fits begins h.1.keeps s.1.keeps (imports_link seen modules linked fits begins w mid h.1.imports);
+        body = s.1.body ∙ h.1.body;
+      },
+    )
+    ran_behind (Err (stops.Limit limit)) s = (
+      subst (λ z. EndsSo nat_eq modules begins z (ended.Stopped limit) (At after)) (sym h.0) s.0,
+      keeps_both seen modules linked fits begins h.1.keeps s.1 (imports_link seen modules linked fits begins w mid h.1.imports),
+    )
     ran_behind (Err stops.Memory) s = tt
 
   -- the outcome was the end
   pub ended_behind : (w mid : Inside I) (late : List Caller) (awaits : Bool) (out : Outcome) (how : Ended) → IsCode w.now → FollowsFit seen modules linked fits begins w awaits [] out → Followed seen modules linked fits begins w [] out (Ok (n.Over how)) mid late
       → RanBehind seen modules linked fits begins w out (Ok how) mid
-  ended_behind w mid late awaits out how code fit h =
-      (
-        subst (λ z. EndsSo nat_eq modules begins z (ended_of how mid.now) (At mid)) (sym h.0) (refl, refl),
-        record {
-          code = subst (λ (x : Inside I). IsCode x.now) (sym h.1.same) code;
-          ended = h.1.ended;
-          belongs = h.1.belongs;
-          keeps = subst (λ (x : Inside I). Kept w x) (sym h.1.same) (keeps_itself seen modules linked fits begins w fit.made);
-          body = ap (λ (x : Inside I). x.now.at) h.1.same;
-        },
-      )
+  ended_behind w mid late awaits out how code fit h = (
+    subst (λ z. EndsSo nat_eq modules begins z (ended_of how mid.now) (At mid)) (sym h.0) (refl, refl),
+    record {
+      code = subst (λ (x : Inside I). IsCode x.now) (sym h.1.same) code;
+      ended = h.1.ended;
+      belongs = h.1.belongs;
+      keeps = subst (λ (x : Inside I). Kept w x) (sym h.1.same) (keeps_itself seen modules linked fits begins w fit.made);
+      body = ap (λ (x : Inside I). x.now.at) h.1.same;
+    },
+  )
 
   pub stopped_behind : (w mid : Inside I) (late : List Caller) (out : Outcome) (stop : Stop) → Followed seen modules linked fits begins w [] out (Err stop) mid late → RanBehind seen modules linked fits begins w out (Err stop) mid
   stopped_behind w mid late out (stops.Limit limit) h = absurd h

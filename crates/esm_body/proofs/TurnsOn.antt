@@ -186,20 +186,19 @@ module _ {I S : Type 0} (seen : I → S) (modules : S → Modules ℕ) (linked :
     follows_fit w mid awaits rest cs out r h =
         let items : (arc_value mid.now.tree).items ≡ (arc_value w.now.tree).items = rw h.same.tree refl in
         record {
-      next = moved_fits w mid awaits rest cs out h.same.at r.run h.moved;
-      made = h.keeps.made;
-      tree = rw (h.same.at, h.same.tree) (h.keeps.trees w.now.at.0 r.run.home ∙ r.belongs.tree);
-      sets = subst (λ (xs : List Item). SetsMove (IsNameOf xs) (move_of out mid.now)) (sym items) (moved_sets w mid rest out (IsNameOf (arc_value w.now.tree).items) h.moved r.belongs.sets);
-      before = callers_stay modules linked (seen w.imports.now) (seen mid.imports.now) h.keeps.trees cs (fit_linked modules linked (seen w.imports.now) awaits (callers_of cs) r.run.before) r.before;
-    }
+          next = moved_fits w mid awaits rest cs out h.same.at r.run h.moved;
+          made = h.keeps.made;
+          tree = rw (h.same.at, h.same.tree) (h.keeps.trees w.now.at.0 r.run.home ∙ r.belongs.tree);
+          sets = subst (λ (xs : List Item). SetsMove (IsNameOf xs) (move_of out mid.now)) (sym items) (moved_sets w mid rest out (IsNameOf (arc_value w.now.tree).items) h.moved r.belongs.sets);
+          before = callers_stay modules linked (seen w.imports.now) (seen mid.imports.now) h.keeps.trees cs (fit_linked modules linked (seen w.imports.now) awaits (callers_of cs) r.run.before) r.before;
+        }
 
     -- ---- a turn and what follows it
 
     went_goes : (w mid after : Inside I) (awaits : Bool) (rest : Rest CodeValue) (cs late : List Caller) (out : Outcome) (spot : Place) → Runs w awaits rest cs → Came' w rest out mid → Followed seen modules linked fits begins mid cs out (Ok (n.Goes spot)) after late
         → Went seen modules linked fits begins w rest cs (Ok (n.Goes spot)) after late
     went_goes w mid after awaits rest cs late out spot r h k =
-        let links = moved_links w mid awaits rest cs out r h.moved in
-        (
+        let links = moved_links w mid awaits rest cs out r h.moved in (
           moved_leads w mid rest cs out (going seen modules linked fits begins spot after late) h.same.at h.moved k.0,
           record {
             code = k.1.code;
@@ -214,17 +213,16 @@ module _ {I S : Type 0} (seen : I → S) (modules : S → Modules ℕ) (linked :
 
     went_over : (w mid after : Inside I) (rest : Rest CodeValue) (cs late : List Caller) (out : Outcome) (how : Ended) → Came' w rest out mid → Followed seen modules linked fits begins mid cs out (Ok (n.Over how)) after late
         → Went seen modules linked fits begins w rest cs (Ok (n.Over how)) after late
-    went_over w mid after rest cs late out how h k =
-        (
-          moved_leads w mid rest cs out (ending seen modules linked fits begins how after) h.same.at h.moved k.0,
-          record {
-            code = subst (λ (x : Inside I). IsCode x.now) (sym k.1.same) h.same.code;
-            ended = k.1.ended;
-            belongs = k.1.belongs;
-            keeps = subst (λ (x : Inside I). Keeps seen modules linked fits begins w x) (sym k.1.same) h.keeps;
-            body = ap (λ (x : Inside I). x.now.at) k.1.same ∙ h.same.at ∙ (λ j. body_at w.now (sym k.1.last j));
-          },
-        )
+    went_over w mid after rest cs late out how h k = (
+      moved_leads w mid rest cs out (ending seen modules linked fits begins how after) h.same.at h.moved k.0,
+      record {
+        code = subst (λ (x : Inside I). IsCode x.now) (sym k.1.same) h.same.code;
+        ended = k.1.ended;
+        belongs = k.1.belongs;
+        keeps = subst (λ (x : Inside I). Keeps seen modules linked fits begins w x) (sym k.1.same) h.keeps;
+        body = ap (λ (x : Inside I). x.now.at) k.1.same ∙ h.same.at ∙ (λ j. body_at w.now (sym k.1.last j));
+      },
+    )
 
     pub went : (w mid after : Inside I) (rest : Rest CodeValue) (cs late : List Caller) (out : Outcome) (r : Result CodeNext Stop) → MayRun seen modules linked fits begins w rest cs → Came' w rest out mid → Followed seen modules linked fits begins mid cs out r after late
         → Went seen modules linked fits begins w rest cs r after late

@@ -155,13 +155,7 @@ fn entered<I: Importer>(
 {
     match inside.envs.scope(function.module) {
         Some(scope) => {
-            match enter(
-                inside.alloc,
-                scope,
-                function.module,
-                function.index,
-                values,
-            ) {
+            match enter(inside.alloc, scope, function.module, function.index, values) {
                 Ok(Some(callee)) => Ok(callee),
                 Ok(None) => unreachable!(),
                 Err(_) => Err(Memory),
@@ -175,7 +169,10 @@ fn entered<I: Importer>(
 fn too_deep<I: Importer>(inside: &mut Inside<'_, I>, doing: Doing) -> Result<Next, Stop>
     ensures { IsTooDeep I.seen I.modules I.linked I.fits I.begins inside.old doing result inside.new }
 {
-    match inside.errors.make(inside.alloc, FaultKind::RangeError, "call depth") {
+    match inside
+        .errors
+        .make(inside.alloc, FaultKind::RangeError, "call depth")
+    {
         Ok(error) => Ok(Next::Goes(Place::Throws(doing, Value::Error(error)))),
         Err(Memory) => Err(Stop::Memory),
     }

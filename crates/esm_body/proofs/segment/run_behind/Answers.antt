@@ -33,5 +33,5 @@ returns-in-Over g c =
     ended_behind g.I.Importer.seen g.I.Importer.modules g.I.Importer.linked g.I.Importer.fits g.I.Importer.begins c.args.inside.now c.follow.new.inside c.follow.new.callers.items c.requires.fits.0 c.args.outcome c.in-Over.ended c.requires.code c.requires.fits.1 (rw (c.in-Over.is, c.requires.none) at c.in-Ok.ensures)
 
 pub returns-in-Err : goal.returns-in-Err
-returns-in-Err g c = stopped_behind g.I.Importer.seen g.I.Importer.modules g.I.Importer.linked g.I.Importer.fits g.I.Importer.begins c.args.inside.now c.follow.new.inside c.follow.new.callers.items c.args.outcome c.in-Err.stop 
+returns-in-Err g c = stopped_behind g.I.Importer.seen g.I.Importer.modules g.I.Importer.linked g.I.Importer.fits g.I.Importer.begins c.args.inside.now c.follow.new.inside c.follow.new.callers.items c.args.outcome c.in-Err.stop
     (subst (λ cs. Followed g.I.Importer.seen g.I.Importer.modules g.I.Importer.linked g.I.Importer.fits g.I.Importer.begins c.args.inside.now cs c.args.outcome (Err c.in-Err.stop) c.follow.new.inside c.follow.new.callers.items) c.requires.none c.in-Err.ensures)
