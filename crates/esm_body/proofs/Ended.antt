@@ -12,7 +12,7 @@ use Rattle.esm_body.specs.Rest.{Rest, end}
 use Rattle.esm_body.specs.State.{State, Importing}
 use Rattle.esm_body.specs.BodyRewriting.{On}
 use Rattle.esm_body.specs.BodyRewriting.RewritesBody.{inner_end, tries, tries_end}
-use Rattle.esm_body.specs.Inner.Chains.{Comes, last, later}
+use Rattle.esm_body.specs.Inner.Chains.{Turns, only, behind}
 use Rattle.esm_body.specs.Inner.Contexts.{Context, Block, Trying, scopes_in, placed, surrounded}
 use Rattle.esm_body.specs.Inner.Stack.{contexts_of, context_by, innermost, levels_rest, IsLeft}
 use Rattle.esm_body.specs.declared.work.Kind.{Kind}
@@ -22,28 +22,28 @@ use Rattle.esm_body.proofs.Levels.{levels_surround}
 use Rattle.esm_body.proofs.CaughtLemmas.{trying_as}
 use Rattle.esm_body.proofs.Paths.{outer_goes}
 
-abbrev behind : {V : Type 0} → Context V → Rest V
-behind (Block scope rest) = rest
-behind (Trying scope x handler rest) = rest
+abbrev left_rest : {V : Type 0} → Context V → Rest V
+left_rest (Block scope rest) = rest
+left_rest (Trying scope x handler rest) = rest
 
 module _ {N I : Type 0} (same : N → N → Bool) (modules : I → Modules N) (begins : Importing N I) (m : N) where
-  ends_by : (cs : List (Context (Value N))) (c : Context (Value N)) (w : State N I) → Comes same modules begins m w (surrounded cs (placed c end)) (On (comes.Goes (surrounded cs (behind c)))) w
-  ends_by cs (Block scope rest) w = last (outer_goes same modules begins m cs w _ rest (record { scopes = scopes_in cs; state = w }) refl inner_end)
+  ends_by : (cs : List (Context (Value N))) (c : Context (Value N)) (w : State N I) → Turns same modules begins m w (surrounded cs (placed c end)) (On (comes.Goes (surrounded cs (left_rest c)))) w
+  ends_by cs (Block scope rest) w = only (outer_goes same modules begins m cs w _ rest (record { scopes = scopes_in cs; state = w }) refl inner_end)
   ends_by cs (Trying scope x handler rest) w =
-      later (outer_goes same modules begins m cs w _ _ (record { scopes = scopes_in cs; state = w }) refl (tries inner_end))
-      (last (outer_goes same modules begins m cs w _ rest (record { scopes = scopes_in cs; state = w }) refl tries_end))
+      behind (outer_goes same modules begins m cs w _ _ (record { scopes = scopes_in cs; state = w }) refl (tries inner_end))
+      (only (outer_goes same modules begins m cs w _ rest (record { scopes = scopes_in cs; state = w }) refl tries_end))
 
-behind_kind : (stmts : List Statement) (kind : Kind) (scope : Scope CodeValue) (rest : Rest CodeValue) → behind (context_by stmts kind scope rest) ≡ rest
-behind_kind stmts k.Block scope rest = refl
-behind_kind stmts (k.Tries id) scope rest = ap behind (trying_as stmts (stmt_part stmts id) scope rest)
+left_kind : (stmts : List Statement) (kind : Kind) (scope : Scope CodeValue) (rest : Rest CodeValue) → left_rest (context_by stmts kind scope rest) ≡ rest
+left_kind stmts k.Block scope rest = refl
+left_kind stmts (k.Tries id) scope rest = ap left_rest (trying_as stmts (stmt_part stmts id) scope rest)
 
 module _ {I : Type 0} (modules : I → Modules ℕ) (begins : Importing ℕ I) (m : ℕ) where
   -- the innermost level, at its end, is left
   pub level_ends : (stmts : List Statement) (old new : List Level) (kind : Kind) (w : State ℕ I) → IsLeft stmts old kind new → innermost stmts old ≡ end
-      → Comes nat_eq modules begins m w (levels_rest stmts old) (On (comes.Goes (levels_rest stmts new))) w
+      → Turns nat_eq modules begins m w (levels_rest stmts old) (On (comes.Goes (levels_rest stmts new))) w
   level_ends stmts old new kind w h e =
       let c = context_by stmts kind h.scope (innermost stmts new) in
       let whole : surrounded (contexts_of stmts new) (placed c end) ≡ levels_rest stmts old = (λ i. surrounded (sym h.contexts i) (sym e i)) ∙ levels_surround stmts old in
-      let rest : surrounded (contexts_of stmts new) (behind c) ≡ levels_rest stmts new = ap (surrounded (contexts_of stmts new)) (behind_kind stmts kind h.scope (innermost stmts new)) ∙ levels_surround stmts new in
-      subst (λ r. Comes nat_eq modules begins m w r (On (comes.Goes (levels_rest stmts new))) w) whole
-      (subst (λ s. Comes nat_eq modules begins m w (surrounded (contexts_of stmts new) (placed c end)) (On (comes.Goes s)) w) rest (ends_by nat_eq modules begins m (contexts_of stmts new) c w))
+      let rest : surrounded (contexts_of stmts new) (left_rest c) ≡ levels_rest stmts new = ap (surrounded (contexts_of stmts new)) (left_kind stmts kind h.scope (innermost stmts new)) ∙ levels_surround stmts new in
+      subst (λ r. Turns nat_eq modules begins m w r (On (comes.Goes (levels_rest stmts new))) w) whole
+      (subst (λ s. Turns nat_eq modules begins m w (surrounded (contexts_of stmts new) (placed c end)) (On (comes.Goes s)) w) rest (ends_by nat_eq modules begins m (contexts_of stmts new) c w))

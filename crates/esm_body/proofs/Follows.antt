@@ -46,14 +46,14 @@ module _ {N I : Type 0} (same : N → N → Bool) (modules : I → Modules N) (l
   abbrev kind : List (Active N) → Kind
   kind cs = kind_by modules linked awaits cs
 
-  abbrev Outermost : N → W → Rest V → RewrittenBody V Limit → W → Type 0
+  abbrev pub Outermost : N → W → Rest V → RewrittenBody V Limit → W → Type 0
   Outermost = RewritesOutermost same modules begins
 
-  abbrev Landed : N → Kind → W → Rest V → RewrittenBody V Limit → W → Type 0
+  abbrev pub Landed : N → Kind → W → Rest V → RewrittenBody V Limit → W → Type 0
   Landed m k w r move mid = Fits' same modules linked Whole begins some m k (record { scopes = []; state = w }) (size_rest r) move (record { scopes = []; state = mid })
 
   -- the rewriting is the one that there is, which fits
-  landed_by : (m : N) (k : Kind) (w mid : W) (r : Rest V) (move : RewrittenBody V Limit) → Outermost m w r move mid → Moves same modules linked Whole begins some m k (record { scopes = []; state = w }) r → Landed m k w r move mid
+  pub landed_by : (m : N) (k : Kind) (w mid : W) (r : Rest V) (move : RewrittenBody V Limit) → Outermost m w r move mid → Moves same modules linked Whole begins some m k (record { scopes = []; state = w }) r → Landed m k w r move mid
   landed_by m k w mid r move d (moves other after e f) =
       let o = moves_one same modules begins one m e d in
       subst (λ z. Fits' same modules linked Whole begins some m k (record { scopes = []; state = w }) (size_rest r) move z) (sym o.1)
@@ -71,7 +71,7 @@ module _ {N I : Type 0} (same : N → N → Bool) (modules : I → Modules N) (l
   kept_callers w after k [] h = tt
   kept_callers w after k (c ∷ cs) h = (k (Namespace c.at) h.0, held_rest (K w) (K after) k ⊤ (kind cs) c.rest h.1, kept_callers w after k cs h.2)
 
-  back : (w : W) (c : Active N) (cs : List (Active N)) (given : Term V) → FitsState modules linked Whole w → Holds (K w) ⊥ given → FitCallers modules linked w.outer.imports awaits (c ∷ cs) → Run w c.at (fill_rest given c.rest) cs
+  pub back : (w : W) (c : Active N) (cs : List (Active N)) (given : Term V) → FitsState modules linked Whole w → Holds (K w) ⊥ given → FitCallers modules linked w.outer.imports awaits (c ∷ cs) → Run w c.at (fill_rest given c.rest) cs
   back w c cs given s h b = record { state = s; home = b.0; holds = filled_rest (K w) given h (kind cs) c.rest b.1; before = b.2 }
 
   known_parameters : (P : V → Type 0) → P Undefined → (xs : List (List ℕ)) (vs : List V) → AllKnown P vs → HoldsScope P (parameters Undefined xs vs)
@@ -121,7 +121,7 @@ module _ {N I : Type 0} (same : N → N → Bool) (modules : I → Modules N) (l
   calls_known mid m (Namespace g) vs s cs st at before e kv kvs hs = absurd cc
   calls_known mid m (Promise id) vs s cs st at before e kv kvs hs = absurd cc
 
-  next_fits : (w mid : W) (m : N) (r : Rest V) (cs : List (Active N)) (move : RewrittenBody V Limit) → Run w m r cs → Landed m (kind cs) w r move mid → IsFitNext modules linked Whole awaits (next_by same modules begins m cs move mid)
+  pub next_fits : (w mid : W) (m : N) (r : Rest V) (cs : List (Active N)) (move : RewrittenBody V Limit) → Run w m r cs → Landed m (kind cs) w r move mid → IsFitNext modules linked Whole awaits (next_by same modules begins m cs move mid)
   next_fits w mid m r cs (On (comes.Goes s)) f (n, (l, (h, less))) = record { state = l.fits.state; home = l.fits.home; holds = h; before = kept_callers w mid l.keeps cs f.before }
   next_fits w mid m r [] (On (comes.Leaves v)) f (n, (l, h)) = (l.fits.state, h)
   next_fits w mid m r (c ∷ cs) (On (comes.Leaves v)) f (n, (l, h)) = back mid c cs (Fails v) l.fits.state h (kept_callers w mid l.keeps (c ∷ cs) f.before)
@@ -133,7 +133,7 @@ module _ {N I : Type 0} (same : N → N → Bool) (modules : I → Modules N) (l
   next_fits w mid m r (c ∷ cs) (Waits v s) f (a, q) = absurd cc
 
   -- a segment of what follows is one of the whole
-  over_by : (w mid : W) (m : N) (r : Rest V) (cs : List (Active N)) (move : RewrittenBody V Limit) → Outermost m w r move mid → (next : Option (Next N I)) → next_by same modules begins m cs move mid ≡ next → (how : Ended N) (after : W)
+  pub over_by : (w mid : W) (m : N) (r : Rest V) (cs : List (Active N)) (move : RewrittenBody V Limit) → Outermost m w r move mid → (next : Option (Next N I)) → next_by same modules begins m cs move mid ≡ next → (how : Ended N) (after : W)
       → EndsSo same modules begins next how after → Segment same modules begins w m r cs how after
   over_by w mid m r cs move d None e how after h = absurd h
   over_by w mid m r cs move d (Some (Goes n s others late)) e how after h = segment.goes move d e h

@@ -102,6 +102,7 @@ same_both a b = record {
   now = b.now ∙ a.now;
   alloc = b.alloc ∙ a.alloc;
   engine = b.engine ∙ a.engine;
+  standing = b.standing ∙ a.standing;
   errors = b.errors ∙ a.errors;
   envs = b.envs ∙ a.envs;
   promises = b.promises ∙ a.promises;
@@ -109,7 +110,7 @@ same_both a b = record {
 }
 
 pub same_itself : {I : Type 0} (w : Inside I) → IsSame w w
-same_itself w = record { now = refl; alloc = refl; engine = refl; errors = refl; envs = refl; promises = refl; imports = refl }
+same_itself w = record { now = refl; alloc = refl; engine = refl; standing = refl; errors = refl; envs = refl; promises = refl; imports = refl }
 
 module _ {I S : Type 0} (seen : I → S) (modules : S → Modules ℕ) (linked : S → ℕ → Bool) (fits : Outer ℕ S → Type 0) (begins : Importing ℕ S) (some : BeginsSome modules linked fits begins) (one : BeginsOne begins) (first : Inside I) where
   abbrev Fit : Inner ℕ S → Type 0

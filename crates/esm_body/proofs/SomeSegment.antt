@@ -30,11 +30,11 @@ use Rattle.esm_body.proofs.Grown.{held_rest, filled_rest, same_rest, size_rest, 
 use Rattle.esm_body.proofs.SomeAct.{BeginsSome, Took}
 use Rattle.esm_body.proofs.SomeMove.{Left, Fits', Moves, moves, shape, some_move}
 
-abbrev weight : {N : Type 0} → List (Active N) → ℕ
+abbrev pub weight : {N : Type 0} → List (Active N) → ℕ
 weight [] = 0
 weight (c ∷ cs) = suc (size_rest c.rest) + weight cs
 
-abbrev measure : {N : Type 0} → Rest (Value N) → List (Active N) → ℕ
+abbrev pub measure : {N : Type 0} → Rest (Value N) → List (Active N) → ℕ
 measure r cs = suc (size_rest r) + weight cs
 
 module _ {N I : Type 0} (same : N → N → Bool) (modules : I → Modules N) (linked : I → N → Bool) (Whole : Outer N I → Type 0) (begins : Importing N I) (some : BeginsSome modules linked Whole begins) (awaits : Bool) where

@@ -46,16 +46,16 @@ abbrev pub Outs : {I : Type 0} → Inside I → Numbered → Errors → I → In
 Outs w ps es i = record w { promises = record w.promises { now = ps }; errors = record w.errors { now = es }; imports = record w.imports { now = i } }
 
 errs_same : {I : Type 0} (w : Inside I) (es : Errors) → IsSame w (Errs w es)
-errs_same w es = record { now = refl; alloc = refl; engine = refl; errors = refl; envs = refl; promises = refl; imports = refl }
+errs_same w es = record { now = refl; alloc = refl; engine = refl; standing = refl; errors = refl; envs = refl; promises = refl; imports = refl }
 
 logs_same : {I : Type 0} (w : Inside I) (log : Log) → IsSame w (Logs w log)
-logs_same w log = record { now = refl; alloc = refl; engine = refl; errors = refl; envs = refl; promises = refl; imports = refl }
+logs_same w log = record { now = refl; alloc = refl; engine = refl; standing = refl; errors = refl; envs = refl; promises = refl; imports = refl }
 
 outs_same : {I : Type 0} (w : Inside I) (ps : Numbered) (es : Errors) (i : I) → IsSame w (Outs w ps es i)
-outs_same w ps es i = record { now = refl; alloc = refl; engine = refl; errors = refl; envs = refl; promises = refl; imports = refl }
+outs_same w ps es i = record { now = refl; alloc = refl; engine = refl; standing = refl; errors = refl; envs = refl; promises = refl; imports = refl }
 
 all_same : {I : Type 0} (w : Inside I) → IsSame w w
-all_same w = record { now = refl; alloc = refl; engine = refl; errors = refl; envs = refl; promises = refl; imports = refl }
+all_same w = record { now = refl; alloc = refl; engine = refl; standing = refl; errors = refl; envs = refl; promises = refl; imports = refl }
 
 module _ {I S : Type 0} (seen : I → S) (modules : S → Modules ℕ) (linked : S → ℕ → Bool) (fits : Outer ℕ S → Type 0) (begins : Importing ℕ S) (w : Inside I) where
   links : IsLawful modules linked fits begins → IsReady seen modules linked fits begins w → AreLinked (modules (seen w.imports.now)) (linked (seen w.imports.now))

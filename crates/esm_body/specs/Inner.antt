@@ -8,3 +8,6 @@ pub mod Chains
 pub mod Slots
 pub mod Calls
 pub mod Written
+pub mod Declared
+pub mod Turn
+pub mod Running

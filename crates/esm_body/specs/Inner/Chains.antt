@@ -21,6 +21,14 @@ module _ {N I : Type 0} (same : N → N → Bool) (modules : I → Modules N) (b
         → RewritesOutermost same modules begins m w r (On (comes.Goes s)) mid
         → Comes m mid s move late → Comes m w r move late
 
+  -- one or more rewritings, each but the last of which goes on, and the last comes to this
+  pub data Turns (m : N) : State N I → Rest (Value N) → RewrittenBody (Value N) Limit → State N I → Type 0 where
+    only : {w mid : State N I} {r : Rest (Value N)} {move : RewrittenBody (Value N) Limit}
+        → RewritesOutermost same modules begins m w r move mid → Turns m w r move mid
+    behind : {w mid late : State N I} {r s : Rest (Value N)} {move : RewrittenBody (Value N) Limit}
+        → RewritesOutermost same modules begins m w r (On (comes.Goes s)) mid
+        → Turns m mid s move late → Turns m w r move late
+
   -- what goes on, ends so
   abbrev pub EndsSo : Option (Next N I) → Ended N → State N I → Type 0
   EndsSo None how after = ⊥

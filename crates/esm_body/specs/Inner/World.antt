@@ -28,11 +28,12 @@ inner_of seen w = record { scopes = scopes_round w.now.levels.items; state = sta
 abbrev pub url_inside : {I : Type 0} → (I → ℕ → List ℕ) → Inside I → List ℕ
 url_inside urls w = urls w.imports.now w.now.at.0
 
--- it holds the same code still, the same cells of modules, and the same loans
+-- it holds the same code still, the same cells of modules and bodies at their awaits, and the same loans
 pub record IsSame {I : Type 0} (w after : Inside I) : Type 0 where
   pub now : after.now ≡ w.now
   pub alloc : after.alloc ≡ w.alloc
   pub engine : after.engine.ghost_name ≡ w.engine.ghost_name
+  pub standing : after.engine.now.standing ≡ w.engine.now.standing
   pub errors : after.errors.ghost_name ≡ w.errors.ghost_name
   pub envs : after.envs ≡ w.envs
   pub promises : after.promises.ghost_name ≡ w.promises.ghost_name
