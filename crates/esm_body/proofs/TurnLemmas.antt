@@ -135,7 +135,7 @@ module _ {I S : Type 0} (seen : I → S) (modules : S → Modules ℕ) (linked :
   sets_came w after k p y v e c r s =
       let part : parts.Does (use_of (arc_value w.now.tree).stmts p) (Val (value_of v)) ≡ parts.Does (uses.Sets y) (Val (value_of v)) = ap (λ z. parts.Does z (Val (value_of v))) e in
       let ready : Ready w k (in_front_of w.now (parts.Does (uses.Sets y) (Val (value_of v)))) = subst (λ z. Ready w k (in_front_of w.now z)) part r in
-      let told = s.1 r.made (λ none. declared_cell seen modules linked fits begins w k (in_front_of w.now (parts.Does (uses.Sets y) (Val (value_of v)))) ready y
+      let told = s.1 r.made r.home (λ none. declared_cell seen modules linked fits begins w k (in_front_of w.now (parts.Does (uses.Sets y) (Val (value_of v)))) ready y
       (subst (λ cs. SetsRest (IsNameOf (arc_value w.now.tree).items) (surrounded cs (more (parts.Does (uses.Sets y) (Val (value_of v))) (inner_rest w)))) (no_contexts w none) ready.sets).0) in
       subst (λ z. Came' w (in_front_of w.now z) o.On after) (sym part)
       (slots_came w after (parts.Does (uses.Sets y) (Val (value_of v))) c s.0 told.1
