@@ -79,8 +79,8 @@ fn throw_back<I: Importer>(
     requires callers { AreCallers callers.old.items }
     requires made { HasScopes I.seen I.modules I.linked I.fits I.begins inside.old }
     requires belong { CallersBelong I.modules (I.seen inside.old.imports.now) callers.old.items }
-    ensures { ThrowsBack I.seen I.modules I.linked I.fits I.begins inside.old callers.old.items thrown
-        result inside.new callers.new.items }
+    ensures { ThrowsBack I.seen I.modules I.linked I.fits I.begins inside.old callers.old.items
+        thrown result inside.new callers.new.items }
 {
     match callers.pop() {
         Some(caller) => {
@@ -150,8 +150,8 @@ fn entered<I: Importer>(
 ) -> Result<Activation, Memory>
     requires made { HasScopes I.seen I.modules I.linked I.fits I.begins inside.now }
     requires there { IsThere I.seen I.modules I.linked I.fits I.begins inside.now function }
-    ensures { IfOk result (IsCallee I.seen I.modules I.linked I.fits I.begins inside.entry.now function
-        values.now) }
+    ensures { IfOk result (IsCallee I.seen I.modules I.linked I.fits I.begins inside.entry.now
+        function values.now) }
 {
     match inside.envs.scope(function.module) {
         Some(scope) => {
@@ -167,7 +167,8 @@ fn entered<I: Importer>(
 
 /// A call throws, since as many functions are active as may be.
 fn too_deep<I: Importer>(inside: &mut Inside<'_, I>, doing: Doing) -> Result<Next, Stop>
-    ensures { IsTooDeep I.seen I.modules I.linked I.fits I.begins inside.old doing result inside.new }
+    ensures { IsTooDeep I.seen I.modules I.linked I.fits I.begins inside.old doing
+        result inside.new }
 {
     match inside
         .errors
@@ -187,9 +188,10 @@ fn follow<I: Importer>(
     requires code { IsCode inside.old.now }
     requires outcome { IsOutcome (length (arc_value inside.old.now.tree).stmts) outcome }
     requires callers { AreCallers callers.old.items }
-    requires fits { MayFollow I.seen I.modules I.linked I.fits I.begins inside.old callers.old.items outcome }
-    ensures { Followed I.seen I.modules I.linked I.fits I.begins inside.old callers.old.items outcome
-        result inside.new callers.new.items }
+    requires fits { MayFollow I.seen I.modules I.linked I.fits I.begins inside.old
+        callers.old.items outcome }
+    ensures { Followed I.seen I.modules I.linked I.fits I.begins inside.old callers.old.items
+        outcome result inside.new callers.new.items }
 {
     match outcome {
         Outcome::On => Ok(Next::Goes(Place::Turn)),

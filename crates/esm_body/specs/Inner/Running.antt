@@ -236,9 +236,9 @@ module _ {I S : Type 0} (seen : I → S) (modules : S → Modules ℕ) (linked :
 
   -- one rewriting or more, and what follows the last; or nothing remains, and what follows that
   pub data LeadsTo (w : State ℕ S) (m : ℕ) : Rest CodeValue → List (Active ℕ) → Next ℕ S → Type 0 where
-    by_turns : {rest : Rest CodeValue} {callers : List (Active ℕ)} {next : Next ℕ S} {mid : State ℕ S} (move : RewrittenBody CodeValue Limit)
-        → Turns nat_eq modules begins m w rest move mid → next_by nat_eq modules begins m callers move mid ≡ Some next
-        → LeadsTo w m rest callers next
+    by_turns : {rest : Rest CodeValue} {callers : List (Active ℕ)} {next : Next ℕ S} {mid : State ℕ S}
+        (move : RewrittenBody CodeValue Limit) → Turns nat_eq modules begins m w rest move mid
+        → next_by nat_eq modules begins m callers move mid ≡ Some next → LeadsTo w m rest callers next
     by_end : {callers : List (Active ℕ)} {next : Next ℕ S} → done_by callers w ≡ Some next → LeadsTo w m rests.end callers next
 
   -- this follows, behind one turn
