@@ -125,7 +125,8 @@ Threw w v (Err stops.Memory) after = Unit {0}
 
 -- ---- turns
 
-module _ {I S : Type 0} (seen : I → S) (modules : S → Modules ℕ) (linked : S → ℕ → Bool) (fits : Outer ℕ S → Type 0) (begins : Importing ℕ S) where
+module _ {I S : Type 0} (seen : I → S) (modules : S → Modules ℕ) (linked : S → ℕ → Bool) (fits : Outer ℕ S → Type 0)
+    (begins : Importing ℕ S) where
   -- what was linked keeps its tree
   abbrev pub TreesStay : Inside I → Inside I → Type 0
   TreesStay w after = (m : ℕ) → linked (seen w.imports.now) m ≡ true → (modules (seen after.imports.now)).tree m

@@ -69,7 +69,8 @@ module _ (linked : List Url) (entries : Entries) (modules : AreModules linked en
       let b = has_load.begins h u text p f.orderly in
       let e = (only_grows.imports h b.1 u text p b.2.imports).entries ∙ f.entries_are in
       let orderly = stays_orderly.imports h b.1 u text p f.orderly b.2.imports in
-      let fits : FitsHost linked entries b.1 = record { entries_are = e; orderly = orderly; promises = import_fits b.2.imports f.promises } in
+      let fits : FitsHost linked entries b.1
+      = record { entries_are = e; orderly = orderly; promises = import_fits b.2.imports f.promises } in
       let knows : (v : Value Url) → Knows h.imports v → Knows b.1.imports v = λ v k.
       known_in linked entries modules b.1.imports e v (known_out linked entries modules h.imports f.entries_are v k) in
       (b.0, (b.1, (b.2, (fits, knows))))
