@@ -56,3 +56,6 @@ pub mod Evaluated
 pub mod TurnTakes
 pub mod Advanced
 pub mod Used
+pub mod Marks
+pub mod NotedLines
+pub mod WaitLemmas

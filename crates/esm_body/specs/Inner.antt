@@ -10,3 +10,4 @@ pub mod Calls
 pub mod Written
 pub mod Declared
 pub mod Turn
+pub mod Noting

@@ -2,10 +2,12 @@
 #![tactic(auto)]
 
 mod blocks;
+mod bodies;
 mod calls;
 mod catching;
 mod displays;
 mod engine;
+mod events;
 mod importer;
 mod imports;
 mod inside;
@@ -13,9 +15,11 @@ pub mod laws;
 mod log;
 mod members;
 mod names;
+mod notes;
 mod scopes;
 mod starts;
 mod turn;
+mod waits;
 mod work;
 mod world;
 mod writes;
@@ -23,3 +27,6 @@ mod writes;
 pub use engine::{Engine, Event};
 pub use importer::{Importer, Outer};
 pub use log::{Log, Stop};
+
+#[cfg(test)]
+mod tests;
