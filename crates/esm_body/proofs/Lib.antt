@@ -64,3 +64,6 @@ pub mod Entered
 pub mod Followed
 pub mod TurnsOn
 pub mod Stepping
+pub mod Marks
+pub mod NotedLines
+pub mod WaitLemmas

@@ -33,12 +33,13 @@ module _ {I : Type 0} (modules : I → Modules ℕ) (linked : I → ℕ → Bool
   abbrev pub MayBegin : Outer ℕ I → ℕ → ℕ → Type 0
   MayBegin o m p = fits o × (linked o.imports m ≡ true) × (is_pending o.promises p ≡ true)
 
-  -- what was linked and known is so still, and scopes are those of the modules still
+  -- what was linked and known is so still, scopes are those of the modules still, and what was linked keeps its URL
   pub record KeepsModules (o after : Outer ℕ I) : Type 0 where
     pub whole : fits after
     pub keeps : (v : Value ℕ) → IsKnown (modules o.imports) (linked o.imports) v → IsKnown (modules after.imports) (linked after.imports) v
     pub scopes : (e : Scopes) → AreScopesOf (modules o.imports) (linked o.imports) e
         → AreScopesOf (modules after.imports) (linked after.imports) e
+    pub urls : (m : ℕ) → linked o.imports m ≡ true → (modules after.imports).url m ≡ (modules o.imports).url m
 
   -- what bodies rely on: what fits stays so by all that bodies do to promises and errors, and import() has one outcome
   pub record IsLawful : Type 0 where

@@ -11,3 +11,4 @@ pub mod Written
 pub mod Declared
 pub mod Turn
 pub mod Running
+pub mod Noting

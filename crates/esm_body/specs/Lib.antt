@@ -10,6 +10,7 @@ pub mod Keeps
 pub mod Laws
 pub mod Examples
 pub mod Importers
+pub mod Noted
 pub mod Inner
 pub mod View
 pub mod Naming

@@ -7,22 +7,16 @@ use Rattle.esm_body.specs.State as state
 use Rattle.esm_body.specs.State.{State}
 use Rattle.esm_body.specs.Importers.{outer_with}
 use Rattle.esm_body.specs.Inner.Stack.{standing_rest}
-use Rattle.esm_body.specs.declared.engine.Event.{Event}
-use Rattle.esm_body.specs.declared.engine.Event.TheVariants as events
+use Rattle.esm_body.specs.Noted.{event_of}
 use Rattle.esm_body.specs.declared.engine.Engine.{Engine}
 use Rattle.esm_body.specs.declared.work.Standing.{Standing}
-
-abbrev pub event_of : Event → state.Event ℕ
-event_of (events.Begins m) = state.Begins m.0
-event_of (events.Ends m) = state.Ends m.0
-event_of (events.Throws m) = state.Throws m.0
 
 abbrev pub standing_of : Standing → state.Standing ℕ
 standing_of s = record { at = s.body.at.0; done = s.done.0; rest = standing_rest s.body s.purpose }
 
 abbrev pub engine_of : Engine → state.Engine ℕ
 engine_of e = record {
-  events = map event_of e.events.items;
+  events = map event_of e.events;
   log = string_bytes e.log.text;
   steps = e.log.steps;
   standing = map standing_of e.standing.items;

@@ -1,4 +1,5 @@
 // The bodies under way.
+use crate::events::Events;
 use crate::log::Log;
 use crate::work::Standing;
 use esm_base::ModuleId;
@@ -19,7 +20,7 @@ pub enum Event {
 #[derive(Drop)]
 pub struct Engine {
     pub(crate) alloc: Global,
-    pub(crate) events: Vec<Event>,
+    pub(crate) events: Events,
     pub(crate) log: Log,
     pub(crate) standing: Vec<Standing>,
     pub(crate) trace: bool,

@@ -1,5 +1,5 @@
 // Steps and the log, with their limits.
-ghost use Rattle.std.specs.Prelude.{◌≡◌};
+ghost use Rattle.std.specs.Prelude.{◌≡◌, [], string_bytes};
 ghost use Rattle.esm_body.specs.Inner.Log.{TookSteps, AddedLine};
 
 use esm_base::{Limit, MAX_LOG_BYTES, MAX_STEPS, Memory};
@@ -27,7 +27,11 @@ pub struct Log {
 
 impl Log {
     /// Without lines and steps. It doesn't allocate.
-    pub fn new(alloc: Global) -> Log {
+    pub fn new(alloc: Global) -> Log
+        ensures text { string_bytes result.text ≡ [] }
+        ensures steps { result.steps ≡ 0 }
+        ensures stopped { result.stopped ≡ None }
+    {
         Log {
             text: String::new(alloc),
             steps: 0,

@@ -1,0 +1,8 @@
+use crate::Engine;
+use std::rt::HostRuntime;
+
+#[test]
+fn new_engine(rt: HostRuntime) {
+    let engine = Engine::new(rt.alloc(), false);
+    assert!(rt; engine.log().is_empty());
+}
