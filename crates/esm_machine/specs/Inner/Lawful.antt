@@ -184,6 +184,7 @@ module _ (o : Outer ℕ Seen) (f : Fits o) where
       whole = fits_after;
       keeps = λ v q. known_number (record S { loading = h.imports }) v (knows (renamed_value (names S).name v) (known_url S v q));
       scopes = scopes;
+      urls = λ m l. refl;
     }
 
   abbrev Begun : ℕ → List ℕ → ℕ → Type 0
