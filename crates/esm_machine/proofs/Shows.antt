@@ -1,6 +1,7 @@
 -- What is read of the records is what is seen of modules, as long as nothing is lost.
-use Rattle.std.proofs.Common.{◌≡◌, ℕ, ◌<◌, Bool, true, false, List, [], length, Option, Some, None, refl, ap, subst, sym, ◌∙◌, arith}
+use Rattle.std.proofs.Common.{◌≡◌, ℕ, zero, suc, ◌<◌, Bool, true, false, List, [], ◌∷◌, length, Option, Some, None, refl, ap, subst, sym, ◌∙◌, arith}
 use Rattle.std.specs.Prelude.{◌&&◌, nat_lt, if◌then◌else◌, slice_get, All, IfSome}
+use Rattle.std.specs.Option.{option_map}
 use Rattle.std.proofs.lemmas.Bool.Decides.{nat_tests}
 use Rattle.esm_base.specs.declared.module_id.ModuleId.{ModuleId}
 use Rattle.esm_import_map.specs.ImportMap.{Maps}
@@ -8,6 +9,8 @@ use Rattle.esm_realm.specs.ById.{entries_at, loaded_at, loaded_by, url_at, url_b
 use Rattle.esm_realm.specs.Sound.{RecordParts, IsSound, AreLoaded}
 use Rattle.esm_env.specs.Modules.{entries}
 use Rattle.esm_loads.specs.Loading.{Loading, import_promise}
+use Rattle.esm_loads.specs.Loaded.{root_url}
+use Rattle.esm_loads.specs.LoadsView.{is_unlinked}
 use Rattle.esm_loads.specs.LoadsAsLoading.{loading_of}
 use Rattle.esm_loads.specs.declared.loads.Loads.{Loads}
 use Rattle.esm_loads.proofs.Places.{get_within, all_get}
@@ -120,3 +123,13 @@ pub promise_is : (c : Condition) (l : Loading) (s : ℕ) → import_promise (loa
 promise_is conditions.Whole l s = refl
 promise_is (conditions.Stopped limit) l s = refl
 promise_is conditions.Lost l s = refl
+
+there : (R : List RecordParts) (id : ℕ) → is_unlinked R id ≡ true → id < length R
+there [] id e = cc
+there (r ∷ R) zero e = omega arith
+there (r ∷ R) (suc id) e = let l = there R id e in omega (arith, l)
+
+-- the root of a load by its URL
+pub root_named : (R : List RecordParts) → IsSound R → (o : Option ModuleId) → IfSome o (λ m. is_unlinked R m.0 ≡ true) → root_url R o ≡ option_map (λ m. Named R m.0) o
+root_named R s None u = refl
+root_named R s (Some m) u = ap (λ v. Some v) (sym (name_at R m.0 s (there R m.0 u)))

@@ -1,6 +1,7 @@
 // Fetches and answers, as what lies outside of bodies takes them.
 ghost use Rattle.std.specs.Prelude.{◌≡◌, ◌<◌, ℕ, List, Bool, true, false, None, Some, IfOk, OnOk, Ok, length, All};
 ghost use Rattle.std.specs.Arc.{arc_value};
+ghost use Rattle.std.specs.Option.{option_map};
 ghost use Rattle.esm_base.specs.Lists.{EachOnce};
 ghost use Rattle.esm_base.specs.Urls.{IsUsable, Url, has, same_url};
 ghost use Rattle.esm_ast.specs.Outcome.{outcome_view};
@@ -13,12 +14,13 @@ ghost use Rattle.esm_loads.specs.UrlTable.{found};
 ghost use Rattle.esm_machine.specs.Arrivals.{urls_with};
 ghost use Rattle.esm_machine.specs.Calls.{AnswersBy, FetchesBy, LeavesModules, UnlessLost, condition_fetched, condition_of, opening_seen};
 ghost use Rattle.esm_machine.specs.Imports.{is_whole, seen_of};
+ghost use Rattle.esm_machine.specs.Seen.{names};
 ghost use Rattle.esm_machine.specs.declared.condition.Condition.TheVariants as conditions;
 
 use crate::condition::{Condition, condition_after};
 use crate::imports::Imports;
 use esm_ast::Outcome;
-use esm_base::{Memory, Text};
+use esm_base::{Memory, ModuleId, Text};
 use esm_import_map::ImportMap;
 use esm_loads::{LoadEnd, Loads};
 use esm_promise::Promises;
@@ -119,6 +121,15 @@ impl Imports {
                 Err(end)
             }
         }
+    }
+
+    /// The root of a load that has ended with all modules loaded; none of any other load.
+    pub fn root_of_load(&self, load: usize) -> Option<ModuleId>
+        requires whole { is_whole self.now.condition ≡ true }
+        ensures { loading.root_of_load (seen_of self.now).loading load
+            ≡ option_map (λ m. (names (seen_of self.now)).name m.0) result }
+    {
+        self.loads.root_of_load(load)
     }
 
     /// The promise of the `import()` that a load is for; none of the load of an entry.
