@@ -18,7 +18,7 @@ started (Begins x ∷ es) = x ∷ started es
 started (Ends x ∷ es) = started es
 started (Throws x ∷ es) = started es
 
--- what import() reads and writes has become this by calls of import() alone
+-- what import() reads and writes beside promises and errors has become this by calls of import() alone
 pub data ChangedBy {N I : Type 0} (begins : Importing N I) (old : I) : I → Type 0 where
   none : ChangedBy begins old old
   call : {o after : Outer N I} {m : N} {specifier : List ℕ} {promise : ℕ} {end : Result (Unit {0}) Limit}

@@ -111,8 +111,8 @@ pub trait Imports {
     ghost begins: { Importing Name Seen };
 }
 
-/// A call for a body changes what `import()` reads and writes by `import()` alone, and begins no other body; where no limit
-/// is passed, one that starts or runs has begun.
+/// A call for a body changes what `import()` reads and writes beside promises and errors by `import()` alone, and begins no
+/// other body; where no limit is passed, one that starts or runs has begun.
 pub fn bodies_keep<A: Imports>()
     ensures keeps { BodiesKeep A.same A.modules A.begins }
     ensures begins { BodiesBegin A.same A.modules A.begins }

@@ -73,13 +73,14 @@ pub fn steps_are_of_the_world()
     ensures { StepsAreOfTheWorld }
 {}
 
-/// Where the world that is stood for fits, what is held fits by ids, as bodies and evaluation ask for it.
+/// Where the world that is stood for fits, what is held fits by ids, as bodies and evaluation ask for it, but for nodes of
+/// linked modules that nothing has entered, scopes, and what holds between two calls of evaluation.
 pub fn worlds_fit_by_id()
     ensures { WorldsFitById }
 {}
 
 /// What the end of a fetch that is allowed, with the record of a module, and the answer of a pending request do by ids, they
-/// do in the world.
+/// do in the world, unless a limit stops them.
 pub fn arrivals_are_of_the_world()
     ensures { ArrivalsAreOfTheWorld }
 {

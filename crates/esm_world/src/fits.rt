@@ -25,7 +25,8 @@ pub fn runs_fit()
     esm_resolve::laws::shared_set()
 }
 
-/// Each world of a run that no limit has stopped is sound: each step leaves a sound world, and each job can be done. Linking
+/// Each world of a run that no limit has stopped is sound: each step that no limit stops leaves a sound world, and each job
+/// can be done. Linking
 /// keeps that a world is ready for evaluation and bodies.
 pub fn worlds_stay_sound()
     ensures steps { WorldsStaySound }

@@ -39,7 +39,8 @@ pub fn limits_are_told()
     ensures { StopsAreTold }
 {}
 
-/// In a world that no limit has stopped, each step tells the limit that stops it, or none where none does.
+/// In a world that no limit has stopped, a call for a body, an evaluation, what follows the end of a body, and a body that
+/// goes on tell the limit that stops them, or none where none does.
 pub fn limits_are_exact()
     ensures { LimitsAreExact }
 {}
