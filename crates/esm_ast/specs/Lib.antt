@@ -1,4 +1,5 @@
 pub mod Entries
+pub mod Spelled
 pub mod ModuleTree
 pub mod Script
 pub mod Outcome

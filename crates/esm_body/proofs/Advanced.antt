@@ -25,10 +25,11 @@ use Rattle.esm_body.specs.BodyRewriting.{RewritesBody as rule}
 use Rattle.esm_body.specs.Fits.{Kind, AreLinked}
 use Rattle.esm_body.specs.Importers.{HasLinked, IsLawful}
 use Rattle.esm_body.specs.Inner.Chains.{Turns, only}
-use Rattle.esm_body.specs.Inner.Contexts.{caught_in}
-use Rattle.esm_body.specs.Inner.Stack.{innermost, in_front_of, awaited_by, use_of, doing_part, IsUse}
+use Rattle.esm_body.specs.Contexts.{caught_in}
+use Rattle.esm_body.specs.Inner.Stack.{doing_part}
+use Rattle.esm_body.specs.Code.{innermost, in_front_of, awaited_by, use_of, IsUse, IsCode}
 use Rattle.esm_body.specs.Inner.World.{state_in, inner_of, ActsInside, url_inside}
-use Rattle.esm_body.specs.Inner.Turn.{IsCode, code_contexts, used, doing_given, IsReadyFor, MayTurn, Came, Turned, Threw}
+use Rattle.esm_body.specs.Inner.Turn.{code_contexts, used, doing_given, IsReadyFor, MayTurn, Came, Turned, Threw}
 use Rattle.esm_body.specs.declared.log.Stop.{Stop}
 use Rattle.esm_body.specs.declared.log.Stop.TheVariants as stops
 use Rattle.esm_body.specs.declared.inside.Inside.{Inside}
@@ -48,15 +49,15 @@ module _ {I S : Type 0} (seen : I → S) (modules : S → Modules ℕ) (linked :
   Ready w k r = IsReadyFor seen modules linked fits begins w k r
 
   abbrev inner_rest : Inside I → Rest CodeValue
-  inner_rest w = innermost (arc_value w.now.tree).stmts w.now.levels.items
+  inner_rest w = innermost (arc_value w.code.now.tree).stmts w.code.now.levels.items
 
   -- this value is awaited, for this
   abbrev awaiting : Inside I → Use → Value → Rest CodeValue
-  awaiting y p v = in_front_of y.now (parts.Does (uses.Awaits (use_of (arc_value y.now.tree).stmts p)) (Val (value_of v)))
+  awaiting y p v = in_front_of y.code.now (parts.Does (uses.Awaits (use_of (arc_value y.code.now.tree).stmts p)) (Val (value_of v)))
 
-  waits_came : (y : Inside I) (k : Kind) (v : Value) (p : Use) → IsCode y.now → IsUse (length (arc_value y.now.tree).stmts) p → Ready y k (awaiting y p v) → Came seen modules linked fits begins y (awaiting y p v) (o.Waits v p) y
+  waits_came : (y : Inside I) (k : Kind) (v : Value) (p : Use) → IsCode y.code.now → IsUse (length (arc_value y.code.now.tree).stmts) p → Ready y k (awaiting y p v) → Came seen modules linked fits begins y (awaiting y p v) (o.Waits v p) y
   waits_came y k v p c q r = record {
-    moved = only (front_waits seen modules linked fits begins y (more (parts.Does (uses.Awaits (use_of (arc_value y.now.tree).stmts p)) (Val (value_of v))) (inner_rest y)) (more (parts.Stands (use_of (arc_value y.now.tree).stmts p)) (inner_rest y)) (value_of v) (inner_of seen y) refl rule.awaits);
+    moved = only (front_waits seen modules linked fits begins y (more (parts.Does (uses.Awaits (use_of (arc_value y.code.now.tree).stmts p)) (Val (value_of v))) (inner_rest y)) (more (parts.Stands (use_of (arc_value y.code.now.tree).stmts p)) (inner_rest y)) (value_of v) (inner_of seen y) refl rule.awaits);
     same = record { at = refl; tree = refl; code = c; outcome = q };
     keeps = keeps_itself seen modules linked fits begins y r.made;
   }
@@ -72,13 +73,13 @@ module _ {I S : Type 0} (seen : I → S) (modules : S → Modules ℕ) (linked :
     shows = shows_urls modules linked fits begins law seen graphs urls has
 
     abbrev purpose : Purpose
-    purpose = awaited_by (arc_value w.now.tree).stmts d.awaits (use_of (arc_value w.now.tree).stmts d.purpose)
+    purpose = awaited_by (arc_value w.code.now.tree).stmts d.awaits (use_of (arc_value w.code.now.tree).stmts d.purpose)
 
     abbrev begun : Term CodeValue
     begun = with_given given (rest_of d.frame)
 
     abbrev left : Rest CodeValue
-    left = doing_given w.now d given
+    left = doing_given w.code.now d given
 
     -- where its evaluation leads
     abbrev pub Evaluates : TermEnd CodeValue Stop → Inside I → Type 0
@@ -92,17 +93,17 @@ module _ {I S : Type 0} (seen : I → S) (modules : S → Modules ℕ) (linked :
 
     -- its value in its place
     abbrev found : Value → Rest CodeValue
-    found v = in_front_of w.now (parts.Does purpose (Val (value_of v)))
+    found v = in_front_of w.code.now (parts.Does purpose (Val (value_of v)))
 
-    found_awaits : (y : Inside I) (v : Value) → d.awaits ≡ true → y.now ≡ w.now → found v ≡ awaiting y d.purpose v
+    found_awaits : (y : Inside I) (v : Value) → d.awaits ≡ true → y.code.now ≡ w.code.now → found v ≡ awaiting y d.purpose v
     found_awaits y v a e = λ j. in_front_of (sym e j) (parts.Does (awaited_by (arc_value (sym e j).tree).stmts (a j) (use_of (arc_value (sym e j).tree).stmts d.purpose)) (Val (value_of v)))
 
-    found_used : (y : Inside I) (v : Value) → d.awaits ≡ false → y.now ≡ w.now → found v ≡ used y.now d.purpose v
+    found_used : (y : Inside I) (v : Value) → d.awaits ≡ false → y.code.now ≡ w.code.now → found v ≡ used y.code.now d.purpose v
     found_used y v a e = λ j. in_front_of (sym e j) (parts.Does (awaited_by (arc_value (sym e j).tree).stmts (a j) (use_of (arc_value (sym e j).tree).stmts d.purpose)) (Val (value_of v)))
 
     -- ---- a value
 
-    found_now : (y : Inside I) (k : Kind) (v : Value) → Ready w k left → Finds v y → y.now ≡ w.now
+    found_now : (y : Inside I) (k : Kind) (v : Value) → Ready w k left → Finds v y → y.code.now ≡ w.code.now
     found_now y k v r h = (has_value seen modules linked fits begins some one w urls shows k purpose begun r y (value_of v) h).same.now
 
     found_ready : (y : Inside I) (k : Kind) (v : Value) → Ready w k left → Finds v y → Ready y k (found v)
@@ -113,16 +114,16 @@ module _ {I S : Type 0} (seen : I → S) (modules : S → Modules ℕ) (linked :
     found_turned : (y after : Inside I) (k : Kind) (v : Value) (result : Result Outcome Stop) → Ready w k left → Finds v y → Turned seen modules linked fits begins y (found v) result after → Turned seen modules linked fits begins w left result after
     found_turned y after k v result r h t =
         let q = has_value seen modules linked fits begins some one w urls shows k purpose begun r y (value_of v) h in
-        turned_behind seen modules linked fits begins some one w y k left (found v) r q.same q.made q.leads result after (no_end (code_contexts w.now) (parts.Does purpose (Val (value_of v))) (inner_rest w)) t
+        turned_behind seen modules linked fits begins some one w y k left (found v) r q.same q.made q.leads result after (no_end (code_contexts w.code.now) (parts.Does purpose (Val (value_of v))) (inner_rest w)) t
 
-    pub found_code : (y : Inside I) (k : Kind) (v : Value) → IsCode w.now → Ready w k left → Finds v y → IsCode y.now
+    pub found_code : (y : Inside I) (k : Kind) (v : Value) → IsCode w.code.now → Ready w k left → Finds v y → IsCode y.code.now
     found_code y k v c r h = subst IsCode (sym (found_now y k v r h)) c
 
-    pub found_use : (y : Inside I) (k : Kind) (v : Value) → IsUse (length (arc_value w.now.tree).stmts) d.purpose → Ready w k left → Finds v y → IsUse (length (arc_value y.now.tree).stmts) d.purpose
+    pub found_use : (y : Inside I) (k : Kind) (v : Value) → IsUse (length (arc_value w.code.now.tree).stmts) d.purpose → Ready w k left → Finds v y → IsUse (length (arc_value y.code.now.tree).stmts) d.purpose
     found_use y k v q r h = subst (λ (n : Activation). IsUse (length (arc_value n.tree).stmts) d.purpose) (sym (found_now y k v r h)) q
 
     -- it is awaited
-    pub awaited_came : (y : Inside I) (k : Kind) (v : Value) → d.awaits ≡ true → IsCode w.now → IsUse (length (arc_value w.now.tree).stmts) d.purpose → Ready w k left → Finds v y → Came seen modules linked fits begins w left (o.Waits v d.purpose) y
+    pub awaited_came : (y : Inside I) (k : Kind) (v : Value) → d.awaits ≡ true → IsCode w.code.now → IsUse (length (arc_value w.code.now.tree).stmts) d.purpose → Ready w k left → Finds v y → Came seen modules linked fits begins w left (o.Waits v d.purpose) y
     awaited_came y k v a c q r h =
         let e = found_awaits y v a (found_now y k v r h) in
         found_turned y y k v (Ok (o.Waits v d.purpose)) r h
@@ -130,41 +131,41 @@ module _ {I S : Type 0} (seen : I → S) (modules : S → Modules ℕ) (linked :
         (waits_came y k v d.purpose (found_code y k v c r h) (found_use y k v q r h) (subst (λ z. Ready y k z) e (found_ready y k v r h))))
 
     -- it is used
-    pub used_may : (y : Inside I) (k : Kind) (v : Value) → d.awaits ≡ false → Ready w k left → Finds v y → MayTurn seen modules linked fits begins y (used y.now d.purpose v)
+    pub used_may : (y : Inside I) (k : Kind) (v : Value) → d.awaits ≡ false → Ready w k left → Finds v y → MayTurn seen modules linked fits begins y (used y.code.now d.purpose v)
     used_may y k v a r h = (k, subst (λ z. Ready y k z) (found_used y v a (found_now y k v r h)) (found_ready y k v r h))
 
-    pub used_turned : (y after : Inside I) (k : Kind) (v : Value) (result : Result Outcome Stop) → d.awaits ≡ false → Ready w k left → Finds v y → Turned seen modules linked fits begins y (used y.now d.purpose v) result after
+    pub used_turned : (y after : Inside I) (k : Kind) (v : Value) (result : Result Outcome Stop) → d.awaits ≡ false → Ready w k left → Finds v y → Turned seen modules linked fits begins y (used y.code.now d.purpose v) result after
         → Turned seen modules linked fits begins w left result after
     used_turned y after k v result a r h t =
         found_turned y after k v result r h (subst (λ z. Turned seen modules linked fits begins y z result after) (sym (found_used y v a (found_now y k v r h))) t)
 
     -- ---- a throw
 
-    pub failed_code : (y : Inside I) (k : Kind) (v : Value) → IsCode w.now → Ready w k left → Fails v y → IsCode y.now
+    pub failed_code : (y : Inside I) (k : Kind) (v : Value) → IsCode w.code.now → Ready w k left → Fails v y → IsCode y.code.now
     failed_code y k v c r h = subst IsCode (sym (has_thrown seen modules linked fits begins some one w urls shows k purpose begun r y (value_of v) h).same.now) c
 
     pub failed_turned : (y after : Inside I) (k : Kind) (v : Value) (result : Result Outcome Stop) → Ready w k left → Fails v y → Threw y v result after → Turned seen modules linked fits begins w left result after
     failed_turned y after k v result r h t =
         let q = has_thrown seen modules linked fits begins some one w urls shows k purpose begun r y (value_of v) h in
         threw_turned seen modules linked fits begins w y after left v result (ap (λ (n : Activation). n.at) q.same.now) (ap (λ (n : Activation). n.tree) q.same.now) (keeps_same seen modules linked fits begins w y r.made q.same q.made) t
-        (subst (λ (n : Activation). Turns nat_eq modules begins w.now.at.0 (state_in seen w) left (caught_in (code_contexts n) (value_of v)) (state_in seen y)) (sym q.same.now) q.leads)
+        (subst (λ (n : Activation). Turns nat_eq modules begins w.code.now.at.0 (state_in seen w) left (caught_in (code_contexts n) (value_of v)) (state_in seen y)) (sym q.same.now) q.leads)
 
     -- ---- a call
 
-    pub called_came : (y : Inside I) (k : Kind) (f : FuncId) (vs : Vec Value Global) (late : Doing) → late.purpose ≡ d.purpose → late.awaits ≡ d.awaits → IsCode w.now → IsUse (length (arc_value w.now.tree).stmts) d.purpose → IsSound late.frame → late.frame.focus ≡ None → Ready w k left
+    pub called_came : (y : Inside I) (k : Kind) (f : FuncId) (vs : Vec Value Global) (late : Doing) → late.purpose ≡ d.purpose → late.awaits ≡ d.awaits → IsCode w.code.now → IsUse (length (arc_value w.code.now.tree).stmts) d.purpose → IsSound late.frame → late.frame.focus ≡ None → Ready w k left
         → Evaluates (ends.Call (func_value f) (values_of vs.items) (rest_of late.frame)) y → Came seen modules linked fits begins w left (o.Calls f vs late) y
     called_came y k f vs late pu aw c u s n r h =
         let q = has_called seen modules linked fits begins some one w urls shows k purpose begun r y (func_value f) (values_of vs.items) (rest_of late.frame) h in
-        let e : in_front_of w.now (parts.Does purpose (rest_of late.frame)) ≡ in_front_of y.now (doing_part (arc_value y.now.tree).stmts late) =
+        let e : in_front_of w.code.now (parts.Does purpose (rest_of late.frame)) ≡ in_front_of y.code.now (doing_part (arc_value y.code.now.tree).stmts late) =
         (λ j. in_front_of (sym q.same.now j) (parts.Does (awaited_by (arc_value (sym q.same.now j).tree).stmts (sym aw j) (use_of (arc_value (sym q.same.now j).tree).stmts (sym pu j))) (rest_of late.frame))) in
         record {
-          moved = subst (λ z. Turns nat_eq modules begins w.now.at.0 (state_in seen w) left (On (comes.Calls (func_value f) (values_of vs.items) z)) (state_in seen y)) e q.leads;
+          moved = subst (λ z. Turns nat_eq modules begins w.code.now.at.0 (state_in seen w) left (On (comes.Calls (func_value f) (values_of vs.items) z)) (state_in seen y)) e q.leads;
           same = record {
             at = ap (λ (n : Activation). n.at) q.same.now;
             tree = ap (λ (n : Activation). n.tree) q.same.now;
             code = subst IsCode (sym q.same.now) c;
             outcome = record {
-              purpose = subst (λ p. IsUse (length (arc_value y.now.tree).stmts) p) (sym pu) (subst (λ (n : Activation). IsUse (length (arc_value n.tree).stmts) d.purpose) (sym q.same.now) u);
+              purpose = subst (λ p. IsUse (length (arc_value y.code.now.tree).stmts) p) (sym pu) (subst (λ (n : Activation). IsUse (length (arc_value n.tree).stmts) d.purpose) (sym q.same.now) u);
               sound = s;
               waits = n;
             };

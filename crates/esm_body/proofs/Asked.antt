@@ -1,45 +1,42 @@
 -- What the code answers to the calls of expressions is what the definitions answer.
-use Rattle.std.proofs.Common.{◌≡◌, ℕ, nat_eq, suc, ◌+◌, ◌<◌, ◌≤◌, Bool, true, false, List, [], ◌∷◌, ◌++◌, length, refl, ap, subst, sym, ◌∙◌, arith}
+use Rattle.std.proofs.Common.{◌≡◌, ℕ, nat_eq, ◌+◌, ◌<◌, ◌≤◌, Bool, true, false, List, [], ◌∷◌, length, refl, ap, subst, sym, ◌∙◌, arith}
 use Rattle.std.proofs.lemmas.Bool.Decides.{nat_tests}
-use Rattle.std.specs.Prelude.{Option, Some, None, Result, Ok, Err, nat_lt, codes, string_bytes, slice_get}
+use Rattle.std.specs.Prelude.{Option, Some, None, Result, Ok, Err, nat_lt, string_bytes}
 use Rattle.esm_base.specs.declared.limits.Limit.{Limit}
-use Rattle.esm_base.specs.declared.limits.Limit.TheVariants.{L1, L2, L3, L4, L5}
+use Rattle.esm_base.specs.declared.limits.Limit.TheVariants.{L3, L5}
 use Rattle.esm_base.specs.declared.limits.TheConstants.{MAX_STEPS, MAX_LOG_BYTES}
 use Rattle.esm_values.specs.Value as value
 use Rattle.esm_values.specs.Code.{CodeValue, value_of}
 use Rattle.esm_values.specs.Errors.{Errors, fault, make_error, next_error}
 use Rattle.esm_values.specs.Operators.{text_of}
-use Rattle.esm_values.specs.Completion.{Completion, Normal, Throw}
+use Rattle.esm_values.specs.Completion.{Completion}
 use Rattle.esm_values.specs.Acts.{Act as act}
 use Rattle.esm_values.specs.declared.errors.FaultKind.{FaultKind}
-use Rattle.esm_values.specs.declared.errors.FaultKind.TheVariants as kinds
 use Rattle.esm_values.specs.declared.value.Value.{Value}
 use Rattle.esm_expr_eval.specs.Instance.{said}
 use Rattle.esm_expr_eval.specs.declared.world.Out.{Out}
 use Rattle.esm_expr_eval.specs.declared.world.Out.TheVariants as out
 use Rattle.esm_promise.specs.Code.{Numbered}
-use Rattle.esm_promise.specs.Promises.{Pending, make, settle, next_promise, is_pending, is_pending_by}
-use Rattle.esm_promise.specs.Promises.Settled.{Rejected}
+use Rattle.esm_promise.specs.Promises.{make, next_promise, is_pending_by}
 use Rattle.esm_promise.specs.Laws.{MadePending}
 use Rattle.esm_promise.specs.Outer.{Outer}
 use Rattle.esm_env.specs.Modules.{Modules}
-use Rattle.esm_env.specs.Cells.{Cell, Reading, read_cell}
+use Rattle.esm_env.specs.Cells.{Cell, Reading}
 use Rattle.esm_env.specs.Cells.{Reading as reading}
-use Rattle.esm_env.specs.Reading.{IsReadingOf, IsMemberOf}
-use Rattle.esm_env.specs.Scopes.{Scopes, scope_in, import_of, cells_of, read_in, read_or}
+use Rattle.esm_env.specs.Scopes.{Scopes, scope_in, import_of, read_in, read_or}
 use Rattle.esm_env.specs.Faithful.{HasScope, AreScopesOf}
 use Rattle.esm_env.specs.Laws.{ReadsRight}
 use Rattle.esm_env.specs.declared.scope.ModuleScope.{ModuleScope}
 use Rattle.esm_body.specs.Scopes.{Scope, in_scopes}
 use Rattle.esm_body.specs.State.{State, Importing, take_steps, steps_by, add_line, line_by}
-use Rattle.esm_body.specs.Acts.{Inner, Performs, Displays, DisplaysAll, ReadsBy, ReadsName, ReadsMemberOf, BeginsBy, read_answer, error_member, over_scopes, refuse_import, with_state}
+use Rattle.esm_body.specs.Acts.{Inner, Performs, Displays, DisplaysAll, ReadsBy, BeginsBy, read_answer, over_scopes}
 use Rattle.esm_body.specs.Fits.{IsKnown, AreLinked}
-use Rattle.esm_body.specs.Importers.{Begun, MayBegin, KeepsModules, IsLawful, outer_with}
+use Rattle.esm_body.specs.Importers.{Begun, MayBegin, IsLawful, outer_with}
 use Rattle.esm_body.specs.View.{engine_of, state_of}
 use Rattle.esm_body.specs.Inner.Log.{TookSteps, AddedLine}
 use Rattle.esm_body.specs.Inner.Names.{reading_in, said_out, told_as, Tells}
-use Rattle.esm_body.specs.Inner.Displayed.{bare_state, MemberTold, NoMembers, RefusesTold, BeginsTold, BeginsAt}
-use Rattle.esm_body.specs.Inner.World.{inner_of, IsSame, KnowsAct, HasScopes, IsReady, Answers, ActsInside}
+use Rattle.esm_body.specs.Inner.Displayed.{bare_state, MemberTold, RefusesTold, BeginsTold, BeginsAt}
+use Rattle.esm_body.specs.Inner.World.{Answers, ActsInside}
 use Rattle.esm_body.specs.declared.engine.Engine.{Engine}
 use Rattle.esm_body.specs.declared.log.Log.{Log}
 use Rattle.esm_body.specs.declared.log.Stop.{Stop}
@@ -73,6 +70,13 @@ shows_there modules w (value.Func m i) text h = h
 shows_there modules w (value.Error id) text h = h
 shows_there modules w (value.Namespace m) text h = h
 shows_there modules w (value.Promise id) text h = h
+
+-- in each state with these errors and modules
+pub displays_there : {I : Type 0} (modules : I → Modules ℕ) (i : I) (errors : Errors) (v : CodeValue) (text : List ℕ) → Displays (λ g. g) (bare_state (modules i) errors) v text
+    → (w : State ℕ I) → w.outer.errors ≡ errors → w.outer.imports ≡ i → Displays modules w v text
+displays_there {I = I} modules i errors v text h w e k =
+    shows_there modules w v text (subst (λ (es : Errors). Displays (λ g. g) (bare_state (modules w.outer.imports) es) v text) (sym e)
+    (subst (λ (j : I). Displays (λ g. g) (bare_state (modules j) errors) v text) (sym k) h))
 
 pub show_all_there : {I : Type 0} (modules : I → Modules ℕ) (w : State ℕ I) (vs : List CodeValue) (texts : List (List ℕ))
     → DisplaysAll (λ g. g) (bare_state (modules w.outer.imports) w.outer.errors) vs texts → DisplaysAll modules w vs texts

@@ -16,8 +16,9 @@ use Rattle.esm_env.specs.Declarations.{FunctionCode}
 use Rattle.esm_body.specs.Scopes.{Scope, named_cell, parameters, scope_of}
 use Rattle.esm_body.specs.Rest.{end, more, whole}
 use Rattle.esm_body.specs.Rest.Part.{In}
-use Rattle.esm_body.specs.Inner.Slots.{slot_with, slot_of, scope_of_slots}
-use Rattle.esm_body.specs.Inner.Stack.{in_front, contexts_of, innermost, levels_rest, AreWork, AreLevels}
+use Rattle.esm_body.specs.Slots.{slot_with, slot_of, scope_of_slots}
+use Rattle.esm_body.specs.Inner.Stack.{levels_rest}
+use Rattle.esm_body.specs.Code.{in_front, contexts_of, innermost, AreWork, AreLevels}
 use Rattle.esm_body.specs.Inner.Calls.{argument_of, IsOutermost, IsCallOf, Remains}
 use Rattle.esm_body.specs.declared.work.Activation.{Activation}
 use Rattle.esm_body.specs.declared.work.Level.{Level}

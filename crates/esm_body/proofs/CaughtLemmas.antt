@@ -13,7 +13,7 @@ use Rattle.esm_tree.specs.Syntax as x
 use Rattle.esm_tree.specs.Flat.{stmt_part, stmt_parts}
 use Rattle.esm_tree.specs.declared.node.StmtId.{StmtId}
 use Rattle.esm_body.specs.Scopes.{Scope, scope_of, caught_name, handler_scope}
-use Rattle.esm_body.specs.Inner.Slots.{scope_of_slots}
+use Rattle.esm_body.specs.Slots.{scope_of_slots}
 use Rattle.esm_body.specs.declared.work.Slot.{Slot}
 use Rattle.esm_body.specs.declared.work.Kind.TheVariants as k
 use Rattle.esm_body.specs.declared.log.Stop.{Stop}
@@ -21,8 +21,9 @@ use Rattle.esm_body.specs.Rest.{Rest, more, whole}
 use Rattle.esm_body.specs.Rest.Part.{In}
 use Rattle.esm_body.specs.State.{Importing}
 use Rattle.esm_body.specs.BodyRewriting.{RewrittenBody, On}
-use Rattle.esm_body.specs.Inner.Contexts.{Context, Block, Trying, scopes_in, placed, surrounded, caught_in}
-use Rattle.esm_body.specs.Inner.Stack.{scope_of_level, contexts_of, context_by, innermost, trying, handler_of, caught_of, Becomes, IsHandled, IsCaught, IsLeft, IsKind, AreLevels}
+use Rattle.esm_body.specs.Contexts.{Context, Block, Trying, scopes_in, placed, surrounded, caught_in}
+use Rattle.esm_body.specs.Inner.Stack.{handler_of, caught_of, Becomes, IsHandled, IsCaught, IsLeft}
+use Rattle.esm_body.specs.Code.{scope_of_level, contexts_of, context_by, innermost, trying, IsKind, AreLevels}
 use Rattle.esm_body.specs.declared.work.Level.{Level}
 use Rattle.esm_body.proofs.Levels.{contexts_push}
 use Rattle.esm_body.proofs.Moved as moved

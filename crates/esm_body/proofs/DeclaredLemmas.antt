@@ -25,7 +25,7 @@ use Rattle.esm_body.specs.Acts.{Inner, write_name}
 use Rattle.esm_body.specs.BodyRewriting.{RewrittenBody, On, Gives, Waits, RewritesBody, within, caught, wrote}
 use Rattle.esm_body.specs.BodyRewriting.RewritesBody.{begins_at, does, drops, sets, writes, throws, returns, prints, chooses, awaits, inner, inner_end, tries, tries_end}
 use Rattle.esm_body.specs.Inner.Chains.{Comes, here, last, later, Turns, only, behind}
-use Rattle.esm_body.specs.Inner.Declared.{IsNameOf, DeclareOnly, SetsUse, SetsPart, SetsRest, SetsMove}
+use Rattle.esm_body.specs.Sets.{IsNameOf, DeclareOnly, SetsUse, SetsPart, SetsRest, SetsMove}
 
 -- ---- rewritings
 

@@ -13,8 +13,9 @@ use Rattle.esm_body.specs.State.{State, Importing}
 use Rattle.esm_body.specs.BodyRewriting.{On}
 use Rattle.esm_body.specs.BodyRewriting.RewritesBody.{inner_end, tries, tries_end}
 use Rattle.esm_body.specs.Inner.Chains.{Turns, only, behind}
-use Rattle.esm_body.specs.Inner.Contexts.{Context, Block, Trying, scopes_in, placed, surrounded}
-use Rattle.esm_body.specs.Inner.Stack.{contexts_of, context_by, innermost, levels_rest, IsLeft}
+use Rattle.esm_body.specs.Contexts.{Context, Block, Trying, scopes_in, placed, surrounded}
+use Rattle.esm_body.specs.Inner.Stack.{levels_rest, IsLeft}
+use Rattle.esm_body.specs.Code.{contexts_of, context_by, innermost}
 use Rattle.esm_body.specs.declared.work.Kind.{Kind}
 use Rattle.esm_body.specs.declared.work.Kind.TheVariants as k
 use Rattle.esm_body.specs.declared.work.Level.{Level}

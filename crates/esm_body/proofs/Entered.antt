@@ -20,10 +20,11 @@ use Rattle.esm_body.specs.Rest.Part.{In}
 use Rattle.esm_body.specs.State.{Importing}
 use Rattle.esm_body.specs.Segment.{active, called_by}
 use Rattle.esm_body.specs.Inner.Calls.{IsEntered, Remains}
-use Rattle.esm_body.specs.Inner.Declared.{IsNameOf, SetsRest}
+use Rattle.esm_body.specs.Sets.{IsNameOf, SetsRest}
 use Rattle.esm_body.specs.Inner.Running.{IsThere, IsCallee}
-use Rattle.esm_body.specs.Inner.Stack.{levels_rest, AreLevels}
-use Rattle.esm_body.specs.Inner.Turn.{IsCode, code_rest}
+use Rattle.esm_body.specs.Inner.Stack.{levels_rest}
+use Rattle.esm_body.specs.Code.{AreLevels, IsCode}
+use Rattle.esm_body.specs.Inner.Turn.{code_rest}
 use Rattle.esm_body.specs.Inner.World.{HasScopes}
 use Rattle.esm_body.specs.declared.inside.Inside.{Inside}
 use Rattle.esm_body.specs.declared.work.Activation.{Activation}

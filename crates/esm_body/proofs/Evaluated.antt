@@ -21,9 +21,9 @@ use Rattle.esm_body.specs.BodyRewriting.{RewritesBody as rule}
 use Rattle.esm_body.specs.Segment.{RewritesOutermost}
 use Rattle.esm_body.specs.Fits.{Kind}
 use Rattle.esm_body.specs.Inner.Chains.{Comes, here, later, Turns, only, behind}
-use Rattle.esm_body.specs.Inner.Contexts.{Context, Block, Trying, scopes_in, surrounded, caught_in}
-use Rattle.esm_body.specs.Inner.Declared.{IsNameOf, SetsRest}
-use Rattle.esm_body.specs.Inner.Stack.{innermost, in_front_of}
+use Rattle.esm_body.specs.Contexts.{Context, Block, Trying, scopes_in, surrounded, caught_in}
+use Rattle.esm_body.specs.Sets.{IsNameOf, SetsRest}
+use Rattle.esm_body.specs.Code.{innermost, in_front_of}
 use Rattle.esm_body.specs.Inner.World.{state_in, inner_of, HasScopes, IsSame, ActsInside, url_inside}
 use Rattle.esm_body.specs.Inner.Turn.{code_contexts, IsReadyFor, Moved, Turned}
 use Rattle.esm_body.specs.declared.log.Stop.{Stop}
@@ -51,7 +51,7 @@ module _ {I S : Type 0} (seen : I → S) (modules : S → Modules ℕ) (linked :
   W = State ℕ S
 
   abbrev m : ℕ
-  m = w.now.at.0
+  m = w.code.now.at.0
 
   abbrev Ready : Inside I → Kind → Rest CodeValue → Type 0
   Ready y k r = IsReadyFor seen modules linked fits begins y k r
@@ -96,9 +96,9 @@ module _ {I S : Type 0} (seen : I → S) (modules : S → Modules ℕ) (linked :
   -- ---- the expression of a statement
 
   abbrev inner_rest : Rest CodeValue
-  inner_rest = innermost (arc_value w.now.tree).stmts w.now.levels.items
+  inner_rest = innermost (arc_value w.code.now.tree).stmts w.code.now.levels.items
 
-  module _ (urls : I → ℕ → List ℕ) (shows : (o : Outer ℕ S) (i : I) (n : ℕ) → fits (record o { imports = seen i }) → linked (seen i) n ≡ true → urls i n ≡ (modules (seen i)).url n) (k : Kind) (purpose : Use) (t : Term CodeValue) (r : Ready w k (in_front_of w.now (parts.Does purpose t))) where
+  module _ (urls : I → ℕ → List ℕ) (shows : (o : Outer ℕ S) (i : I) (n : ℕ) → fits (record o { imports = seen i }) → linked (seen i) n ≡ true → urls i n ≡ (modules (seen i)).url n) (k : Kind) (purpose : Use) (t : Term CodeValue) (r : Ready w k (in_front_of w.code.now (parts.Does purpose t))) where
     abbrev Evaluates : TermEnd CodeValue Stop → Inside I → Type 0
     Evaluates e y = Leads numbered (url_inside urls) (ActsInside seen modules linked fits begins) w t e y
 
@@ -108,16 +108,16 @@ module _ {I S : Type 0} (seen : I → S) (modules : S → Modules ℕ) (linked :
         (record { state = r.state; scopes = scopes_held seen modules linked fits begins w k (parts.Does purpose t) r; home = r.home })
         (part_held seen modules linked fits begins w k (parts.Does purpose t) r).1
 
-    scopes_there : (inner_of seen w).scopes ≡ scopes_in (code_contexts w.now)
-    scopes_there = sym (scopes_are (arc_value w.now.tree).stmts w.now.levels.items)
+    scopes_there : (inner_of seen w).scopes ≡ scopes_in (code_contexts w.code.now)
+    scopes_there = sym (scopes_are (arc_value w.code.now.tree).stmts w.code.now.levels.items)
 
     pub record Reached (e : TermEnd CodeValue Limit) (y : Inside I) : Type 0 where
-      pub leads : Reaches (code_contexts w.now) purpose inner_rest (state_in seen w) (in_front_of w.now (parts.Does purpose t)) e (state_in seen y)
+      pub leads : Reaches (code_contexts w.code.now) purpose inner_rest (state_in seen w) (in_front_of w.code.now (parts.Does purpose t)) e (state_in seen y)
       pub same : IsSame w y
       pub made : HasScopes seen modules linked fits begins y
 
     reached : (e : TermEnd CodeValue Limit) (y : Inside I) → Two seen modules linked fits begins some one w (inner_of seen w) t e (inner_of seen y) × (IsSame w y × HasScopes seen modules linked fits begins y) → Reached e y
-    reached e y h = record { leads = reaches (code_contexts w.now) purpose inner_rest h.0 scopes_there; same = h.1.0; made = h.1.1 }
+    reached e y h = record { leads = reaches (code_contexts w.code.now) purpose inner_rest h.0 scopes_there; same = h.1.0; made = h.1.1 }
 
     pub has_value : (y : Inside I) (v : CodeValue) → Evaluates (ends.Value v) y → Reached (ends.Value v) y
     has_value y v h = reached (ends.Value v) y (evaluated y (ends.Value v) h)
@@ -144,11 +144,11 @@ module _ {I S : Type 0} (seen : I → S) (modules : S → Modules ℕ) (linked :
       holds = late.holds;
       made = made;
       tree = subst (λ (n : Activation). (modules (seen y.imports.now)).tree n.at.0 ≡ (arc_value n.tree).items) (sym same.now) ((keeps_same seen modules linked fits begins w y ready.made same made).trees m ready.home ∙ ready.tree);
-      sets = subst (λ (n : Activation). SetsRest (IsNameOf (arc_value n.tree).items) s) (sym same.now) (comes_set nat_eq modules begins m (IsNameOf (arc_value w.now.tree).items) c ready.sets);
+      sets = subst (λ (n : Activation). SetsRest (IsNameOf (arc_value n.tree).items) s) (sym same.now) (comes_set nat_eq modules begins m (IsNameOf (arc_value w.code.now.tree).items) c ready.sets);
     }
 
     abbrev Later : Rest CodeValue → RewrittenBody CodeValue Limit → Inside I → Type 0
-    Later q move after = Turns nat_eq modules begins y.now.at.0 (state_in seen y) q move (state_in seen after)
+    Later q move after = Turns nat_eq modules begins y.code.now.at.0 (state_in seen y) q move (state_in seen after)
 
     turns_behind : (move : RewrittenBody CodeValue Limit) (after : Inside I) → Later s move after → Turn (state_in seen w) r move (state_in seen after)
     turns_behind move after t =

@@ -24,7 +24,7 @@ use Rattle.esm_body.specs.BodyRewriting.{RewritesBody as rule}
 use Rattle.esm_body.specs.Fits.{Kind}
 use Rattle.esm_body.specs.Inner.Chains.{only}
 use Rattle.esm_body.specs.Inner.Running.{doing_filled}
-use Rattle.esm_body.specs.Inner.Stack.{innermost, awaited_by, use_of}
+use Rattle.esm_body.specs.Code.{innermost, awaited_by, use_of}
 use Rattle.esm_body.specs.Inner.Turn.{IsCalling, IsReadyFor, Threw, Turned}
 use Rattle.esm_body.specs.Inner.World.{inner_of}
 use Rattle.esm_body.specs.declared.inside.Inside.{Inside}
@@ -41,15 +41,15 @@ module _ {I S : Type 0} (seen : I → S) (modules : S → Modules ℕ) (linked :
       ∙ (λ j. around (arc_value d.frame.tree).exprs d.frame.frames.items (fill (Fails v) (at_rest (arc_value d.frame.tree).exprs (c.waits j))))
 
   leaves : (w : Inside I) (n : ℕ) (d : Doing) (v : CodeValue) → IsCalling n d
-      → Rewrites numbered (own_url nat_eq modules begins w.now.at.0) (Performs nat_eq modules begins w.now.at.0) (inner_of seen w) (fill (Fails v) (rest_of d.frame)) (comes.Leaves v) (inner_of seen w)
+      → Rewrites numbered (own_url nat_eq modules begins w.code.now.at.0) (Performs nat_eq modules begins w.code.now.at.0) (inner_of seen w) (fill (Fails v) (rest_of d.frame)) (comes.Leaves v) (inner_of seen w)
   leaves w n d v c =
-      subst (λ t. Rewrites numbered (own_url nat_eq modules begins w.now.at.0) (Performs nat_eq modules begins w.now.at.0) (inner_of seen w) t (comes.Leaves v) (inner_of seen w)) (sym (filled n d v c))
-      (rewritten (own_url nat_eq modules begins w.now.at.0) (Performs nat_eq modules begins w.now.at.0) (arc_value d.frame.tree).exprs d.frame.frames.items step.fails)
+      subst (λ t. Rewrites numbered (own_url nat_eq modules begins w.code.now.at.0) (Performs nat_eq modules begins w.code.now.at.0) (inner_of seen w) t (comes.Leaves v) (inner_of seen w)) (sym (filled n d v c))
+      (rewritten (own_url nat_eq modules begins w.code.now.at.0) (Performs nat_eq modules begins w.code.now.at.0) (arc_value d.frame.tree).exprs d.frame.frames.items step.fails)
 
-  pub fails_turned : (w after : Inside I) (k : Kind) (n : ℕ) (d : Doing) (v : Value) (result : Result Outcome Stop) → IsCalling n d → IsReadyFor seen modules linked fits begins w k (doing_filled w.now d (Fails (value_of v))) → Threw w v result after
-      → Turned seen modules linked fits begins w (doing_filled w.now d (Fails (value_of v))) result after
+  pub fails_turned : (w after : Inside I) (k : Kind) (n : ℕ) (d : Doing) (v : Value) (result : Result Outcome Stop) → IsCalling n d → IsReadyFor seen modules linked fits begins w k (doing_filled w.code.now d (Fails (value_of v))) → Threw w v result after
+      → Turned seen modules linked fits begins w (doing_filled w.code.now d (Fails (value_of v))) result after
   fails_turned w after k n d v result c r t =
-      threw_turned seen modules linked fits begins w w after (doing_filled w.now d (Fails (value_of v))) v result refl refl (keeps_itself seen modules linked fits begins w r.made) t
+      threw_turned seen modules linked fits begins w w after (doing_filled w.code.now d (Fails (value_of v))) v result refl refl (keeps_itself seen modules linked fits begins w r.made) t
       (only (front_throws seen modules linked fits begins w
-      (more (parts.Does (awaited_by (arc_value w.now.tree).stmts d.awaits (use_of (arc_value w.now.tree).stmts d.purpose)) (fill (Fails (value_of v)) (rest_of d.frame))) (innermost (arc_value w.now.tree).stmts w.now.levels.items))
+      (more (parts.Does (awaited_by (arc_value w.code.now.tree).stmts d.awaits (use_of (arc_value w.code.now.tree).stmts d.purpose)) (fill (Fails (value_of v)) (rest_of d.frame))) (innermost (arc_value w.code.now.tree).stmts w.code.now.levels.items))
       (value_of v) (inner_of seen w) refl (rule.does (leaves w n d (value_of v) c))))

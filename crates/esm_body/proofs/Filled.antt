@@ -19,9 +19,8 @@ use Rattle.esm_expr_eval.proofs.Ends.{fill_around}
 use Rattle.esm_body.specs.Scopes.{Scope}
 use Rattle.esm_body.specs.Rest.{Part, Rest, end, more, fill_part, fill_rest}
 use Rattle.esm_body.specs.Rest.{Part as parts}
-use Rattle.esm_body.specs.Inner.Contexts.{Context, Block, Trying, placed, surrounded}
-use Rattle.esm_body.specs.Inner.Stack.{in_front, in_front_of, part_of, awaited_by, use_of, contexts_of, context_by, innermost, scope_of_level, AreWork, AreLevels, IsWork}
-use Rattle.esm_body.specs.Inner.Turn.{IsCode}
+use Rattle.esm_body.specs.Contexts.{Context, Block, Trying, placed, surrounded}
+use Rattle.esm_body.specs.Code.{in_front, in_front_of, part_of, awaited_by, use_of, contexts_of, context_by, innermost, scope_of_level, AreWork, AreLevels, IsWork, IsCode}
 use Rattle.esm_body.specs.declared.work.Activation.{Activation}
 use Rattle.esm_body.specs.declared.work.Kind.{Kind}
 use Rattle.esm_body.specs.declared.work.Kind.TheVariants as k

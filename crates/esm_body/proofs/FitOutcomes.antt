@@ -1,5 +1,5 @@
 -- In a state that fits, whatever a segment or a call for a body comes to fits: it has an outcome that does, and has only one.
-use Rattle.std.proofs.Common.{◌≡◌, ℕ, Bool, true, false, List, [], Some, refl, subst, sym}
+use Rattle.std.proofs.Common.{◌≡◌, ℕ, Bool, true, false, List, subst, sym}
 use Rattle.std.specs.Prelude.{Result}
 use Rattle.esm_base.specs.declared.limits.Limit.{Limit}
 use Rattle.esm_values.specs.Value.{Value}

@@ -17,11 +17,12 @@ use Rattle.esm_body.specs.Rest.{Rest}
 use Rattle.esm_body.specs.State.{State, Importing, new_error}
 use Rattle.esm_body.specs.Segment.{Active, Next, Goes, call_by, called, called_by, return_to, throw_to, wait_by, too_deep}
 use Rattle.esm_body.specs.Inner.Chains.{IsFitNext}
-use Rattle.esm_body.specs.Inner.Declared.{IsNameOf, SetsRest}
+use Rattle.esm_body.specs.Sets.{IsNameOf, SetsRest}
 use Rattle.esm_body.specs.Inner.Running.{callers_of, waiting, doing_filled, AreCallers, IsEnded, EndBelongs, done_by, ending, EndsHere, Followed, GivesBack, ThrowsBack, CallsIn, IsTooDeep, IsThere, IsCallee, FollowsFit, with_fault}
-use Rattle.esm_body.specs.Inner.Stack.{caller_of, doing_part, in_front_of, standing_rest, IsUse}
-use Rattle.esm_body.specs.Inner.Turn.{IsCode, IsCalling, code_rest}
-use Rattle.esm_body.specs.Inner.World.{state_in}
+use Rattle.esm_body.specs.Inner.Stack.{caller_of, doing_part}
+use Rattle.esm_body.specs.Code.{in_front_of, standing_rest, IsUse, IsCode}
+use Rattle.esm_body.specs.Inner.Turn.{IsCalling, code_rest}
+use Rattle.esm_body.specs.Inner.World.{state_in, with_code}
 use Rattle.esm_body.specs.declared.inside.Inside.{Inside}
 use Rattle.esm_body.specs.declared.log.Stop.{Stop}
 use Rattle.esm_body.specs.declared.log.Stop.TheVariants as stops
@@ -73,7 +74,7 @@ module _ {I S : Type 0} (seen : I → S) (modules : S → Modules ℕ) (linked :
 
   -- ---- what runs goes on
 
-  pub on_followed : (w : Inside I) (awaits : Bool) (cs : List Caller) → IsCode w.now → AreCallers cs → Fit w awaits cs o.On → Follows w cs o.On (Ok (n.Goes p.Turn)) w cs
+  pub on_followed : (w : Inside I) (awaits : Bool) (cs : List Caller) → IsCode w.code.now → AreCallers cs → Fit w awaits cs o.On → Follows w cs o.On (Ok (n.Goes p.Turn)) w cs
   on_followed w awaits cs code callers fit = (
     refl,
     record {
@@ -97,13 +98,13 @@ module _ {I S : Type 0} (seen : I → S) (modules : S → Modules ℕ) (linked :
   no_return : (w : State ℕ S) (awaits : Bool) (v : CodeValue) (cs : List Caller) → cs ≡ [] → IsFitNext modules linked fits awaits (return_to nat_eq modules begins (Val v) (callers_of cs) w) → ⊥
   no_return w awaits v cs none h = subst (λ xs. IsFitNext modules linked fits awaits (return_to nat_eq modules begins (Val v) (callers_of xs) w)) none h
 
-  ends_here : (w after : Inside I) (cs : List Caller) (how end : Ended) → how ≡ end → after ≡ w → cs ≡ [] → IsEnded (length (arc_value w.now.tree).stmts) end → EndBelongs modules (seen w.imports.now) end w.now
+  ends_here : (w after : Inside I) (cs : List Caller) (how end : Ended) → how ≡ end → after ≡ w → cs ≡ [] → IsEnded (length (arc_value w.code.now.tree).stmts) end → EndBelongs modules (seen w.imports.now) end w.code.now
       → EndsHere seen modules linked fits begins w cs how after
   ends_here w after cs how end h same none ended belongs = record {
     same = same;
-    ended = subst (λ (x : Inside I). IsEnded (length (arc_value x.now.tree).stmts) how) (sym same) (subst (IsEnded (length (arc_value w.now.tree).stmts)) (sym h) ended);
+    ended = subst (λ (x : Inside I). IsEnded (length (arc_value x.code.now.tree).stmts) how) (sym same) (subst (IsEnded (length (arc_value w.code.now.tree).stmts)) (sym h) ended);
     last = none;
-    belongs = subst (λ (x : Inside I). EndBelongs modules (seen x.imports.now) how x.now) (sym same) (subst (λ end. EndBelongs modules (seen w.imports.now) end w.now) (sym h) belongs);
+    belongs = subst (λ (x : Inside I). EndBelongs modules (seen x.imports.now) how x.code.now) (sym same) (subst (λ end. EndBelongs modules (seen w.imports.now) end w.code.now) (sym h) belongs);
   }
 
   ending_is : (w after : Inside I) (how end : Ended) → how ≡ end → after ≡ w → Some (ending seen modules linked fits begins end w) ≡ Some (ending seen modules linked fits begins how after)
@@ -135,37 +136,37 @@ module _ {I S : Type 0} (seen : I → S) (modules : S → Modules ℕ) (linked :
   no_callers w awaits v s [] h = refl
   no_callers w awaits v s (c ∷ cs) h = absurd (no_wait w awaits v s (callers_of cs) (caller_of c) h)
 
-  pub waits_followed : (w : Inside I) (awaits : Bool) (cs : List Caller) (u : Value) (purpose : Use) → IsUse (length (arc_value w.now.tree).stmts) purpose → Fit w awaits cs (o.Waits u purpose)
+  pub waits_followed : (w : Inside I) (awaits : Bool) (cs : List Caller) (u : Value) (purpose : Use) → IsUse (length (arc_value w.code.now.tree).stmts) purpose → Fit w awaits cs (o.Waits u purpose)
       → Follows w cs (o.Waits u purpose) (Ok (n.Over (e.Awaits u purpose))) w cs
   waits_followed w awaits cs u purpose named fit =
-      let none = no_callers (At w) awaits (value_of u) (standing_rest w.now purpose) cs fit.next in (
-        (λ j. wait_by nat_eq modules begins (value_of u) (standing_rest w.now purpose) (callers_of (none j)) (At w)),
+      let none = no_callers (At w) awaits (value_of u) (standing_rest w.code.now purpose) cs fit.next in (
+        (λ j. wait_by nat_eq modules begins (value_of u) (standing_rest w.code.now purpose) (callers_of (none j)) (At w)),
         ends_here w w cs (e.Awaits u purpose) (e.Awaits u purpose) refl refl none named (record { tree = fit.tree; sets = fit.sets }),
       )
 
   -- ---- calls
 
   abbrev part : Inside I → Doing → Rest CodeValue
-  part w d = in_front_of w.now (doing_part (arc_value w.now.tree).stmts d)
+  part w d = in_front_of w.code.now (doing_part (arc_value w.code.now.tree).stmts d)
 
   abbrev Called : Inside I → FuncId → Vec Value Global → Option (Active ℕ)
   Called w f vs = called (modules (seen w.imports.now)) (func_value f) (values_of vs.items)
 
-  deep_goes : (w : Inside I) (awaits : Bool) (cs : List Caller) (f : FuncId) (vs : Vec Value Global) (d : Doing) (u : Value) → IsCode w.now → IsCalling (length (arc_value w.now.tree).stmts) d → AreCallers cs → MAX_CALL_DEPTH ≤ length cs
+  deep_goes : (w : Inside I) (awaits : Bool) (cs : List Caller) (f : FuncId) (vs : Vec Value Global) (d : Doing) (u : Value) → IsCode w.code.now → IsCalling (length (arc_value w.code.now.tree).stmts) d → AreCallers cs → MAX_CALL_DEPTH ≤ length cs
       → Fit w awaits cs (o.Calls f vs d) → value_of u ≡ new_error (At w) → Follows w cs (o.Calls f vs d) (Ok (n.Goes (p.Throws d u))) (with_fault w) cs
   deep_goes w awaits cs f vs d u code calling callers deep fit made =
-      let filled = fill_code (Fails (new_error (At w))) w.now (doing_part (arc_value w.now.tree).stmts d) code in (
-        (λ j. call_by nat_eq modules begins (no_depth cs deep j) w.now.at.0 (part w d) (callers_of cs) (At w) (Called w f vs))
-            ∙ (λ j. Some (Goes w.now.at.0 (filled j) (callers_of cs) (too_deep nat_eq modules begins (At w))))
-            ∙ (λ j. Some (Goes w.now.at.0 (doing_filled w.now d (Fails (sym made j))) (callers_of cs) (At (with_fault w)))),
+      let filled = fill_code (Fails (new_error (At w))) w.code.now (doing_part (arc_value w.code.now.tree).stmts d) code in (
+        (λ j. call_by nat_eq modules begins (no_depth cs deep j) w.code.now.at.0 (part w d) (callers_of cs) (At w) (Called w f vs))
+            ∙ (λ j. Some (Goes w.code.now.at.0 (filled j) (callers_of cs) (too_deep nat_eq modules begins (At w))))
+            ∙ (λ j. Some (Goes w.code.now.at.0 (doing_filled w.code.now d (Fails (sym made j))) (callers_of cs) (At (with_fault w)))),
         record {
           code = code;
           place = calling;
           callers = callers;
-          keeps = record { made = fit.made; trees = λ m l. refl; loans = record { alloc = refl; engine = refl; standing = refl; errors = refl; envs = refl; promises = refl; imports = refl } };
+          keeps = record { made = fit.made; trees = λ m l. refl; scopes = λ m. refl; loans = record { alloc = refl; code = refl; engine = refl; standing = refl; errors = refl; envs = refl; promises = refl; imports = refl } };
           belongs = record {
             tree = fit.tree;
-            sets = subst (SetsRest (IsNameOf (arc_value w.now.tree).items)) (filled ∙ (λ j. doing_filled w.now d (Fails (sym made j)))) (filled_sets (IsNameOf (arc_value w.now.tree).items) (Fails (new_error (At w))) (part w d) fit.sets);
+            sets = subst (SetsRest (IsNameOf (arc_value w.code.now.tree).items)) (filled ∙ (λ j. doing_filled w.code.now d (Fails (sym made j)))) (filled_sets (IsNameOf (arc_value w.code.now.tree).items) (Fails (new_error (At w))) (part w d) fit.sets);
           };
           before = fit.before;
           imports = refl;
@@ -174,7 +175,7 @@ module _ {I S : Type 0} (seen : I → S) (modules : S → Modules ℕ) (linked :
       )
 
   -- a call throws where as many functions are active as may be
-  pub deep_followed : (w after : Inside I) (awaits : Bool) (cs : List Caller) (f : FuncId) (vs : Vec Value Global) (d : Doing) (r : Result CodeNext Stop) → IsCode w.now → IsCalling (length (arc_value w.now.tree).stmts) d → AreCallers cs → MAX_CALL_DEPTH ≤ length cs
+  pub deep_followed : (w after : Inside I) (awaits : Bool) (cs : List Caller) (f : FuncId) (vs : Vec Value Global) (d : Doing) (r : Result CodeNext Stop) → IsCode w.code.now → IsCalling (length (arc_value w.code.now.tree).stmts) d → AreCallers cs → MAX_CALL_DEPTH ≤ length cs
       → Fit w awaits cs (o.Calls f vs d) → IsTooDeep seen modules linked fits begins w d r after → Follows w cs (o.Calls f vs d) r after cs
   deep_followed w after awaits cs f vs d (Ok next) code calling callers deep fit (u, told, made, same) =
       subst (λ (x : Inside I). Follows w cs (o.Calls f vs d) (Ok next) x cs) (sym same)
@@ -182,29 +183,29 @@ module _ {I S : Type 0} (seen : I → S) (modules : S → Modules ℕ) (linked :
   deep_followed w after awaits cs f vs d (Err (stops.Limit limit)) code calling callers deep fit h = absurd h
   deep_followed w after awaits cs f vs d (Err stops.Memory) code calling callers deep fit h = tt
 
-  in_goes : (w : Inside I) (a : Activation) (awaits : Bool) (cs : List Caller) (f : FuncId) (vs : Vec Value Global) (d : Doing) → IsCode w.now → IsCalling (length (arc_value w.now.tree).stmts) d → AreCallers cs → length cs < MAX_CALL_DEPTH
-      → Fit w awaits cs (o.Calls f vs d) → IsCallee seen modules linked fits begins w f vs.items a → Follows w cs (o.Calls f vs d) (Ok (n.Goes p.Turn)) (record w { now = a }) (cs ++ waiting w.now d ∷ [])
+  in_goes : (w : Inside I) (a : Activation) (awaits : Bool) (cs : List Caller) (f : FuncId) (vs : Vec Value Global) (d : Doing) → IsCode w.code.now → IsCalling (length (arc_value w.code.now.tree).stmts) d → AreCallers cs → length cs < MAX_CALL_DEPTH
+      → Fit w awaits cs (o.Calls f vs d) → IsCallee seen modules linked fits begins w f vs.items a → Follows w cs (o.Calls f vs d) (Ok (n.Goes p.Turn)) (with_code w a) (cs ++ waiting w.code.now d ∷ [])
   in_goes w a awaits cs f vs d code calling callers few fit callee = (
-    (λ j. call_by nat_eq modules begins (depth cs few j) w.now.at.0 (part w d) (callers_of cs) (At w) (callee.told j)) ∙ (λ j. Some (Goes a.at.0 (code_rest a) (sym (callers_more cs (waiting w.now d)) j) (At w))),
+    (λ j. call_by nat_eq modules begins (depth cs few j) w.code.now.at.0 (part w d) (callers_of cs) (At w) (callee.told j)) ∙ (λ j. Some (Goes a.at.0 (code_rest a) (sym (callers_more cs (waiting w.code.now d)) j) (At w))),
     record {
       code = callee.code;
       place = tt;
-      callers = callers_push cs (waiting w.now d) callers (record { code = code; calling = calling });
+      callers = callers_push cs (waiting w.code.now d) callers (record { code = code; calling = calling });
       keeps = keeps_now seen modules linked fits begins w w a (keeps_itself seen modules linked fits begins w fit.made);
       belongs = callee.belongs;
-      before = belong_push modules (seen w.imports.now) cs (waiting w.now d) fit.before (record { tree = fit.tree; sets = fit.sets });
+      before = belong_push modules (seen w.imports.now) cs (waiting w.code.now d) fit.before (record { tree = fit.tree; sets = fit.sets });
       imports = refl;
-      body = body_pushed a w.now cs d;
+      body = body_pushed a w.code.now cs d;
     },
   )
 
   -- a function is entered, and its caller waits
-  pub in_followed : (w after : Inside I) (a : Activation) (awaits : Bool) (cs late : List Caller) (f : FuncId) (vs : Vec Value Global) (d : Doing) (r : Result CodeNext Stop) → IsCode w.now → IsCalling (length (arc_value w.now.tree).stmts) d → AreCallers cs → length cs < MAX_CALL_DEPTH
+  pub in_followed : (w after : Inside I) (a : Activation) (awaits : Bool) (cs late : List Caller) (f : FuncId) (vs : Vec Value Global) (d : Doing) (r : Result CodeNext Stop) → IsCode w.code.now → IsCalling (length (arc_value w.code.now.tree).stmts) d → AreCallers cs → length cs < MAX_CALL_DEPTH
       → Fit w awaits cs (o.Calls f vs d) → IsCallee seen modules linked fits begins w f vs.items a → CallsIn w cs a d r after late → Follows w cs (o.Calls f vs d) r after late
   in_followed w after a awaits cs late f vs d (Ok next) code calling callers few fit callee (told, same, more) =
       subst (λ late. Follows w cs (o.Calls f vs d) (Ok next) after late) (sym more)
-      (subst (λ (x : Inside I). Follows w cs (o.Calls f vs d) (Ok next) x (cs ++ waiting w.now d ∷ [])) (sym same)
-      (subst (λ next. Follows w cs (o.Calls f vs d) (Ok next) (record w { now = a }) (cs ++ waiting w.now d ∷ [])) (sym told) (in_goes w a awaits cs f vs d code calling callers few fit callee)))
+      (subst (λ (x : Inside I). Follows w cs (o.Calls f vs d) (Ok next) x (cs ++ waiting w.code.now d ∷ [])) (sym same)
+      (subst (λ next. Follows w cs (o.Calls f vs d) (Ok next) (with_code w a) (cs ++ waiting w.code.now d ∷ [])) (sym told) (in_goes w a awaits cs f vs d code calling callers few fit callee)))
   in_followed w after a awaits cs late f vs d (Err (stops.Limit limit)) code calling callers few fit callee h = absurd h
   in_followed w after a awaits cs late f vs d (Err stops.Memory) code calling callers few fit callee h = tt
 
@@ -216,5 +217,5 @@ module _ {I S : Type 0} (seen : I → S) (modules : S → Modules ℕ) (linked :
   -- the function that is called is there
   pub is_there : (w : Inside I) (awaits : Bool) (cs : List Caller) (f : FuncId) (vs : Vec Value Global) (d : Doing) → length cs < MAX_CALL_DEPTH → Fit w awaits cs (o.Calls f vs d) → IsThere seen modules linked fits begins w f
   is_there w awaits cs f vs d few fit =
-      there_by (At w) awaits w.now.at.0 f.module.0 f.index (values_of vs.items) (part w d) (callers_of cs) (function_of (modules (seen w.imports.now)) f.module.0 f.index)
-      (subst (λ b. IsFitNext modules linked fits awaits (call_by nat_eq modules begins b w.now.at.0 (part w d) (callers_of cs) (At w) (Called w f vs))) (depth cs few) fit.next)
+      there_by (At w) awaits w.code.now.at.0 f.module.0 f.index (values_of vs.items) (part w d) (callers_of cs) (function_of (modules (seen w.imports.now)) f.module.0 f.index)
+      (subst (λ b. IsFitNext modules linked fits awaits (call_by nat_eq modules begins b w.code.now.at.0 (part w d) (callers_of cs) (At w) (Called w f vs))) (depth cs few) fit.next)

@@ -16,9 +16,9 @@ use Rattle.esm_expr_eval.specs.Terms.Term.{Val, Waits, Fails, Name, Or, And, Equ
 use Rattle.esm_expr_eval.specs.Terms as t
 use Rattle.esm_expr_eval.specs.Ready.{Holds, HoldAll, HoldCompared, HoldLinks}
 use Rattle.esm_expr_eval.proofs.HasRewriting as expr
-use Rattle.esm_expr_eval.proofs.HasRewriting.{size, size_all, size_compared, size_links}
+use Rattle.esm_expr_eval.specs.Sizes.{size, size_all, size_compared, size_links}
 use Rattle.esm_body.specs.Scopes.{Scope, unset, scope_of}
-use Rattle.esm_body.specs.Rest.{Use, Part, Rest, end, more, whole, does_init, does_bindings, block, begin, branch, fill_part, fill_rest}
+use Rattle.esm_body.specs.Rest.{Use, Part, Rest, count, end, more, whole, does_init, does_bindings, block, begin, branch, fill_part, fill_rest}
 use Rattle.esm_body.specs.Rest.Use.{Drops, Sets, Writes, Throws, Returns, Prints, Chooses, Awaits}
 use Rattle.esm_body.specs.Rest.Part.{Whole, Does, Stands, In, Tries}
 use Rattle.esm_body.specs.Fits.{Kind, FitsStmt, FitsStmts, FitsUse, HoldsValue, HoldsScope, HoldScopes, HoldsPart, HoldsRest}
@@ -111,10 +111,6 @@ module _ {V : Type 0} (P : V → Type 0) (given : Term V) (g : Holds P ⊥ given
       filled_rest (more p rest) h = (filled_part p h.0, filled_rest rest h.1)
 
 -- ---- sizes
-
-abbrev pub count : Stmts → ℕ
-count nothing = 0
-count (first s ss) = suc (count ss)
 
 abbrev pub size_use : Use → ℕ
 size_use Drops = 0

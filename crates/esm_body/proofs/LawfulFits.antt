@@ -1,5 +1,5 @@
 -- Over modules that are as bodies rely on, import() has one outcome, which keeps what fits: so do bodies.
-use Rattle.std.proofs.Common.{◌≡◌, ℕ, Bool, true, false, List, [], refl}
+use Rattle.std.proofs.Common.{◌≡◌, ℕ, Bool, true, false}
 use Rattle.std.specs.Prelude.{Result, nat_eq}
 use Rattle.esm_base.specs.declared.limits.Limit.{Limit}
 use Rattle.esm_resolve.specs.SharedSet.{SharedSetAgrees, SharedSetEnds}

@@ -19,7 +19,8 @@ use Rattle.esm_expr_eval.specs.Rewriting.{Rewrites, RewritesIn}
 use Rattle.esm_expr_eval.specs.Rewriting.Rewrites.{fails, name, or_in, or, and_in, and, equal_in, equal_right, equal, equal_end, sum_in, sum_right, joins, sum_end, not_in, not_of, post_in, member_of, arguments, call_of, post_end, print_in, print, error_in, error, import_in, begins as rule_begins, own_url as rule_url}
 use Rattle.esm_expr_eval.specs.Rewriting.RewritesIn.{first as rule_first, later as rule_later}
 use Rattle.esm_expr_eval.proofs.Lands.{Views, Later, Lives, HasAnswer, answers, stopped as told_stop}
-use Rattle.esm_expr_eval.proofs.HasRewriting.{comes, come, Here, Arrives, size}
+use Rattle.esm_expr_eval.proofs.HasRewriting.{comes, come, Here, Arrives}
+use Rattle.esm_expr_eval.specs.Sizes.{size}
 use Rattle.esm_expr_eval.proofs.Unique.{no_step}
 use Rattle.esm_expr_eval.proofs.Lands as lands
 use Rattle.esm_promise.specs.Outer.{Outer}
@@ -27,7 +28,7 @@ use Rattle.esm_env.specs.Modules.{Modules}
 use Rattle.esm_body.specs.State.{Importing}
 use Rattle.esm_body.specs.Acts.{Inner, Performs}
 use Rattle.esm_body.specs.BodyRewriting.{own_url}
-use Rattle.esm_body.specs.Inner.World.{inner_of, IsSame, AllKnown, KnowsAct, HasScopes, IsReady, Answers, ActsInside, url_inside}
+use Rattle.esm_body.specs.Inner.World.{inner_of, IsSame, AllKnown, KnowsAct, HasScopes, CodeIsWhole, Answers, ActsInside, url_inside}
 use Rattle.esm_body.specs.declared.log.Stop.{Stop}
 use Rattle.esm_body.specs.declared.log.Stop.TheVariants as stops
 use Rattle.esm_body.specs.declared.inside.Inside.{Inside}
@@ -100,6 +101,7 @@ knows_act K (act.Import v) h = h
 pub same_both : {I : Type 0} {w x y : Inside I} → IsSame w x → IsSame x y → IsSame w y
 same_both a b = record {
   now = b.now ∙ a.now;
+  code = b.code ∙ a.code;
   alloc = b.alloc ∙ a.alloc;
   engine = b.engine ∙ a.engine;
   standing = b.standing ∙ a.standing;
@@ -110,30 +112,30 @@ same_both a b = record {
 }
 
 pub same_itself : {I : Type 0} (w : Inside I) → IsSame w w
-same_itself w = record { now = refl; alloc = refl; engine = refl; standing = refl; errors = refl; envs = refl; promises = refl; imports = refl }
+same_itself w = record { now = refl; code = refl; alloc = refl; engine = refl; standing = refl; errors = refl; envs = refl; promises = refl; imports = refl }
 
 module _ {I S : Type 0} (seen : I → S) (modules : S → Modules ℕ) (linked : S → ℕ → Bool) (fits : Outer ℕ S → Type 0) (begins : Importing ℕ S) (some : BeginsSome modules linked fits begins) (one : BeginsOne begins) (first : Inside I) where
   abbrev Fit : Inner ℕ S → Type 0
-  Fit w = FitsInner nat_eq modules linked fits begins some first.now.at.0 w
+  Fit w = FitsInner nat_eq modules linked fits begins some first.code.now.at.0 w
 
   abbrev K : Inner ℕ S → V → Type 0
   K w v = Known nat_eq modules linked fits begins some w.state v
 
   abbrev Does : Acting (Inner ℕ S) V Limit
-  Does = Performs nat_eq modules begins first.now.at.0
+  Does = Performs nat_eq modules begins first.code.now.at.0
 
   abbrev Guarded : Acting (Inner ℕ S) V Limit
   Guarded w a r after = (Fit w × lands.KnowsAct (K w) a) × Does w a r after
 
   abbrev sight : Views (Inner ℕ S) V
-  sight = view nat_eq modules linked fits begins some first.now.at.0
+  sight = view nat_eq modules linked fits begins some first.code.now.at.0
 
   guard : (w : Inner ℕ S) (a : Act V) → Fit w → lands.KnowsAct (K w) a → HasAnswer sight Does w a → HasAnswer sight Guarded w a
   guard w a f k (answers r mid h l q) = answers r mid ((f, k), h) l q
   guard w a f k (told_stop why after h q) = told_stop why after ((f, k), h) q
 
   guarded : Lives sight Guarded numbered
-  guarded = let l = lives nat_eq modules linked fits begins some first.now.at.0 in record {
+  guarded = let l = lives nat_eq modules linked fits begins some first.code.now.at.0 in record {
     answered = λ w a f k. guard w a f k (l.answered w a f k);
     undefined = l.undefined;
     truth = l.truth;
@@ -149,7 +151,7 @@ module _ {I S : Type 0} (seen : I → S) (modules : S → Modules ℕ) (linked :
     pub made : HasScopes seen modules linked fits begins x
     pub state : inner_of seen x ≡ u
 
-  ready : (x : Inside I) → IsSame first x → HasScopes seen modules linked fits begins x → Fit (inner_of seen x) → IsReady seen modules linked fits begins x
+  ready : (x : Inside I) → IsSame first x → HasScopes seen modules linked fits begins x → Fit (inner_of seen x) → CodeIsWhole seen modules linked fits begins x
   ready x s h f = record { state = f.state; scopes = f.scopes; home = subst (λ (n : Activation). linked (seen x.imports.now) n.at.0 ≡ true) (sym s.now) f.home; made = h }
 
   performed : (x y : Inside I) (u v : Inner ℕ S) (a : Act V) (r s : Result (AnswerTo a) Limit) → Stands x u → Answers seen modules linked fits begins x a r y → Guarded u a s v → (s ≡ r) × Stands y v
@@ -157,7 +159,7 @@ module _ {I S : Type 0} (seen : I → S) (modules : S → Modules ℕ) (linked :
       let g' : Guarded (inner_of seen x) a s v = subst (λ u. Guarded u a s v) (sym t.state) g in
       let k = h.1 (ready x t.same t.made g'.0.0) (knows_act _ a g'.0.1) in
       let p : Does (inner_of seen x) a r (inner_of seen y) = subst (λ (n : Activation). Performs nat_eq modules begins n.at.0 (inner_of seen x) a r (inner_of seen y)) t.same.now k.0 in
-      let o = (acts_one nat_eq modules begins one first.now.at.0).one {w = inner_of seen x} {x = inner_of seen y} {y = v} {a = a} {r = r} {s = s} p g'.1 in
+      let o = (acts_one nat_eq modules begins one first.code.now.at.0).one {w = inner_of seen x} {x = inner_of seen y} {y = v} {a = a} {r = r} {s = s} p g'.1 in
       (o.0, record { same = same_both t.same h.0; made = k.1; state = sym o.1 })
 
   acts_alike : AlikeActs Stands (ActsInside seen modules linked fits begins) Guarded
@@ -169,7 +171,7 @@ module _ {I S : Type 0} (seen : I → S) (modules : S → Modules ℕ) (linked :
   -- ---- where an evaluation leads
 
   abbrev pub Rewrites' : Inner ℕ S → Term V → Rewritten V Limit (Term V) → Inner ℕ S → Type 0
-  Rewrites' = Rewrites numbered (own_url nat_eq modules begins first.now.at.0) Does
+  Rewrites' = Rewrites numbered (own_url nat_eq modules begins first.code.now.at.0) Does
 
   -- rewritings up to an end, none of which changes the scopes
   pub data Two : Inner ℕ S → Term V → TermEnd V Limit → Inner ℕ S → Type 0 where
@@ -180,10 +182,10 @@ module _ {I S : Type 0} (seen : I → S) (modules : S → Modules ℕ) (linked :
     stopped : {w after : Inner ℕ S} {t : Term V} {why : Limit} → Rewrites' w t (Stops why) after → after.scopes ≡ w.scopes → Two w t (end.Stopped why) after
 
   abbrev Rewrites'' : Inner ℕ S → Term V → Rewritten V Limit (Term V) → Inner ℕ S → Type 0
-  Rewrites'' = Rewrites numbered (own_url nat_eq modules begins first.now.at.0) Guarded
+  Rewrites'' = Rewrites numbered (own_url nat_eq modules begins first.code.now.at.0) Guarded
 
-  weak : (w : Inner ℕ S) (t : Term V) (c : Rewritten V Limit (Term V)) (after : Inner ℕ S) → Rewrites'' w t c after → Rewrites numbered (own_url nat_eq modules begins first.now.at.0) Does w t c after
-  weak w t c after r = weaker numbered (own_url nat_eq modules begins first.now.at.0) Guarded Does (λ w a r after h. h.1) r
+  weak : (w : Inner ℕ S) (t : Term V) (c : Rewritten V Limit (Term V)) (after : Inner ℕ S) → Rewrites'' w t c after → Rewrites numbered (own_url nat_eq modules begins first.code.now.at.0) Does w t c after
+  weak w t c after r = weaker numbered (own_url nat_eq modules begins first.code.now.at.0) Guarded Does (λ w a r after h. h.1) r
 
   -- the same end, where memory didn't run out
   abbrev pub Ends : TermEnd V Stop → (TermEnd V Limit → Type 0) → Type 0
@@ -204,7 +206,7 @@ module _ {I S : Type 0} (seen : I → S) (modules : S → Modules ℕ) (linked :
   before u mid t rest x r k (end.Stopped stops.Memory) h = tt
 
   abbrev Found : Inner ℕ S → Term V → Type 0
-  Found u t = Here sight numbered (own_url nat_eq modules begins first.now.at.0) Guarded guarded u t
+  Found u t = Here sight numbered (own_url nat_eq modules begins first.code.now.at.0) Guarded guarded u t
 
   abbrev Agree : Rewritten V Stop (Term V) → Inside I → Rewritten V Limit (Term V) → Inner ℕ S → Type 0
   Agree = Agrees Stands
@@ -213,21 +215,21 @@ module _ {I S : Type 0} (seen : I → S) (modules : S → Modules ℕ) (linked :
   values_alike {x} {u} v s = (subst (λ z. Two u (Val v) (end.Value v) z) (sym s.state) value, (s.same, s.made))
 
   goes_by : (mid y : Inside I) (u : Inner ℕ S) (t rest : Term V) (e : TermEnd V Stop) → ((u : Inner ℕ S) → Stands mid u → Fit u → Holds (K u) ⊥ rest → Led u rest e y) → (d : Rewritten V Limit (Term V)) (v : Inner ℕ S) → Rewrites'' u t d v
-      → Arrives sight numbered (own_url nat_eq modules begins first.now.at.0) Guarded guarded u (size t) d v → Agree (Goes rest) mid d v → Led u t e y
+      → Arrives sight numbered (own_url nat_eq modules begins first.code.now.at.0) Guarded guarded u (size t) d v → Agree (Goes rest) mid d v → Led u t e y
   goes_by mid y u t rest e again (Goes b) v r l a =
       before u v t rest y (subst (λ b. Rewrites'' u t (Goes b) v) a.0 r) l.1.0.took.scopes e (again v a.1 l.1.0.fits (subst (λ b. Holds (K v) ⊥ b) a.0 l.1.1.0))
   goes_by mid y u t rest e again (Leaves w) v r l a = absurd a
   goes_by mid y u t rest e again (Calls g us b) v r l a = absurd a
   goes_by mid y u t rest e again (Stops why) v r l a = absurd a
 
-  throws_by : (y : Inside I) (u : Inner ℕ S) (t : Term V) (w : V) (d : Rewritten V Limit (Term V)) (v : Inner ℕ S) → Rewrites'' u t d v → Arrives sight numbered (own_url nat_eq modules begins first.now.at.0) Guarded guarded u (size t) d v → Agree (Leaves w) y d v → Led u t (end.Thrown w) y
+  throws_by : (y : Inside I) (u : Inner ℕ S) (t : Term V) (w : V) (d : Rewritten V Limit (Term V)) (v : Inner ℕ S) → Rewrites'' u t d v → Arrives sight numbered (own_url nat_eq modules begins first.code.now.at.0) Guarded guarded u (size t) d v → Agree (Leaves w) y d v → Led u t (end.Thrown w) y
   throws_by y u t w (Goes b) v r h a = absurd a
   throws_by y u t w (Leaves x) v r h a =
       (subst (λ z. Two u t (end.Thrown w) z) (sym a.1.state) (throws (weak _ _ _ _ (subst (λ x. Rewrites'' u t (Leaves x) v) a.0 r)) h.1.0.took.scopes), (a.1.same, a.1.made))
   throws_by y u t w (Calls g us b) v r h a = absurd a
   throws_by y u t w (Stops why) v r h a = absurd a
 
-  calls_by : (y : Inside I) (u : Inner ℕ S) (t : Term V) (f : V) (vs : List V) (rest : Term V) (d : Rewritten V Limit (Term V)) (v : Inner ℕ S) → Rewrites'' u t d v → Arrives sight numbered (own_url nat_eq modules begins first.now.at.0) Guarded guarded u (size t) d v → Agree (Calls f vs rest) y d v → Led u t (end.Call f vs rest) y
+  calls_by : (y : Inside I) (u : Inner ℕ S) (t : Term V) (f : V) (vs : List V) (rest : Term V) (d : Rewritten V Limit (Term V)) (v : Inner ℕ S) → Rewrites'' u t d v → Arrives sight numbered (own_url nat_eq modules begins first.code.now.at.0) Guarded guarded u (size t) d v → Agree (Calls f vs rest) y d v → Led u t (end.Call f vs rest) y
   calls_by y u t f vs rest (Goes b) v r h a = absurd a
   calls_by y u t f vs rest (Leaves x) v r h a = absurd a
   calls_by y u t f vs rest (Calls g us b) v r h a =
@@ -235,7 +237,7 @@ module _ {I S : Type 0} (seen : I → S) (modules : S → Modules ℕ) (linked :
       (subst (λ z. Two u t (end.Call f vs rest) z) (sym a.3.state) (calls (weak _ _ _ _ r') h.1.0.took.scopes), (a.3.same, a.3.made))
   calls_by y u t f vs rest (Stops why) v r h a = absurd a
 
-  stops_by : (y : Inside I) (u : Inner ℕ S) (t : Term V) (l : Limit) (d : Rewritten V Limit (Term V)) (v : Inner ℕ S) → Rewrites'' u t d v → Arrives sight numbered (own_url nat_eq modules begins first.now.at.0) Guarded guarded u (size t) d v → Agree (Stops (stops.Limit l)) y d v → Led u t (end.Stopped (stops.Limit l)) y
+  stops_by : (y : Inside I) (u : Inner ℕ S) (t : Term V) (l : Limit) (d : Rewritten V Limit (Term V)) (v : Inner ℕ S) → Rewrites'' u t d v → Arrives sight numbered (own_url nat_eq modules begins first.code.now.at.0) Guarded guarded u (size t) d v → Agree (Stops (stops.Limit l)) y d v → Led u t (end.Stopped (stops.Limit l)) y
   stops_by y u t l (Goes b) v r h a = absurd a
   stops_by y u t l (Leaves x) v r h a = absurd a
   stops_by y u t l (Calls g us b) v r h a = absurd a
@@ -247,32 +249,32 @@ module _ {I S : Type 0} (seen : I → S) (modules : S → Modules ℕ) (linked :
     abbrev One : Inside I → Term V → TermEnd V Stop → Inside I → Type 0
     One = Leads numbered (url_inside urls) (ActsInside seen modules linked fits begins)
 
-    own_is : (x : Inside I) (u : Inner ℕ S) → Stands x u → Fit u → own_url nat_eq modules begins first.now.at.0 u ≡ url_inside urls x
+    own_is : (x : Inside I) (u : Inner ℕ S) → Stands x u → Fit u → own_url nat_eq modules begins first.code.now.at.0 u ≡ url_inside urls x
     own_is x u t f =
         let k : Fit (inner_of seen x) = subst Fit (sym t.state) f in
-        let e : urls x.imports.now first.now.at.0 ≡ (modules (seen x.imports.now)).url first.now.at.0 = shows (inner_of seen x).state.outer x.imports.now first.now.at.0 k.state.whole k.home in
-        subst (λ (u : Inner ℕ S). own_url nat_eq modules begins first.now.at.0 u ≡ url_inside urls x) t.state
+        let e : urls x.imports.now first.code.now.at.0 ≡ (modules (seen x.imports.now)).url first.code.now.at.0 = shows (inner_of seen x).state.outer x.imports.now first.code.now.at.0 k.state.whole k.home in
+        subst (λ (u : Inner ℕ S). own_url nat_eq modules begins first.code.now.at.0 u ≡ url_inside urls x) t.state
         (sym (ap (λ (n : Activation). urls x.imports.now n.at.0) t.same.now ∙ e))
 
     -- what the definitions rewrite to, which the code's rewriting agrees with
     found : {x y : Inside I} {t : Term V} {c : Rewritten V Stop (Term V)} (u : Inner ℕ S) → Stands x u → Fit u → Rewrites numbered (url_inside urls) (ActsInside seen modules linked fits begins) x t c y → Found u t
-        → (d : Rewritten V Limit (Term V)) × ((v : Inner ℕ S) × (Rewrites'' u t d v × (Arrives sight numbered (own_url nat_eq modules begins first.now.at.0) Guarded guarded u (size t) d v × Agree c y d v)))
+        → (d : Rewritten V Limit (Term V)) × ((v : Inner ℕ S) × (Rewrites'' u t d v × (Arrives sight numbered (own_url nat_eq modules begins first.code.now.at.0) Guarded guarded u (size t) d v × Agree c y d v)))
     found {x = x} {y = y} {c = c} u s f r (inl w) = absurd (no_step numbered (url_inside urls) (ActsInside seen modules linked fits begins) (subst (λ t. Rewrites numbered (url_inside urls) (ActsInside seen modules linked fits begins) x t c y) w.1 r))
-    found {x = x} u s f r (inr (comes d v q l)) = (d, (v, (q, (l, step_alike Stands (ActsInside seen modules linked fits begins) Guarded acts_alike numbered (url_inside urls) (own_url nat_eq modules begins first.now.at.0) s (own_is x u s f) r q))))
+    found {x = x} u s f r (inr (comes d v q l)) = (d, (v, (q, (l, step_alike Stands (ActsInside seen modules linked fits begins) Guarded acts_alike numbered (url_inside urls) (own_url nat_eq modules begins first.code.now.at.0) s (own_is x u s f) r q))))
 
     -- where the code's evaluation ends, that of the definitions ends
     pub led : {x y : Inside I} {t : Term V} {e : TermEnd V Stop} → One x t e y → (u : Inner ℕ S) → Stands x u → Fit u → Holds (K u) ⊥ t → Led u t e y
     led (leads.value {v = v}) u s f h = values_alike v s
     led {y = y} {t = t} {e = e} (leads.goes {mid = mid} {rest = rest} r more) u s f h =
-        let o = found u s f r (come sight numbered (own_url nat_eq modules begins first.now.at.0) Guarded guarded u f t h) in
+        let o = found u s f r (come sight numbered (own_url nat_eq modules begins first.code.now.at.0) Guarded guarded u f t h) in
         goes_by mid y u t rest e (λ u' s' f' h'. led more u' s' f' h') o.0 o.1.0 o.1.1.0 o.1.1.1.0 o.1.1.1.1
     led {y = y} {t = t} (leads.throws {v = v} r) u s f h =
-        let o = found u s f r (come sight numbered (own_url nat_eq modules begins first.now.at.0) Guarded guarded u f t h) in
+        let o = found u s f r (come sight numbered (own_url nat_eq modules begins first.code.now.at.0) Guarded guarded u f t h) in
         throws_by y u t v o.0 o.1.0 o.1.1.0 o.1.1.1.0 o.1.1.1.1
     led {y = y} {t = t} (leads.calls {rest = rest} {f = g} {vs = vs} r) u s f h =
-        let o = found u s f r (come sight numbered (own_url nat_eq modules begins first.now.at.0) Guarded guarded u f t h) in
+        let o = found u s f r (come sight numbered (own_url nat_eq modules begins first.code.now.at.0) Guarded guarded u f t h) in
         calls_by y u t g vs rest o.0 o.1.0 o.1.1.0 o.1.1.1.0 o.1.1.1.1
     led {y = y} {t = t} (leads.stopped {why = stops.Limit l} r) u s f h =
-        let o = found u s f r (come sight numbered (own_url nat_eq modules begins first.now.at.0) Guarded guarded u f t h) in
+        let o = found u s f r (come sight numbered (own_url nat_eq modules begins first.code.now.at.0) Guarded guarded u f t h) in
         stops_by y u t l o.0 o.1.0 o.1.1.0 o.1.1.1.0 o.1.1.1.1
     led (leads.stopped {why = stops.Memory} r) u s f h = tt

@@ -1,19 +1,17 @@
 -- Where a name stands among the levels of code under way.
 use Rattle.std.proofs.Common.{◌≡◌, ℕ, zero, suc, ◌+◌, ◌<◌, ◌≤◌, Bool, true, false, List, [], ◌∷◌, ◌++◌, map, length, refl, ap, subst, sym, ◌∙◌, arith, ◌⊎◌, inl, inr, get_or}
-use Rattle.std.specs.Prelude.{Option, Some, None, is_some, option_map, slice_get, if◌then◌else◌}
+use Rattle.std.specs.Prelude.{Option, Some, None, option_map, if◌then◌else◌}
 use Rattle.std.specs.Option.{option_or}
 use Rattle.std.specs.Str.{bytes_eq}
 use Rattle.std.proofs.Math.Dec.{eqb}
 use Rattle.std.proofs.lemmas.Bool.Decides.{eqb_tells}
-use Rattle.esm_values.specs.Code.{CodeValue, value_of}
-use Rattle.esm_values.specs.declared.value.Value.{Value}
-use Rattle.esm_env.specs.Cells.{Cell, Reading, read_cell}
-use Rattle.esm_env.specs.Slots.{valued_by}
-use Rattle.esm_env.specs.Scopes.{Scopes, read_or, read_in}
-use Rattle.esm_body.specs.Scopes.{Scope, NamedCell, cell_by, in_scope, in_scopes}
-use Rattle.esm_body.specs.Inner.Slots.{slot_of}
-use Rattle.esm_body.specs.Inner.Stack.{scope_of_level, scopes_round}
-use Rattle.esm_body.specs.Inner.Names.{seen_slot, reading_in, slot_place, place_in, place_at, NoneFrom, IsFound}
+use Rattle.esm_values.specs.Code.{CodeValue}
+use Rattle.esm_env.specs.Cells.{Cell}
+use Rattle.esm_body.specs.Scopes.{Scope, cell_by, in_scope, in_scopes}
+use Rattle.esm_body.specs.Slots.{slot_of}
+use Rattle.esm_body.specs.Inner.Stack.{scopes_round}
+use Rattle.esm_body.specs.Code.{scope_of_level}
+use Rattle.esm_body.specs.Inner.Names.{slot_place, place_at, NoneFrom, IsFound}
 use Rattle.esm_body.specs.declared.work.Slot.{Slot}
 use Rattle.esm_body.specs.declared.work.Level.{Level}
 

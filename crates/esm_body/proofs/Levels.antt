@@ -19,12 +19,13 @@ use Rattle.esm_body.specs.Scopes.{Scope, unset, scope_of}
 use Rattle.std.specs.Prelude.{map, Option, Some, None, Result, Ok, Err, OnOk}
 use Rattle.esm_tree.specs.Syntax.{Stmts}
 use Rattle.esm_env.specs.Declarations.{Declaration, declared_in}
-use Rattle.esm_body.specs.Inner.Slots.{slot_of, scope_of_slots, unset_slots}
+use Rattle.esm_body.specs.Slots.{slot_of, scope_of_slots, unset_slots}
 use Rattle.esm_body.specs.declared.work.Slot.{Slot}
 use Rattle.esm_body.specs.declared.log.Stop.{Stop}
 use Rattle.esm_body.specs.Rest.{Rest, end, more, whole}
-use Rattle.esm_body.specs.Inner.Contexts.{Context, placed, surrounded}
-use Rattle.esm_body.specs.Inner.Stack.{in_front, part_by, scope_of_level, levels_rest, context_by, contexts_of, innermost, tries, trying, part_of, IsFront, AreNamed, bound_name, name_in, IsWork, AreWork, IsKind, AreLevels, Becomes, IsPopped, IsTaken}
+use Rattle.esm_body.specs.Contexts.{Context, placed, surrounded}
+use Rattle.esm_body.specs.Inner.Stack.{part_by, levels_rest, tries, IsFront, AreNamed, Becomes, IsPopped, IsTaken}
+use Rattle.esm_body.specs.Code.{in_front, scope_of_level, context_by, contexts_of, innermost, trying, part_of, bound_name, name_in, IsWork, AreWork, IsKind, AreLevels}
 use Rattle.esm_body.specs.Rest.{Part as parts}
 use Rattle.esm_body.specs.declared.work.Kind.{Kind}
 use Rattle.esm_body.specs.declared.work.Kind.TheVariants as k

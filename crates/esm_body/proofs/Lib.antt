@@ -67,3 +67,10 @@ pub mod Stepping
 pub mod Marks
 pub mod NotedLines
 pub mod WaitLemmas
+pub mod EndLemmas
+pub mod GoesOn
+pub mod UrlStays
+pub mod Stay
+pub mod StartedLemmas
+pub mod ResumedLemmas
+pub mod Returned

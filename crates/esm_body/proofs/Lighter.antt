@@ -7,7 +7,7 @@ use Rattle.esm_values.specs.Value.{Value, Undefined}
 use Rattle.esm_values.specs.Plans.{Rewritten as comes}
 use Rattle.esm_expr_eval.specs.Terms.{Term}
 use Rattle.esm_expr_eval.specs.Terms.Term.{Val, Fails}
-use Rattle.esm_expr_eval.proofs.HasRewriting.{size}
+use Rattle.esm_expr_eval.specs.Sizes.{size}
 use Rattle.esm_promise.specs.Outer.{Outer}
 use Rattle.esm_env.specs.Modules.{Modules}
 use Rattle.esm_body.specs.Rest.{Rest, end, fill_rest}

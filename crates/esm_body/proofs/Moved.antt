@@ -11,7 +11,7 @@ use Rattle.esm_body.specs.State.{State, Importing}
 use Rattle.esm_body.specs.Acts.{Inner}
 use Rattle.esm_body.specs.BodyRewriting.{RewrittenBody, On, Gives, Waits, RewritesBody}
 use Rattle.esm_body.specs.BodyRewriting.RewritesBody.{inner, tries}
-use Rattle.esm_body.specs.Inner.Contexts.{Context, Block, Trying, scopes_in, surrounded, retaken}
+use Rattle.esm_body.specs.Contexts.{Context, Block, Trying, scopes_in, surrounded, retaken}
 
 module _ {N I : Type 0} (same : N → N → Bool) (modules : I → Modules N) (begins : Importing N I) (m : N) where
   abbrev over : List (Scope (Value N)) → State N I → Inner N I

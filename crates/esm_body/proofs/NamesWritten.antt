@@ -1,5 +1,5 @@
 -- What setting and writing a name come to.
-use Rattle.std.proofs.Common.{◌≡◌, ℕ, nat_eq, zero, suc, ◌+◌, ◌<◌, ◌≤◌, Bool, true, false, List, [], ◌∷◌, ◌++◌, map, length, refl, ap, subst, sym, ◌∙◌, arith, get_or, slice_set, eqb, ◌⊎◌, inl, inr, MutBor}
+use Rattle.std.proofs.Common.{◌≡◌, ℕ, nat_eq, zero, suc, ◌+◌, ◌<◌, ◌≤◌, Bool, true, false, List, [], ◌∷◌, ◌++◌, length, refl, ap, subst, sym, ◌∙◌, arith, get_or, slice_set, eqb, ◌⊎◌, inl, inr, MutBor}
 use Rattle.std.proofs.lemmas.Bool.Decides.{eqb_tells}
 use mathlib.Core.Bool.{true≢false}
 use Rattle.std.specs.Prelude.{Option, Some, None, is_some, Result, Ok, Err, IfOk, option_map, if◌then◌else◌, ⊤}
@@ -7,18 +7,15 @@ use Rattle.esm_base.specs.declared.memory.Memory.{Memory}
 use Rattle.std.specs.Arc.{arc_value}
 use Rattle.std.specs.Option.{option_or}
 use Rattle.std.specs.Str.{bytes_eq}
-use Rattle.esm_values.specs.Value.{Error}
 use Rattle.esm_values.specs.Code.{CodeValue, value_of}
-use Rattle.esm_values.specs.Errors.{Errors, fault, make_error, next_error}
+use Rattle.esm_values.specs.Errors.{Errors}
 use Rattle.esm_values.specs.declared.errors.FaultKind.{FaultKind}
-use Rattle.esm_values.specs.declared.errors.FaultKind.TheVariants as kinds
 use Rattle.esm_values.specs.declared.value.Value.{Value}
 use Rattle.esm_promise.specs.Code.{Numbered}
 use Rattle.esm_promise.specs.Outer.{Outer}
 use Rattle.esm_env.specs.Modules.{Modules}
 use Rattle.esm_env.specs.Calls.{scopes_of, IsWrittenBy, IsWrittenIn, IsInitialised, told_write}
 use Rattle.esm_env.specs.Cells.{Cell, Cells}
-use Rattle.esm_env.specs.Writing.{Writing, writing_of}
 use Rattle.esm_env.specs.Scopes.{Scopes, own_cell, scope_in, import_in, written_by, cells_of, wrote_set}
 use Rattle.esm_env.specs.Makes.{OthersStay}
 use Rattle.esm_env.specs.Faithful.{IsFaithful, HasScope, HasImports, IsLikeScope, AreScopesOf}
@@ -28,12 +25,14 @@ use Rattle.esm_env.specs.declared.scope.Target.{Target}
 use Rattle.esm_env.specs.declared.scope.Target.TheVariants as targets
 use Rattle.esm_env.specs.declared.scope.Wrote.{Wrote}
 use Rattle.esm_env.specs.declared.scope.Wrote.TheVariants as wrote
+use Rattle.esm_body.specs.SameScopes.{HaveSameScopes}
 use Rattle.esm_body.specs.Scopes.{Scope, in_scope, in_scopes, set_by, set_in, set_where, set_in_scopes}
-use Rattle.esm_body.specs.State.{State, Importing}
-use Rattle.esm_body.specs.Acts.{Inner, module_write, scope_write, write_in, write_name, set_at, set_name}
+use Rattle.esm_body.specs.State.{Importing}
+use Rattle.esm_body.specs.Acts.{Inner, module_write, scope_write, write_in, set_at}
 use Rattle.esm_body.specs.View.{state_of}
-use Rattle.esm_body.specs.Inner.Slots.{slot_of, scope_of_slots}
-use Rattle.esm_body.specs.Inner.Stack.{scope_of_level, scopes_round}
+use Rattle.esm_body.specs.Slots.{slot_of, scope_of_slots}
+use Rattle.esm_body.specs.Inner.Stack.{scopes_round}
+use Rattle.esm_body.specs.Code.{scope_of_level}
 use Rattle.esm_body.specs.Inner.Names.{slot_place, place_at, IsFound}
 use Rattle.esm_body.specs.Inner.Written.{set_slot, SlotSet, LevelSet, OnlySlots, LevelWrote, slot_wrote, SlotWritten, SetWhere, TopSet, ScopesWrote, WritesAt, WritesTo, SetsAt, SetsTo, thrown, ThrowsNew, ThrowsWrote, Throws, IsLike, WritesName, SetsName}
 use Rattle.esm_body.specs.Inner.World.{HasScopes}
@@ -349,6 +348,23 @@ like_scopes g linked e late m a faithful like here others = record {
   unwritten = unwritten_late g linked e late m a here others;
 }
 
+-- what is like a scope is there where that is
+like_there : (o p : Option ModuleScope) → IsLikeScope o p → is_some p ≡ is_some o
+like_there None None h = refl
+like_there None (Some t) h = absurd h
+like_there (Some s) None h = absurd h
+like_there (Some s) (Some t) h = refl
+
+-- a write makes no scope
+pub writes_same : (o : Option (Cell CodeValue)) (ss new : List (Scope CodeValue)) (e late : Scopes) (m : ℕ) (x : List ℕ) (v : Value) (result : Wrote) → WritesRight
+    → WritesAt o ss e m x v result new late → HaveSameScopes e late
+writes_same (Some c) ss new e late m x v result right h n = ap (λ l. is_some (scope_in l n)) h.1
+writes_same None ss new e late m x v result right h n = like_there (scope_in e n) (scope_in late n) (right.stays_written e late m x v result h.0 n)
+
+pub sets_same : (ss new : List (Scope CodeValue)) (e late : Scopes) (m : ℕ) (x : List ℕ) (v : Value) → WritesRight → SetsAt ss e m x v new late → HaveSameScopes e late
+sets_same [] new e late m x v right h n = like_there (scope_in e n) (scope_in late n) (right.stays_set e late m x v h.0 n)
+sets_same (s ∷ ss) new e late m x v right h n = ap (λ l. is_some (scope_in l n)) h.1
+
 abbrev Stays : Wrote → Type 0
 Stays wrote.Done = ⊥
 Stays wrote.Unset = ⊤
@@ -433,34 +449,34 @@ module _ {I : Type 0} (modules : I → Modules ℕ) (linked : I → ℕ → Bool
 module _ {I S : Type 0} (seen : I → S) (modules : S → Modules ℕ) (linked : S → ℕ → Bool) (fits : Outer ℕ S → Type 0) (begins : Importing ℕ S) where
   -- what the code is afterwards, over what it held before
   abbrev Late : Inside I → MutBor Engine → MutBor Numbered → Errors → MutBor I → Inner ℕ S
-  Late after engine ps es i = record { scopes = scopes_round after.now.levels.items; state = state_of engine.now (scopes_of after.envs.now) ps.now es (seen i.now) }
+  Late after engine ps es i = record { scopes = scopes_round after.code.now.levels.items; state = state_of engine.now (scopes_of after.envs.now) ps.now es (seen i.now) }
 
   scopes_after : (w after : Inside I) → IsLike w after → AreScopesOf (modules (seen w.imports.now)) (linked (seen w.imports.now)) (scopes_of after.envs.now) → HasScopes seen modules linked fits begins after
   scopes_after w after like a = subst (λ (i : MutBor I). AreScopesOf (modules (seen i.now)) (linked (seen i.now)) (scopes_of after.envs.now)) (sym like.imports) a
 
   pub writes_name : (w after : Inside I) (x : List ℕ) (v : Value) (result : Wrote) (told : Result (Option Value) Memory) → WritesRight → IsLike w after
-      → WritesTo w.now.levels.items (scopes_of w.envs.now) w.now.at.0 x v result after.now.levels.items (scopes_of after.envs.now)
+      → WritesTo w.code.now.levels.items (scopes_of w.envs.now) w.code.now.at.0 x v result after.code.now.levels.items (scopes_of after.envs.now)
       → Throws x result w.errors.now told after.errors.now → WritesName seen modules linked fits begins w x v told after
   writes_name w after x v result (Err end) right like to t = tt
   writes_name w after x v result (Ok told) right like to t = (
     like,
     λ scopes here.
-        let s = scopes.made w.now.at.0 here in
-        let home : (t : ModuleScope) × (scope_in (scopes_of w.envs.now) w.now.at.0 ≡ Some t) × HasImports (modules (seen w.imports.now)) w.now.at.0 t =
-        (s.0, s.1, scopes.imports w.now.at.0 s.0 here s.1) in
-        let r = writes_is modules linked begins w.engine.now w.promises.now (seen w.imports.now) (scopes_round w.now.levels.items) (scopes_round after.now.levels.items)
-        (scopes_of w.envs.now) (scopes_of after.envs.now) w.now.at.0 x v result w.errors.now after.errors.now told right scopes here home
-        (in_scopes (scopes_round w.now.levels.items) x) to.1 t in
+        let s = scopes.made w.code.now.at.0 here in
+        let home : (t : ModuleScope) × (scope_in (scopes_of w.envs.now) w.code.now.at.0 ≡ Some t) × HasImports (modules (seen w.imports.now)) w.code.now.at.0 t =
+        (s.0, s.1, scopes.imports w.code.now.at.0 s.0 here s.1) in
+        let r = writes_is modules linked begins w.engine.now w.promises.now (seen w.imports.now) (scopes_round w.code.now.levels.items) (scopes_round after.code.now.levels.items)
+        (scopes_of w.envs.now) (scopes_of after.envs.now) w.code.now.at.0 x v result w.errors.now after.errors.now told right scopes here home
+        (in_scopes (scopes_round w.code.now.levels.items) x) to.1 t in
         ((λ j. (thrown told, Late after (like.engine j) (like.promises j) after.errors.now (like.imports j))) ∙ r.0, scopes_after w after like r.1),
   )
 
   pub sets_name : (w after : Inside I) (x : List ℕ) (v : Value) → WritesRight → IsLike w after → after.errors.now ≡ w.errors.now
-      → SetsTo w.now.levels.items (scopes_of w.envs.now) w.now.at.0 x v after.now.levels.items (scopes_of after.envs.now)
+      → SetsTo w.code.now.levels.items (scopes_of w.envs.now) w.code.now.at.0 x v after.code.now.levels.items (scopes_of after.envs.now)
       → SetsName seen modules linked fits begins w x v after
   sets_name w after x v right like errors to = (
     like,
     λ scopes here own.
-        let r = sets_is modules linked begins w.engine.now w.promises.now (seen w.imports.now) (scopes_round w.now.levels.items) (scopes_round after.now.levels.items)
-        (scopes_of w.envs.now) (scopes_of after.envs.now) w.now.at.0 x v w.errors.now right scopes here own to.1 in
+        let r = sets_is modules linked begins w.engine.now w.promises.now (seen w.imports.now) (scopes_round w.code.now.levels.items) (scopes_round after.code.now.levels.items)
+        (scopes_of w.envs.now) (scopes_of after.envs.now) w.code.now.at.0 x v w.errors.now right scopes here own to.1 in
         ((λ j. Late after (like.engine j) (like.promises j) (errors j) (like.imports j)) ∙ r.0, scopes_after w after like r.1),
   )

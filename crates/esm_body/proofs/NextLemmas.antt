@@ -10,10 +10,11 @@ use Rattle.esm_env.specs.Modules.{Modules}
 use Rattle.esm_body.specs.Rest.{fill_rest}
 use Rattle.esm_body.specs.State.{State, Importing}
 use Rattle.esm_body.specs.Segment.{Next, Goes, return_to, throw_to}
-use Rattle.esm_body.specs.Inner.Declared.{IsNameOf, SetsRest}
-use Rattle.esm_body.specs.Inner.Running.{callers_of, waiting, doing_filled, place_rest, IsPlace, IsCaller, AreCallers, body_at, Belongs, CallersBelong, going, Continues, GivesBack, ThrowsBack}
+use Rattle.esm_body.specs.Sets.{IsNameOf, SetsRest}
+use Rattle.esm_body.specs.Inner.Running.{callers_of, waiting, doing_filled, place_rest, IsPlace, IsCaller, AreCallers, body_at, CallersBelong, going, Continues, GivesBack, ThrowsBack}
+use Rattle.esm_body.specs.Code.{Belongs}
 use Rattle.esm_body.specs.Inner.Stack.{caller_of, doing_part}
-use Rattle.esm_body.specs.Inner.World.{state_in, HasScopes}
+use Rattle.esm_body.specs.Inner.World.{state_in, HasScopes, with_code}
 use Rattle.esm_body.specs.declared.inside.Inside.{Inside}
 use Rattle.esm_body.specs.declared.segment.Next.TheVariants as n
 use Rattle.esm_body.specs.declared.segment.Place.{Place}
@@ -93,7 +94,7 @@ module _ {I S : Type 0} (seen : I → S) (modules : S → Modules ℕ) (linked :
 
   -- what runs behind that is the caller
   abbrev Behind : Inside I → Caller → Inside I
-  Behind w c = record w { now = c.body }
+  Behind w c = with_code w c.body
 
   back_to : (w : Inside I) (late : List Caller) (c : Caller) (spot : Place) (given : Term CodeValue) → IsCaller c → place_rest c.body spot ≡ doing_filled c.body c.doing given
       → return_to nat_eq modules begins given (callers_of (late ++ c ∷ [])) (At w) ≡ Some (Going spot (Behind w c) late)
@@ -114,7 +115,7 @@ module _ {I S : Type 0} (seen : I → S) (modules : S → Modules ℕ) (linked :
         belongs = subst (Belongs modules (seen w.imports.now) c.body) (sym same) (belongs_filled modules (seen w.imports.now) c given some.0 belong.0);
         before = belong.1;
         imports = refl;
-        body = body_popped w.now late c;
+        body = body_popped w.code.now late c;
       }
 
   gives_by : (w : Inside I) (late : List Caller) (c : Caller) (v : Value) → AreCallers (late ++ c ∷ []) → Scoped w → CallersBelong modules (seen w.imports.now) (late ++ c ∷ []) → GivesBack seen modules linked fits begins w (late ++ c ∷ []) v (n.Goes (p.Gives c.doing v)) (Behind w c) late

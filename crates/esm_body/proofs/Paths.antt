@@ -25,8 +25,9 @@ use Rattle.esm_body.specs.BodyRewriting.RewritesBody.{does}
 use Rattle.esm_body.specs.Segment.{RewritesOutermost}
 use Rattle.esm_body.specs.Fits.{Kind, HoldScopes, HoldsRest}
 use Rattle.esm_body.specs.Inner.Chains.{Comes, here, last, later}
-use Rattle.esm_body.specs.Inner.Contexts.{Context, Block, Trying, scope_in, scopes_in, surrounded, rescoped, retaken}
-use Rattle.esm_body.specs.Inner.Stack.{scope_of_level, scopes_round, contexts_of, context_by, trying, in_front}
+use Rattle.esm_body.specs.Contexts.{Context, Block, Trying, scope_in, scopes_in, surrounded, rescoped, retaken}
+use Rattle.esm_body.specs.Inner.Stack.{scopes_round}
+use Rattle.esm_body.specs.Code.{scope_of_level, contexts_of, context_by, trying, in_front}
 use Rattle.esm_body.specs.declared.work.Kind.{Kind as BlockKind}
 use Rattle.esm_body.specs.declared.work.Kind.TheVariants as k
 use Rattle.esm_body.specs.declared.work.Level.{Level}
@@ -139,19 +140,19 @@ module _ {I S : Type 0} (seen : I → S) (modules : S → Modules ℕ) (linked :
   -- what an evaluation's end comes to, of the whole
   abbrev pub end_in : List (Context CodeValue) → Use → Rest CodeValue → TermEnd CodeValue Limit → RewrittenBody CodeValue Limit
   end_in cs purpose rest (end.Value v) = On (comes.Goes (surrounded cs (more (Does purpose (Val v)) rest)))
-  end_in cs purpose rest (end.Thrown v) = thrown_in nat_eq modules begins first.now.at.0 cs v
+  end_in cs purpose rest (end.Thrown v) = thrown_in nat_eq modules begins first.code.now.at.0 cs v
   end_in cs purpose rest (end.Call f vs t) = On (comes.Calls f vs (surrounded cs (more (Does purpose t) rest)))
   end_in cs purpose rest (end.Stopped why) = On (comes.Stops why)
 
   pub path_comes : (cs : List (Context CodeValue)) (purpose : Use) (rest : Rest CodeValue) {u after : Inner ℕ S} {t : Term CodeValue} {e : TermEnd CodeValue Limit} → Two seen modules linked fits begins some one first u t e after → u.scopes ≡ scopes_in cs
-      → Comes nat_eq modules begins first.now.at.0 u.state (surrounded cs (more (Does purpose t) rest)) (end_in cs purpose rest e) after.state
+      → Comes nat_eq modules begins first.code.now.at.0 u.state (surrounded cs (more (Does purpose t) rest)) (end_in cs purpose rest e) after.state
   path_comes cs purpose rest value s = here
   path_comes cs purpose rest {u = u} (goes {mid = mid} {t = t} {rest = t'} r k more') s =
-      later (outer_goes nat_eq modules begins first.now.at.0 cs u.state _ _ mid (k ∙ s) (subst (λ ss. RewritesBody nat_eq modules begins first.now.at.0 (record { scopes = ss; state = u.state }) (more (Does purpose t) rest) (On (comes.Goes (more (Does purpose t') rest))) mid) s (does r)))
+      later (outer_goes nat_eq modules begins first.code.now.at.0 cs u.state _ _ mid (k ∙ s) (subst (λ ss. RewritesBody nat_eq modules begins first.code.now.at.0 (record { scopes = ss; state = u.state }) (more (Does purpose t) rest) (On (comes.Goes (more (Does purpose t') rest))) mid) s (does r)))
       (path_comes cs purpose rest more' (k ∙ s))
   path_comes cs purpose rest {u = u} {after = after} (throws {t = t} {v = v} r k) s =
-      last (outer_throws nat_eq modules begins first.now.at.0 cs u.state _ v after (k ∙ s) (subst (λ ss. RewritesBody nat_eq modules begins first.now.at.0 (record { scopes = ss; state = u.state }) (more (Does purpose t) rest) (On (comes.Leaves v)) after) s (does r)))
+      last (outer_throws nat_eq modules begins first.code.now.at.0 cs u.state _ v after (k ∙ s) (subst (λ ss. RewritesBody nat_eq modules begins first.code.now.at.0 (record { scopes = ss; state = u.state }) (more (Does purpose t) rest) (On (comes.Leaves v)) after) s (does r)))
   path_comes cs purpose rest {u = u} {after = after} (calls {t = t} {rest = t'} {f = f} {vs = vs} r k) s =
-      last (outer_calls nat_eq modules begins first.now.at.0 cs u.state _ _ f vs after (k ∙ s) (subst (λ ss. RewritesBody nat_eq modules begins first.now.at.0 (record { scopes = ss; state = u.state }) (more (Does purpose t) rest) (On (comes.Calls f vs (more (Does purpose t') rest))) after) s (does r)))
+      last (outer_calls nat_eq modules begins first.code.now.at.0 cs u.state _ _ f vs after (k ∙ s) (subst (λ ss. RewritesBody nat_eq modules begins first.code.now.at.0 (record { scopes = ss; state = u.state }) (more (Does purpose t) rest) (On (comes.Calls f vs (more (Does purpose t') rest))) after) s (does r)))
   path_comes cs purpose rest {u = u} {after = after} (stopped {t = t} {why = why} r k) s =
-      last (outer_stops nat_eq modules begins first.now.at.0 cs u.state _ why after (k ∙ s) (subst (λ ss. RewritesBody nat_eq modules begins first.now.at.0 (record { scopes = ss; state = u.state }) (more (Does purpose t) rest) (On (comes.Stops why)) after) s (does r)))
+      last (outer_stops nat_eq modules begins first.code.now.at.0 cs u.state _ why after (k ∙ s) (subst (λ ss. RewritesBody nat_eq modules begins first.code.now.at.0 (record { scopes = ss; state = u.state }) (more (Does purpose t) rest) (On (comes.Stops why)) after) s (does r)))

@@ -8,7 +8,7 @@ use Rattle.esm_tree.specs.Flat.{bindings_of, stmt_part, stmt_parts, AllStmtsBelo
 use Rattle.esm_tree.specs.declared.node.LexicalBinding.{LexicalBinding}
 use Rattle.esm_tree.specs.declared.node.StmtId.{StmtId}
 use Rattle.esm_env.specs.Declarations.{Declaration, declared_by, declares, declared_in}
-use Rattle.esm_body.specs.Inner.Slots.{slot_with, unset_slots}
+use Rattle.esm_body.specs.Slots.{slot_with, unset_slots}
 use Rattle.esm_body.specs.declared.work.Slot.{Slot}
 
 nothing_behind : (slots : List Slot) → slots ++ [] ≡ slots

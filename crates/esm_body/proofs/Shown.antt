@@ -1,14 +1,13 @@
 -- The display texts of values, one by one.
-use Rattle.std.proofs.Common.{◌≡◌, ℕ, zero, suc, ◌+◌, ◌<◌, ◌≤◌, Bool, true, List, [], ◌∷◌, ◌++◌, length, drop, refl, ap, subst, sym, ◌∙◌, get_or, arith, All}
+use Rattle.std.proofs.Common.{ℕ, ◌+◌, ◌<◌, ◌≤◌, Bool, List, [], ◌∷◌, ◌++◌, length, drop, refl, subst, sym, get_or, arith}
 use Rattle.std.proofs.lemmas.List.{drop_more, append-nil, append_assoc}
 use Rattle.std.proofs.Math.ListN.{drop_of_length-le}
-use Rattle.std.specs.Str.{IsUtf8}
 use Rattle.std.specs.Prelude.{Result, Ok, Err, IfOk}
 use Rattle.esm_resolve.specs.Graph.{Graph}
 use Rattle.esm_resolve.specs.Keys.{AreNamespaceKeysOf}
 use Rattle.esm_resolve.specs.Renumbered.{FollowsNumbers}
 use Rattle.esm_values.specs.Errors.{Errors}
-use Rattle.esm_values.specs.Code.{CodeValue, value_of, values_of}
+use Rattle.esm_values.specs.Code.{value_of, values_of}
 use Rattle.esm_values.specs.declared.value.Value.{Value}
 use Rattle.esm_env.specs.Modules.{Modules, graph}
 use Rattle.esm_env.specs.Scopes.{Scopes}

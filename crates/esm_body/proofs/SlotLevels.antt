@@ -5,8 +5,9 @@ use Rattle.esm_tree.specs.Flat.{stmt_part}
 use Rattle.esm_values.specs.Code.{CodeValue}
 use Rattle.esm_body.specs.Scopes.{Scope}
 use Rattle.esm_body.specs.Rest.{Rest, end}
-use Rattle.esm_body.specs.Inner.Contexts.{Context, surrounded, rescoped, retaken}
-use Rattle.esm_body.specs.Inner.Stack.{contexts_of, context_by, innermost, levels_rest, in_front, scopes_round, scope_of_level, AreLevels}
+use Rattle.esm_body.specs.Contexts.{Context, surrounded, rescoped, retaken}
+use Rattle.esm_body.specs.Inner.Stack.{levels_rest, scopes_round}
+use Rattle.esm_body.specs.Code.{contexts_of, context_by, innermost, in_front, scope_of_level, AreLevels}
 use Rattle.esm_body.specs.Inner.Written.{OnlySlots}
 use Rattle.esm_body.specs.declared.work.Kind.{Kind}
 use Rattle.esm_body.specs.declared.work.Kind.TheVariants as k

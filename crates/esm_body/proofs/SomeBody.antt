@@ -40,7 +40,7 @@ awaits_are (ExportDefaultFunction n ps ss ∷ items) = awaits_are items
 awaits_are (Function n ps ss ∷ items) = awaits_are items
 awaits_are (Statement s ∷ items) = ap (λ b. Rattle.esm_ast.specs.Entries.stmt_awaits s || b) (awaits_are items)
 
-no_await : (items : List Item) → (entries_of items).awaits ≡ false → stmts_await (body_of items) ≡ false
+pub no_await : (items : List Item) → (entries_of items).awaits ≡ false → stmts_await (body_of items) ≡ false
 unfolding entries_of entries_with
 no_await items e = sym (awaits_are items) ∙ e
 
@@ -103,7 +103,7 @@ module _ {N I : Type 0} (same : N → N → Bool) (modules : I → Modules N) (l
       → HoldsRest (Knows modules linked w.outer.imports) ⊥ (of_body awaits) (whole_body same modules begins w m)
   whole_fits w m awaits f home a = new_whole (Knows modules linked w.outer.imports) (values same) tt (λ b. tt) (λ t. tt) (of_body awaits) _ (record { returns = λ e. (some.readable w.outer f.whole).bodies m home; awaits = a })
 
-  noted_fits : (w : W) (m : N) (awaits : Bool) → FitsState modules linked Whole w → linked w.outer.imports m ≡ true → (awaits ≡ false → stmts_await (body_of ((modules w.outer.imports).tree m)) ≡ false)
+  pub noted_fits : (w : W) (m : N) (awaits : Bool) → FitsState modules linked Whole w → linked w.outer.imports m ≡ true → (awaits ≡ false → stmts_await (body_of ((modules w.outer.imports).tree m)) ≡ false)
       → Run (note (url_in same modules begins w) w (Begins m)).1 m awaits (whole_body same modules begins w m)
   noted_fits w m awaits f home a =
       let s = note_stays (url_in same modules begins w) w (Begins m) f in
@@ -167,7 +167,7 @@ module _ {N I : Type 0} (same : N → N → Bool) (modules : I → Modules N) (l
 
   -- ---- resume
 
-  abbrev TakenFits : I → Taken N → Type 0
+  abbrev pub TakenFits : I → Taken N → Type 0
   TakenFits i t = HoldsRest (Knows modules linked i) ⊤ (of_body true) t.standing.rest × FitStanding modules linked i t.others
 
   taken_by : (i : I) (s : Standing N) (ss : List (Standing N)) (t : Taken N) (b : Bool) (later : Option (Taken N)) → FitStanding modules linked i (s ∷ ss) → ((t : Taken N) → later ≡ Some t → TakenFits i t) → take_by same b s ss later ≡ Some t → TakenFits i t
@@ -175,7 +175,7 @@ module _ {N I : Type 0} (same : N → N → Bool) (modules : I → Modules N) (l
   taken_by i s ss t false None h k e = absurd cc
   taken_by i s ss t false (Some u) h k e = let r = k u refl in subst (TakenFits i) (let q : record u { others = s ∷ u.others } ≡ t = cc in q) (r.0, (h.0, h.1, r.1))
 
-  taken : (i : I) (ss : List (Standing N)) (m : N) (t : Taken N) → FitStanding modules linked i ss → take_standing same ss m ≡ Some t → TakenFits i t
+  pub taken : (i : I) (ss : List (Standing N)) (m : N) (t : Taken N) → FitStanding modules linked i ss → take_standing same ss m ≡ Some t → TakenFits i t
   taken i [] m t h e = absurd cc
   taken i (s ∷ ss) m t h e = taken_by i s ss t (same s.at m) (take_standing same ss m) h (λ u q. taken i ss m u h.2 q) e
 

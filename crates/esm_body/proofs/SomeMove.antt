@@ -18,13 +18,14 @@ use Rattle.esm_expr_eval.specs.Terms.{Term}
 use Rattle.esm_expr_eval.specs.Terms.Term.{Val}
 use Rattle.esm_expr_eval.specs.Ready.{Holds}
 use Rattle.esm_expr_eval.proofs.Lands.{AllKnown, Later, Followed, followed, stays, onward, ask}
-use Rattle.esm_expr_eval.proofs.HasRewriting.{size, Comes', comes, come, Here, Arrives}
+use Rattle.esm_expr_eval.proofs.HasRewriting.{Comes', comes, come, Here, Arrives}
+use Rattle.esm_expr_eval.specs.Sizes.{size}
 use Rattle.esm_promise.specs.Outer.{Outer}
 use Rattle.esm_env.specs.Modules.{Modules}
 use Rattle.esm_env.specs.Cells.{Cell, Cells, write_cell}
 use Rattle.esm_env.specs.Writing.{write_at, write_by, constant_by}
 use Rattle.esm_body.specs.Scopes.{Scope, scope_of, handler_scope, set_in, set_by, set_in_scopes, set_where, in_scope, in_scopes}
-use Rattle.esm_body.specs.Rest.{Use, Part, Rest, end, more, begin, branch}
+use Rattle.esm_body.specs.Rest.{Use, Part, Rest, end, more, begin, branch, count}
 use Rattle.esm_body.specs.Rest.Part.{Whole, Does, Stands, In, Tries}
 use Rattle.esm_body.specs.Rest.Use.{Drops, Sets, Writes, Throws, Returns, Prints, Chooses, Awaits}
 use Rattle.esm_body.specs.State.{State, Importing}
@@ -32,7 +33,7 @@ use Rattle.esm_body.specs.Acts.{Inner, with_state, with_new, set_at, set_name, w
 use Rattle.esm_body.specs.BodyRewriting.{RewrittenBody, On, Gives, Waits, RewritesBody, own_url, within, caught, wrote}
 use Rattle.esm_body.specs.BodyRewriting.RewritesBody.{begins_at, does, drops, sets, writes, throws, returns, prints, chooses, awaits, inner, inner_end, tries, tries_end}
 use Rattle.esm_body.specs.Fits.{Kind, FitsStmt, FitsStmts, FitsUse, HoldsScope, HoldScopes, HoldsPart, HoldsRest}
-use Rattle.esm_body.proofs.Grown.{held_scope, held_rest, opened_rest, count, size_part, size_rest, size_whole, new_whole, new_scope_of, new_branch, new_begin}
+use Rattle.esm_body.proofs.Grown.{held_scope, held_rest, opened_rest, size_part, size_rest, size_whole, new_whole, new_scope_of, new_branch, new_begin}
 use Rattle.esm_body.proofs.SomeAct.{BeginsSome, HaltsIn, Took, took_none, Known, FitsInner, view, acts, lives}
 
 module _ {N I : Type 0} (same : N → N → Bool) (modules : I → Modules N) (linked : I → N → Bool) (Fit : Outer N I → Type 0) (begins : Importing N I) (some : BeginsSome modules linked Fit begins) (m : N) where

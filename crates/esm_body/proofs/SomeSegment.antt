@@ -14,7 +14,7 @@ use Rattle.esm_expr_eval.specs.Terms.{Term}
 use Rattle.esm_expr_eval.specs.Terms.Term.{Val, Fails}
 use Rattle.esm_expr_eval.specs.Ready.{Holds}
 use Rattle.esm_expr_eval.proofs.Lands.{AllKnown}
-use Rattle.esm_expr_eval.proofs.HasRewriting.{size}
+use Rattle.esm_expr_eval.specs.Sizes.{size}
 use Rattle.esm_env.specs.Declarations.{FunctionCode}
 use Rattle.esm_promise.specs.Outer.{Outer}
 use Rattle.esm_env.specs.Modules.{Modules, function_of}

@@ -11,7 +11,7 @@ use Rattle.esm_tree.specs.declared.node.StmtId.{StmtId}
 use Rattle.esm_env.specs.Declarations.{body_of, does, onto}
 use Rattle.esm_body.specs.Rest.{end, more, whole}
 use Rattle.esm_body.specs.Rest.{Part as parts}
-use Rattle.esm_body.specs.Inner.Stack.{in_front, AreWork}
+use Rattle.esm_body.specs.Code.{in_front, AreWork}
 use Rattle.esm_body.specs.Inner.Calls.{stmt_told, IsBelowTold, AddsStatement}
 use Rattle.esm_body.specs.declared.work.Work.{Work}
 use Rattle.esm_body.specs.declared.work.Work.TheVariants as w

@@ -11,7 +11,8 @@ use Rattle.esm_body.specs.State.{State, Importing}
 use Rattle.esm_body.specs.Segment.{Ended as ended}
 use Rattle.esm_body.specs.Inner.Chains.{EndsSo}
 use Rattle.esm_body.specs.Inner.Running.{callers_of, place_rest, ended_of, IsPlace, AreCallers, MayRun, Followed, FollowsFit, LeadsOn, GoesOn, IsOver, Went, Stepped, Ran, RanBehind}
-use Rattle.esm_body.specs.Inner.Turn.{IsCode, Keeps}
+use Rattle.esm_body.specs.Inner.Turn.{Keeps}
+use Rattle.esm_body.specs.Code.{IsCode}
 use Rattle.esm_body.specs.Inner.World.{state_in}
 use Rattle.esm_body.specs.declared.inside.Inside.{Inside}
 use Rattle.esm_body.specs.declared.log.Stop.{Stop}
@@ -34,7 +35,7 @@ steps_of w = w.engine.now.log.steps
 
 -- what is left of code that goes on here
 abbrev pub left_of : {I : Type 0} → Inside I → Place → List Caller → ℕ
-left_of w spot cs = measure (place_rest w.now spot) (callers_of cs)
+left_of w spot cs = measure (place_rest w.code.now spot) (callers_of cs)
 
 module _ {I S : Type 0} (seen : I → S) (modules : S → Modules ℕ) (linked : S → ℕ → Bool) (fits : Outer ℕ S → Type 0) (begins : Importing ℕ S) where
   abbrev At : Inside I → State ℕ S
@@ -53,15 +54,15 @@ module _ {I S : Type 0} (seen : I → S) (modules : S → Modules ℕ) (linked :
   Over' w cs how after = IsOver seen modules linked fits begins w cs how after
 
   abbrev Went' : Inside I → Place → List Caller → Result CodeNext Stop → Inside I → List Caller → Type 0
-  Went' w spot cs r after late = Went seen modules linked fits begins w (place_rest w.now spot) cs r after late
+  Went' w spot cs r after late = Went seen modules linked fits begins w (place_rest w.code.now spot) cs r after late
 
   abbrev Stepped' : Inside I → Place → List Caller → Result CodeNext Stop → Inside I → List Caller → Type 0
-  Stepped' w spot cs r after late = Stepped seen modules linked fits begins w (place_rest w.now spot) cs r after late
+  Stepped' w spot cs r after late = Stepped seen modules linked fits begins w (place_rest w.code.now spot) cs r after late
 
   abbrev Ran' : Inside I → Place → List Caller → Result Ended Stop → Inside I → Type 0
-  Ran' w spot cs r after = Ran seen modules linked fits begins w (place_rest w.now spot) cs r after
+  Ran' w spot cs r after = Ran seen modules linked fits begins w (place_rest w.code.now spot) cs r after
 
-  goes_itself : (w : Inside I) (cs : List Caller) (spot : Place) → IsCode w.now → IsPlace (length (arc_value w.now.tree).stmts) spot → AreCallers cs → MayRun seen modules linked fits begins w (place_rest w.now spot) cs → Goes' w cs spot w cs
+  goes_itself : (w : Inside I) (cs : List Caller) (spot : Place) → IsCode w.code.now → IsPlace (length (arc_value w.code.now.tree).stmts) spot → AreCallers cs → MayRun seen modules linked fits begins w (place_rest w.code.now spot) cs → Goes' w cs spot w cs
   goes_itself w cs spot code place callers run = record {
     code = code;
     place = place;
@@ -97,18 +98,18 @@ module _ {I S : Type 0} (seen : I → S) (modules : S → Modules ℕ) (linked :
   -- no step was taken so far
   pub record Midway (w : Inside I) (first : Place) (cs : List Caller) (mid : Inside I) (spot : Place) (ds : List Caller) : Type 0 where
     pub here : Goes' w cs spot mid ds
-    pub leads : Leads' w (place_rest w.now first) cs spot mid ds
+    pub leads : Leads' w (place_rest w.code.now first) cs spot mid ds
     pub steps : steps_of mid ≡ steps_of w
 
-  pub midway_begins : (w : Inside I) (first : Place) (cs : List Caller) → IsCode w.now → IsPlace (length (arc_value w.now.tree).stmts) first → AreCallers cs → MayRun seen modules linked fits begins w (place_rest w.now first) cs → Midway w first cs w first cs
+  pub midway_begins : (w : Inside I) (first : Place) (cs : List Caller) → IsCode w.code.now → IsPlace (length (arc_value w.code.now.tree).stmts) first → AreCallers cs → MayRun seen modules linked fits begins w (place_rest w.code.now first) cs → Midway w first cs w first cs
   midway_begins w first cs code place callers run = record { here = goes_itself w cs first code place callers run; leads = λ how end h. h; steps = refl }
 
   module _ (some : BeginsSome modules linked fits begins) (one : BeginsOne begins) (w mid after : Inside I) (first spot : Place) (cs ds late : List Caller) (m : Midway w first cs mid spot ds) where
     advances : (next : Place) → Went' mid spot ds (Ok (n.Goes next)) after late → Advances (At mid) (At after) (left_of mid spot ds) (left_of after next late)
-    advances next h = leads_lighter seen modules linked fits begins some one m.here.run.0 (At mid) mid.now.at.0 h.0 m.here.run.1.run
+    advances next h = leads_lighter seen modules linked fits begins some one m.here.run.0 (At mid) mid.code.now.at.0 h.0 m.here.run.1.run
 
-    leads_on : (next : Place) → Went' mid spot ds (Ok (n.Goes next)) after late → Leads' w (place_rest w.now first) cs next after late
-    leads_on next h how end s = m.leads how end (leads_end seen modules linked fits begins some one m.here.run.0 (At mid) mid.now.at.0 how end h.0 s)
+    leads_on : (next : Place) → Went' mid spot ds (Ok (n.Goes next)) after late → Leads' w (place_rest w.code.now first) cs next after late
+    leads_on next h how end s = m.leads how end (leads_end seen modules linked fits begins some one m.here.run.0 (At mid) mid.code.now.at.0 how end h.0 s)
 
     same_steps : (next : Place) → Went' mid spot ds (Ok (n.Goes next)) after late → steps_of after ≤ steps_of w → steps_of after ≡ steps_of mid
     same_steps next h few = let a : steps_of mid ≤ steps_of after = (advances next h).more in let e = m.steps in omega (arith, a, e, few)
@@ -131,22 +132,22 @@ module _ {I S : Type 0} (seen : I → S) (modules : S → Modules ℕ) (linked :
 
     pub midway_ends : (how : Ended) → Went' mid spot ds (Ok (n.Over how)) after late → Stepped' w first cs (Ok (n.Over how)) after late
     midway_ends how h =
-        let end : ended ℕ = ended_of how after.now in
-        (m.leads end (At after) (leads_end seen modules linked fits begins some one m.here.run.0 (At mid) mid.now.at.0 end (At after) h.0 (refl, refl)), over_both w mid after cs ds spot how m.here h.1)
+        let end : ended ℕ = ended_of how after.code.now in
+        (m.leads end (At after) (leads_end seen modules linked fits begins some one m.here.run.0 (At mid) mid.code.now.at.0 end (At after) h.0 (refl, refl)), over_both w mid after cs ds spot how m.here h.1)
 
     pub midway_stops : (stop : Stop) → Went' mid spot ds (Err stop) after late → Stepped' w first cs (Err stop) after late
     midway_stops (stops.Limit limit) h =
         let end : ended ℕ = ended.Stopped limit in
-        (m.leads end (At after) (leads_end seen modules linked fits begins some one m.here.run.0 (At mid) mid.now.at.0 end (At after) h.0 (refl, refl)), keeps_both seen modules linked fits begins m.here.keeps h.1 m.here.links)
+        (m.leads end (At after) (leads_end seen modules linked fits begins some one m.here.run.0 (At mid) mid.code.now.at.0 end (At after) h.0 (refl, refl)), keeps_both seen modules linked fits begins m.here.keeps h.1 m.here.links)
     midway_stops stops.Memory h = tt
 
   -- ---- up to the end
 
   pub record Onway (w : Inside I) (first : Place) (cs : List Caller) (mid : Inside I) (spot : Place) (ds : List Caller) : Type 0 where
     pub here : Goes' w cs spot mid ds
-    pub leads : Leads' w (place_rest w.now first) cs spot mid ds
+    pub leads : Leads' w (place_rest w.code.now first) cs spot mid ds
 
-  pub onway_begins : (w : Inside I) (first : Place) (cs : List Caller) → IsCode w.now → IsPlace (length (arc_value w.now.tree).stmts) first → AreCallers cs → MayRun seen modules linked fits begins w (place_rest w.now first) cs → Onway w first cs w first cs
+  pub onway_begins : (w : Inside I) (first : Place) (cs : List Caller) → IsCode w.code.now → IsPlace (length (arc_value w.code.now.tree).stmts) first → AreCallers cs → MayRun seen modules linked fits begins w (place_rest w.code.now first) cs → Onway w first cs w first cs
   onway_begins w first cs code place callers run = record { here = goes_itself w cs first code place callers run; leads = λ how end h. h }
 
   module _ (w mid after : Inside I) (first spot : Place) (cs ds late : List Caller) where
@@ -154,7 +155,7 @@ module _ {I S : Type 0} (seen : I → S) (modules : S → Modules ℕ) (linked :
     onway_goes_on next m h = record { here = goes_both w mid after cs ds late spot next m.here h.1; leads = λ how end s. m.leads how end (h.0 how end s) }
 
     pub onway_ends : (how : Ended) → Onway w first cs mid spot ds → Stepped' mid spot ds (Ok (n.Over how)) after late → Ran' w first cs (Ok how) after
-    onway_ends how m h = (m.leads (ended_of how after.now) (At after) h.0, over_both w mid after cs ds spot how m.here h.1)
+    onway_ends how m h = (m.leads (ended_of how after.code.now) (At after) h.0, over_both w mid after cs ds spot how m.here h.1)
 
     pub onway_stops : (stop : Stop) → Onway w first cs mid spot ds → Stepped' mid spot ds (Err stop) after late → Ran' w first cs (Err stop) after
     onway_stops (stops.Limit limit) m h = (m.leads (ended.Stopped limit) (At after) h.0, keeps_both seen modules linked fits begins m.here.keeps h.1 m.here.links)
@@ -169,7 +170,7 @@ module _ {I S : Type 0} (seen : I → S) (modules : S → Modules ℕ) (linked :
   module _ (w mid after : Inside I) (late : List Caller) (out : Outcome) (spot : Place) (h : Followed seen modules linked fits begins w [] out (Ok (n.Goes spot)) mid late) where
     pub ran_behind : (r : Result Ended Stop) → Ran' mid spot late r after → RanBehind seen modules linked fits begins w out r after
     ran_behind (Ok how) s = (
-      subst (λ z. EndsSo nat_eq modules begins z (ended_of how after.now) (At after)) (sym h.0) s.0,
+      subst (λ z. EndsSo nat_eq modules begins z (ended_of how after.code.now) (At after)) (sym h.0) s.0,
       record {
         code = s.1.code;
         ended = s.1.ended;
@@ -185,16 +186,16 @@ module _ {I S : Type 0} (seen : I → S) (modules : S → Modules ℕ) (linked :
     ran_behind (Err stops.Memory) s = tt
 
   -- the outcome was the end
-  pub ended_behind : (w mid : Inside I) (late : List Caller) (awaits : Bool) (out : Outcome) (how : Ended) → IsCode w.now → FollowsFit seen modules linked fits begins w awaits [] out → Followed seen modules linked fits begins w [] out (Ok (n.Over how)) mid late
+  pub ended_behind : (w mid : Inside I) (late : List Caller) (awaits : Bool) (out : Outcome) (how : Ended) → IsCode w.code.now → FollowsFit seen modules linked fits begins w awaits [] out → Followed seen modules linked fits begins w [] out (Ok (n.Over how)) mid late
       → RanBehind seen modules linked fits begins w out (Ok how) mid
   ended_behind w mid late awaits out how code fit h = (
-    subst (λ z. EndsSo nat_eq modules begins z (ended_of how mid.now) (At mid)) (sym h.0) (refl, refl),
+    subst (λ z. EndsSo nat_eq modules begins z (ended_of how mid.code.now) (At mid)) (sym h.0) (refl, refl),
     record {
-      code = subst (λ (x : Inside I). IsCode x.now) (sym h.1.same) code;
+      code = subst (λ (x : Inside I). IsCode x.code.now) (sym h.1.same) code;
       ended = h.1.ended;
       belongs = h.1.belongs;
       keeps = subst (λ (x : Inside I). Kept w x) (sym h.1.same) (keeps_itself seen modules linked fits begins w fit.made);
-      body = ap (λ (x : Inside I). x.now.at) h.1.same;
+      body = ap (λ (x : Inside I). x.code.now.at) h.1.same;
     },
   )
 

@@ -1,6 +1,6 @@
 -- Parts of the proof of a turn: what code under way keeps, and rewritings of its innermost block.
 use Rattle.std.proofs.Common.{◌≡◌, ℕ, nat_eq, Bool, true, false, List, [], ◌∷◌, length, Option, Some, None, refl, ap, subst, sym, ◌∙◌, arith, MutBor}
-use Rattle.std.specs.Prelude.{Result, Ok, Err}
+use Rattle.std.specs.Prelude.{Result, Ok, Err, is_some}
 use Rattle.std.specs.Arc.{arc_value}
 use Rattle.esm_base.specs.declared.limits.Limit.{Limit}
 use Rattle.esm_base.specs.declared.module_id.ModuleId.{ModuleId}
@@ -21,6 +21,7 @@ use Rattle.esm_env.specs.Calls.{scopes_of}
 use Rattle.esm_env.specs.Scopes.{scope_in, own_cell, cell_by}
 use Rattle.esm_env.specs.declared.envs.Envs.{Envs}
 use Rattle.esm_env.specs.declared.slots.Slot.{Slot}
+use Rattle.esm_body.specs.SameScopes.{HaveSameScopes}
 use Rattle.esm_body.specs.Scopes.{Scope}
 use Rattle.esm_body.specs.Rest.{Part, Rest, more}
 use Rattle.esm_body.specs.State.{State, Importing, steps_by}
@@ -29,10 +30,11 @@ use Rattle.esm_body.specs.BodyRewriting.{RewrittenBody, On, Gives, Waits, Rewrit
 use Rattle.esm_body.specs.Segment.{RewritesOutermost}
 use Rattle.esm_body.specs.Fits.{Kind, HoldsPart, HoldsRest, HoldScopes, FitsState, Knows}
 use Rattle.esm_body.specs.Inner.Chains.{Turns}
-use Rattle.esm_body.specs.Inner.Contexts.{Context, Block, Trying, scopes_in, surrounded, retaken, caught_in}
-use Rattle.esm_body.specs.Inner.Declared.{IsNameOf, SetsRest}
-use Rattle.esm_body.specs.Inner.Stack.{innermost, in_front_of, scopes_round}
-use Rattle.esm_body.specs.Inner.World.{state_in, inner_of, HasScopes, IsSame, IsReady}
+use Rattle.esm_body.specs.Contexts.{Context, Block, Trying, scopes_in, surrounded, retaken, caught_in}
+use Rattle.esm_body.specs.Sets.{IsNameOf, SetsRest}
+use Rattle.esm_body.specs.Inner.Stack.{scopes_round}
+use Rattle.esm_body.specs.Code.{innermost, in_front_of}
+use Rattle.esm_body.specs.Inner.World.{state_in, inner_of, HasScopes, IsSame, CodeIsWhole, with_code}
 use Rattle.esm_body.specs.Inner.Written.{IsLike}
 use Rattle.esm_body.specs.Inner.Turn.{code_rest, code_contexts, SameLoans, TreesStay, IsReadyFor, TurnsTo, Moved, move_of, Keeps, Came, Turned, Threw, ThrewTo}
 use Rattle.esm_body.specs.declared.engine.Engine.{Engine}
@@ -54,11 +56,12 @@ apart e = cc
 
 module _ {I : Type 0} where
   pub loans_itself : (w : Inside I) → SameLoans w w
-  loans_itself w = record { alloc = refl; engine = refl; standing = refl; errors = refl; envs = refl; promises = refl; imports = refl }
+  loans_itself w = record { alloc = refl; code = refl; engine = refl; standing = refl; errors = refl; envs = refl; promises = refl; imports = refl }
 
   pub loans_both : {w x y : Inside I} → SameLoans w x → SameLoans x y → SameLoans w y
   loans_both a b = record {
     alloc = b.alloc ∙ a.alloc;
+    code = b.code ∙ a.code;
     engine = b.engine ∙ a.engine;
     standing = b.standing ∙ a.standing;
     errors = b.errors ∙ a.errors;
@@ -68,11 +71,12 @@ module _ {I : Type 0} where
   }
 
   pub loans_same : (w after : Inside I) → IsSame w after → SameLoans w after
-  loans_same w after s = record { alloc = s.alloc; engine = s.engine; standing = s.standing; errors = s.errors; envs = ap (λ (e : MutBor Envs). e.ghost_name) s.envs; promises = s.promises; imports = s.imports }
+  loans_same w after s = record { alloc = s.alloc; code = s.code; engine = s.engine; standing = s.standing; errors = s.errors; envs = ap (λ (e : MutBor Envs). e.ghost_name) s.envs; promises = s.promises; imports = s.imports }
 
   pub loans_like : (w after : Inside I) → IsLike w after → SameLoans w after
   loans_like w after s = record {
     alloc = s.alloc;
+    code = s.code;
     engine = ap (λ (e : MutBor Engine). e.ghost_name) s.engine;
     standing = ap (λ (e : MutBor Engine). e.now.standing) s.engine;
     errors = s.errors;
@@ -117,20 +121,22 @@ module _ {I S : Type 0} (seen : I → S) (modules : S → Modules ℕ) (linked :
   K w v = Knows modules linked (seen w.imports.now) v
 
   pub keeps_itself : (w : Inside I) → Scoped w → Kept w w
-  keeps_itself w s = record { made = s; trees = λ m l. refl; loans = loans_itself w }
+  keeps_itself w s = record { made = s; trees = λ m l. refl; scopes = λ m. refl; loans = loans_itself w }
 
-  pub keeps_now : (w y : Inside I) (n : Activation) → Kept w y → Kept w (record y { now = n })
+  pub keeps_now : (w y : Inside I) (n : Activation) → Kept w y → Kept w (with_code y n)
   keeps_now w y n k = record {
     made = k.made;
     trees = k.trees;
-    loans = record { alloc = k.loans.alloc; engine = k.loans.engine; standing = k.loans.standing; errors = k.loans.errors; envs = k.loans.envs; promises = k.loans.promises; imports = k.loans.imports };
+    scopes = k.scopes;
+    loans = record { alloc = k.loans.alloc; code = k.loans.code; engine = k.loans.engine; standing = k.loans.standing; errors = k.loans.errors; envs = k.loans.envs; promises = k.loans.promises; imports = k.loans.imports };
   }
 
-  pub keeps_from : (w y : Inside I) (n : Activation) → Kept (record w { now = n }) y → Kept w y
+  pub keeps_from : (w y : Inside I) (n : Activation) → Kept (with_code w n) y → Kept w y
   keeps_from w y n k = record {
     made = k.made;
     trees = k.trees;
-    loans = record { alloc = k.loans.alloc; engine = k.loans.engine; standing = k.loans.standing; errors = k.loans.errors; envs = k.loans.envs; promises = k.loans.promises; imports = k.loans.imports };
+    scopes = k.scopes;
+    loans = record { alloc = k.loans.alloc; code = k.loans.code; engine = k.loans.engine; standing = k.loans.standing; errors = k.loans.errors; envs = k.loans.envs; promises = k.loans.promises; imports = k.loans.imports };
   }
 
   pub trees_same : (w after : Inside I) → Scoped w → Scoped after → after.envs ≡ w.envs → Trees w after
@@ -139,6 +145,9 @@ module _ {I S : Type 0} (seen : I → S) (modules : S → Modules ℕ) (linked :
       let there : scope_in (scopes_of after.envs.now) m ≡ Some s.0 = ap (λ (v : MutBor Envs). scope_in (scopes_of v.now) m) e ∙ s.1 in
       sym (b.trees m s.0 there) ∙ a.trees m s.0 s.1
 
+  scopes_same : (w after : Inside I) → after.envs ≡ w.envs → HaveSameScopes (scopes_of w.envs.now) (scopes_of after.envs.now)
+  scopes_same w after e m = ap (λ (v : MutBor Envs). is_some (scope_in (scopes_of v.now) m)) e
+
   pub trees_like : (w after : Inside I) → IsLike w after → Trees w after
   trees_like w after like m l = ap (λ (i : MutBor I). (modules (seen i.now)).tree m) like.imports
 
@@ -146,27 +155,27 @@ module _ {I S : Type 0} (seen : I → S) (modules : S → Modules ℕ) (linked :
   Linked w x = (m : ℕ) → linked (seen w.imports.now) m ≡ true → linked (seen x.imports.now) m ≡ true
 
   pub keeps_both : {w x y : Inside I} → Kept w x → Kept x y → Linked w x → Kept w y
-  keeps_both a b k = record { made = b.made; trees = λ m l. b.trees m (k m l) ∙ a.trees m l; loans = loans_both a.loans b.loans }
+  keeps_both a b k = record { made = b.made; trees = λ m l. b.trees m (k m l) ∙ a.trees m l; scopes = λ m. b.scopes m ∙ a.scopes m; loans = loans_both a.loans b.loans }
 
   pub keeps_same : (w after : Inside I) → Scoped w → IsSame w after → Scoped after → Kept w after
-  keeps_same w after a s b = record { made = b; trees = trees_same w after a b s.envs; loans = loans_same w after s }
+  keeps_same w after a s b = record { made = b; trees = trees_same w after a b s.envs; scopes = scopes_same w after s.envs; loans = loans_same w after s }
 
   pub keeps_like : (w after : Inside I) → IsLike w after → Scoped after → Kept w after
-  keeps_like w after s b = record { made = b; trees = trees_like w after s; loans = loans_like w after s }
+  keeps_like w after s b = record { made = b; trees = trees_like w after s; scopes = s.scopes; loans = loans_like w after s }
 
   -- ---- what is ready
 
   abbrev inner_rest : Inside I → Rest CodeValue
-  inner_rest w = innermost (arc_value w.now.tree).stmts w.now.levels.items
+  inner_rest w = innermost (arc_value w.code.now.tree).stmts w.code.now.levels.items
 
-  pub part_held : (w : Inside I) (k : Kind) (p : Part CodeValue) → Ready w k (in_front_of w.now p) → HoldsPart (K w) ⊥ k p
-  part_held w k p r = (held_inside (K w) ⊥ k (code_contexts w.now) (more p (inner_rest w)) r.holds).0.0
+  pub part_held : (w : Inside I) (k : Kind) (p : Part CodeValue) → Ready w k (in_front_of w.code.now p) → HoldsPart (K w) ⊥ k p
+  part_held w k p r = (held_inside (K w) ⊥ k (code_contexts w.code.now) (more p (inner_rest w)) r.holds).0.0
 
-  pub scopes_held : (w : Inside I) (k : Kind) (p : Part CodeValue) → Ready w k (in_front_of w.now p) → HoldScopes (K w) (scopes_round w.now.levels.items)
+  pub scopes_held : (w : Inside I) (k : Kind) (p : Part CodeValue) → Ready w k (in_front_of w.code.now p) → HoldScopes (K w) (scopes_round w.code.now.levels.items)
   scopes_held w k p r =
-      subst (HoldScopes (K w)) (scopes_are (arc_value w.now.tree).stmts w.now.levels.items) (held_inside (K w) ⊥ k (code_contexts w.now) (more p (inner_rest w)) r.holds).1
+      subst (HoldScopes (K w)) (scopes_are (arc_value w.code.now.tree).stmts w.code.now.levels.items) (held_inside (K w) ⊥ k (code_contexts w.code.now) (more p (inner_rest w)) r.holds).1
 
-  pub is_ready : (w : Inside I) (k : Kind) (p : Part CodeValue) → Ready w k (in_front_of w.now p) → IsReady seen modules linked fits begins w
+  pub is_ready : (w : Inside I) (k : Kind) (p : Part CodeValue) → Ready w k (in_front_of w.code.now p) → CodeIsWhole seen modules linked fits begins w
   is_ready w k p r = record { state = r.state; scopes = scopes_held w k p r; home = r.home; made = r.made }
 
   has_cell : (m : ℕ) (items : List Item) (o : Option Slot) (x : List ℕ) → IsNameOf items x → SlotFits m o (initial items x) → (c : Cell CodeValue) × (cell_in o ≡ Some c)
@@ -174,114 +183,114 @@ module _ {I S : Type 0} (seen : I → S) (modules : S → Modules ℕ) (linked :
   has_cell m items (Some s) x n h = (slot_cell s, refl)
 
   -- a name of its module has a cell
-  pub declared_cell : (w : Inside I) (k : Kind) (r : Rest CodeValue) → Ready w k r → (x : List ℕ) → IsNameOf (arc_value w.now.tree).items x → (c : Cell CodeValue) × (own_cell (scopes_of w.envs.now) w.now.at.0 x ≡ Some c)
+  pub declared_cell : (w : Inside I) (k : Kind) (r : Rest CodeValue) → Ready w k r → (x : List ℕ) → IsNameOf (arc_value w.code.now.tree).items x → (c : Cell CodeValue) × (own_cell (scopes_of w.envs.now) w.code.now.at.0 x ≡ Some c)
   declared_cell w k r h x n =
-      let s = h.made.made w.now.at.0 h.home in
-      let f = h.made.faithful w.now.at.0 s.0 s.1 in
-      let c = has_cell w.now.at.0 (arc_value w.now.tree).items (slot_in s.0.slots.items x) x n (subst (λ items. SlotFits w.now.at.0 (slot_in s.0.slots.items x) (initial items x)) h.tree (f.slots x)) in
+      let s = h.made.made w.code.now.at.0 h.home in
+      let f = h.made.faithful w.code.now.at.0 s.0 s.1 in
+      let c = has_cell w.code.now.at.0 (arc_value w.code.now.tree).items (slot_in s.0.slots.items x) x n (subst (λ items. SlotFits w.code.now.at.0 (slot_in s.0.slots.items x) (initial items x)) h.tree (f.slots x)) in
       (c.0, ap (λ o. cell_by o x) s.1 ∙ c.1)
 
   -- ---- rewritings of the innermost block
 
   abbrev pub Front : Inside I → Rest CodeValue → RewrittenBody CodeValue Limit → Inner ℕ S → Type 0
-  Front w r move after = RewritesBody nat_eq modules begins w.now.at.0 (inner_of seen w) r move after
+  Front w r move after = RewritesBody nat_eq modules begins w.code.now.at.0 (inner_of seen w) r move after
 
   abbrev Outermost : Inside I → Rest CodeValue → RewrittenBody CodeValue Limit → State ℕ S → Type 0
-  Outermost w r move late = RewritesOutermost nat_eq modules begins w.now.at.0 (At w) r move late
+  Outermost w r move late = RewritesOutermost nat_eq modules begins w.code.now.at.0 (At w) r move late
 
   -- over the scopes of what is round
   over_contexts : (w : Inside I) (r : Rest CodeValue) (move : RewrittenBody CodeValue Limit) (after : Inner ℕ S) → Front w r move after
-      → RewritesBody nat_eq modules begins w.now.at.0 (record { scopes = scopes_in (code_contexts w.now); state = At w }) r move after
+      → RewritesBody nat_eq modules begins w.code.now.at.0 (record { scopes = scopes_in (code_contexts w.code.now); state = At w }) r move after
   over_contexts w r move after d =
-      subst (λ ss. RewritesBody nat_eq modules begins w.now.at.0 (record { scopes = ss; state = At w }) r move after) (sym (scopes_are (arc_value w.now.tree).stmts w.now.levels.items)) d
+      subst (λ ss. RewritesBody nat_eq modules begins w.code.now.at.0 (record { scopes = ss; state = At w }) r move after) (sym (scopes_are (arc_value w.code.now.tree).stmts w.code.now.levels.items)) d
 
-  kept_scopes : (w : Inside I) (after : Inner ℕ S) → after.scopes ≡ scopes_round w.now.levels.items → after.scopes ≡ scopes_in (code_contexts w.now)
-  kept_scopes w after e = e ∙ sym (scopes_are (arc_value w.now.tree).stmts w.now.levels.items)
+  kept_scopes : (w : Inside I) (after : Inner ℕ S) → after.scopes ≡ scopes_round w.code.now.levels.items → after.scopes ≡ scopes_in (code_contexts w.code.now)
+  kept_scopes w after e = e ∙ sym (scopes_are (arc_value w.code.now.tree).stmts w.code.now.levels.items)
 
-  pub front_goes : (w : Inside I) (r s : Rest CodeValue) (after : Inner ℕ S) → after.scopes ≡ scopes_round w.now.levels.items → Front w r (On (comes.Goes s)) after
-      → Outermost w (surrounded (code_contexts w.now) r) (On (comes.Goes (surrounded (code_contexts w.now) s))) after.state
-  front_goes w r s after e d = outer_goes nat_eq modules begins w.now.at.0 (code_contexts w.now) (At w) r s after (kept_scopes w after e) (over_contexts w r _ after d)
+  pub front_goes : (w : Inside I) (r s : Rest CodeValue) (after : Inner ℕ S) → after.scopes ≡ scopes_round w.code.now.levels.items → Front w r (On (comes.Goes s)) after
+      → Outermost w (surrounded (code_contexts w.code.now) r) (On (comes.Goes (surrounded (code_contexts w.code.now) s))) after.state
+  front_goes w r s after e d = outer_goes nat_eq modules begins w.code.now.at.0 (code_contexts w.code.now) (At w) r s after (kept_scopes w after e) (over_contexts w r _ after d)
 
-  pub front_stops : (w : Inside I) (r : Rest CodeValue) (why : Limit) (after : Inner ℕ S) → after.scopes ≡ scopes_round w.now.levels.items → Front w r (On (comes.Stops why)) after
-      → Outermost w (surrounded (code_contexts w.now) r) (On (comes.Stops why)) after.state
-  front_stops w r why after e d = outer_stops nat_eq modules begins w.now.at.0 (code_contexts w.now) (At w) r why after (kept_scopes w after e) (over_contexts w r _ after d)
+  pub front_stops : (w : Inside I) (r : Rest CodeValue) (why : Limit) (after : Inner ℕ S) → after.scopes ≡ scopes_round w.code.now.levels.items → Front w r (On (comes.Stops why)) after
+      → Outermost w (surrounded (code_contexts w.code.now) r) (On (comes.Stops why)) after.state
+  front_stops w r why after e d = outer_stops nat_eq modules begins w.code.now.at.0 (code_contexts w.code.now) (At w) r why after (kept_scopes w after e) (over_contexts w r _ after d)
 
-  pub front_gives : (w : Inside I) (r : Rest CodeValue) (v : CodeValue) (after : Inner ℕ S) → after.scopes ≡ scopes_round w.now.levels.items → Front w r (Gives v) after
-      → Outermost w (surrounded (code_contexts w.now) r) (Gives v) after.state
-  front_gives w r v after e d = outer_gives nat_eq modules begins w.now.at.0 (code_contexts w.now) (At w) r v after (kept_scopes w after e) (over_contexts w r _ after d)
+  pub front_gives : (w : Inside I) (r : Rest CodeValue) (v : CodeValue) (after : Inner ℕ S) → after.scopes ≡ scopes_round w.code.now.levels.items → Front w r (Gives v) after
+      → Outermost w (surrounded (code_contexts w.code.now) r) (Gives v) after.state
+  front_gives w r v after e d = outer_gives nat_eq modules begins w.code.now.at.0 (code_contexts w.code.now) (At w) r v after (kept_scopes w after e) (over_contexts w r _ after d)
 
-  pub front_waits : (w : Inside I) (r s : Rest CodeValue) (v : CodeValue) (after : Inner ℕ S) → after.scopes ≡ scopes_round w.now.levels.items → Front w r (Waits v s) after
-      → Outermost w (surrounded (code_contexts w.now) r) (Waits v (surrounded (code_contexts w.now) s)) after.state
-  front_waits w r s v after e d = outer_waits nat_eq modules begins w.now.at.0 (code_contexts w.now) (At w) r s v after (kept_scopes w after e) (over_contexts w r _ after d)
+  pub front_waits : (w : Inside I) (r s : Rest CodeValue) (v : CodeValue) (after : Inner ℕ S) → after.scopes ≡ scopes_round w.code.now.levels.items → Front w r (Waits v s) after
+      → Outermost w (surrounded (code_contexts w.code.now) r) (Waits v (surrounded (code_contexts w.code.now) s)) after.state
+  front_waits w r s v after e d = outer_waits nat_eq modules begins w.code.now.at.0 (code_contexts w.code.now) (At w) r s v after (kept_scopes w after e) (over_contexts w r _ after d)
 
-  pub front_throws : (w : Inside I) (r : Rest CodeValue) (v : CodeValue) (after : Inner ℕ S) → after.scopes ≡ scopes_round w.now.levels.items → Front w r (On (comes.Leaves v)) after
-      → Outermost w (surrounded (code_contexts w.now) r) (caught_in (code_contexts w.now) v) after.state
+  pub front_throws : (w : Inside I) (r : Rest CodeValue) (v : CodeValue) (after : Inner ℕ S) → after.scopes ≡ scopes_round w.code.now.levels.items → Front w r (On (comes.Leaves v)) after
+      → Outermost w (surrounded (code_contexts w.code.now) r) (caught_in (code_contexts w.code.now) v) after.state
   front_throws w r v after e d =
-      subst (λ move. Outermost w (surrounded (code_contexts w.now) r) move after.state) (thrown_is nat_eq modules begins w.now.at.0 (code_contexts w.now) v)
-      (outer_throws nat_eq modules begins w.now.at.0 (code_contexts w.now) (At w) r v after (kept_scopes w after e) (over_contexts w r _ after d))
+      subst (λ move. Outermost w (surrounded (code_contexts w.code.now) r) move after.state) (thrown_is nat_eq modules begins w.code.now.at.0 (code_contexts w.code.now) v)
+      (outer_throws nat_eq modules begins w.code.now.at.0 (code_contexts w.code.now) (At w) r v after (kept_scopes w after e) (over_contexts w r _ after d))
 
-  pub rest_is : (w : Inside I) → surrounded (code_contexts w.now) (inner_rest w) ≡ code_rest w.now
-  rest_is w = levels_surround (arc_value w.now.tree).stmts w.now.levels.items
+  pub rest_is : (w : Inside I) → surrounded (code_contexts w.code.now) (inner_rest w) ≡ code_rest w.code.now
+  rest_is w = levels_surround (arc_value w.code.now.tree).stmts w.code.now.levels.items
 
   -- ---- outcomes
 
   -- a throw of what y has come to leads to the handler, or out
-  pub threw_moved : (w y after : Inside I) (r : Rest CodeValue) (v : Value) (out : Outcome) → ThrewTo y v out after → Turns nat_eq modules begins w.now.at.0 (At w) r (caught_in (code_contexts y.now) (value_of v)) (At y)
+  pub threw_moved : (w y after : Inside I) (r : Rest CodeValue) (v : Value) (out : Outcome) → ThrewTo y v out after → Turns nat_eq modules begins w.code.now.at.0 (At w) r (caught_in (code_contexts y.code.now) (value_of v)) (At y)
       → Moved seen modules linked fits begins w r out after
   threw_moved w y after r v o.On t d =
-      subst (λ z. Turns nat_eq modules begins w.now.at.0 (At w) r (On (comes.Goes (code_rest after.now))) z) (sym (ap (λ (z : Inside I). state_in seen z) t.rest))
-      (subst (λ move. Turns nat_eq modules begins w.now.at.0 (At w) r move (At y)) t.leads d)
+      subst (λ z. Turns nat_eq modules begins w.code.now.at.0 (At w) r (On (comes.Goes (code_rest after.code.now))) z) (sym (ap (λ (z : Inside I). state_in seen z) t.rest))
+      (subst (λ move. Turns nat_eq modules begins w.code.now.at.0 (At w) r move (At y)) t.leads d)
   threw_moved w y after r v o.Done t d = absurd t.leads
   threw_moved w y after r v (o.Returns u) t d = absurd t.leads
   threw_moved w y after r v (o.Thrown u) t d =
-      subst (λ z. Turns nat_eq modules begins w.now.at.0 (At w) r (On (comes.Leaves (value_of u))) z) (sym (ap (λ (z : Inside I). state_in seen z) t.rest))
-      (subst (λ move. Turns nat_eq modules begins w.now.at.0 (At w) r move (At y)) (t.leads.0 ∙ ap (λ (u : Value). On (comes.Leaves (value_of u))) (sym t.leads.1)) d)
+      subst (λ z. Turns nat_eq modules begins w.code.now.at.0 (At w) r (On (comes.Leaves (value_of u))) z) (sym (ap (λ (z : Inside I). state_in seen z) t.rest))
+      (subst (λ move. Turns nat_eq modules begins w.code.now.at.0 (At w) r move (At y)) (t.leads.0 ∙ ap (λ (u : Value). On (comes.Leaves (value_of u))) (sym t.leads.1)) d)
   threw_moved w y after r v (o.Calls f vs d') t d = absurd t.leads
   threw_moved w y after r v (o.Waits u purpose) t d = absurd t.leads
 
-  pub threw_came : (w y after : Inside I) (r : Rest CodeValue) (v : Value) (out : Outcome) → y.now.at ≡ w.now.at → y.now.tree ≡ w.now.tree → Kept w y → ThrewTo y v out after
-      → Turns nat_eq modules begins w.now.at.0 (At w) r (caught_in (code_contexts y.now) (value_of v)) (At y) → Came seen modules linked fits begins w r out after
+  pub threw_came : (w y after : Inside I) (r : Rest CodeValue) (v : Value) (out : Outcome) → y.code.now.at ≡ w.code.now.at → y.code.now.tree ≡ w.code.now.tree → Kept w y → ThrewTo y v out after
+      → Turns nat_eq modules begins w.code.now.at.0 (At w) r (caught_in (code_contexts y.code.now) (value_of v)) (At y) → Came seen modules linked fits begins w r out after
   threw_came w y after r v out at tree k t d = record {
     moved = threw_moved w y after r v out t d;
     same = record { at = t.same.at ∙ at; tree = t.same.tree ∙ tree; code = t.same.code; outcome = t.same.outcome };
-    keeps = subst (λ z. Kept w z) (sym t.rest) (keeps_now w y after.now k);
+    keeps = subst (λ z. Kept w z) (sym t.rest) (keeps_now w y after.code.now k);
   }
 
-  pub threw_turned : (w y after : Inside I) (r : Rest CodeValue) (v : Value) (result : Result Outcome Stop) → y.now.at ≡ w.now.at → y.now.tree ≡ w.now.tree → Kept w y → Threw y v result after
-      → Turns nat_eq modules begins w.now.at.0 (At w) r (caught_in (code_contexts y.now) (value_of v)) (At y) → Turned seen modules linked fits begins w r result after
+  pub threw_turned : (w y after : Inside I) (r : Rest CodeValue) (v : Value) (result : Result Outcome Stop) → y.code.now.at ≡ w.code.now.at → y.code.now.tree ≡ w.code.now.tree → Kept w y → Threw y v result after
+      → Turns nat_eq modules begins w.code.now.at.0 (At w) r (caught_in (code_contexts y.code.now) (value_of v)) (At y) → Turned seen modules linked fits begins w r result after
   threw_turned w y after r v (Ok out) at tree k t d = threw_came w y after r v out at tree k t d
   threw_turned w y after r v (Err (stops.Limit limit)) at tree k t d = absurd t
   threw_turned w y after r v (Err stops.Memory) at tree k t d = tt
 
   -- other levels of the same code, of which the same remains
-  moved_from : (w after : Inside I) (n : Activation) (r : Rest CodeValue) (out : Outcome) → n.at ≡ w.now.at → Moved seen modules linked fits begins (record w { now = n }) r out after → Moved seen modules linked fits begins w r out after
-  moved_from w after n r o.On e h = subst (λ (a : ModuleId). Turns nat_eq modules begins a.0 (At w) r (move_of o.On after.now) (At after)) e h
+  moved_from : (w after : Inside I) (n : Activation) (r : Rest CodeValue) (out : Outcome) → n.at ≡ w.code.now.at → Moved seen modules linked fits begins (with_code w n) r out after → Moved seen modules linked fits begins w r out after
+  moved_from w after n r o.On e h = subst (λ (a : ModuleId). Turns nat_eq modules begins a.0 (At w) r (move_of o.On after.code.now) (At after)) e h
   moved_from w after n r o.Done e h = h
-  moved_from w after n r (o.Returns v) e h = subst (λ (a : ModuleId). Turns nat_eq modules begins a.0 (At w) r (move_of (o.Returns v) after.now) (At after)) e h
-  moved_from w after n r (o.Thrown v) e h = subst (λ (a : ModuleId). Turns nat_eq modules begins a.0 (At w) r (move_of (o.Thrown v) after.now) (At after)) e h
-  moved_from w after n r (o.Calls f vs d) e h = subst (λ (a : ModuleId). Turns nat_eq modules begins a.0 (At w) r (move_of (o.Calls f vs d) after.now) (At after)) e h
-  moved_from w after n r (o.Waits v p) e h = subst (λ (a : ModuleId). Turns nat_eq modules begins a.0 (At w) r (move_of (o.Waits v p) after.now) (At after)) e h
+  moved_from w after n r (o.Returns v) e h = subst (λ (a : ModuleId). Turns nat_eq modules begins a.0 (At w) r (move_of (o.Returns v) after.code.now) (At after)) e h
+  moved_from w after n r (o.Thrown v) e h = subst (λ (a : ModuleId). Turns nat_eq modules begins a.0 (At w) r (move_of (o.Thrown v) after.code.now) (At after)) e h
+  moved_from w after n r (o.Calls f vs d) e h = subst (λ (a : ModuleId). Turns nat_eq modules begins a.0 (At w) r (move_of (o.Calls f vs d) after.code.now) (At after)) e h
+  moved_from w after n r (o.Waits v p) e h = subst (λ (a : ModuleId). Turns nat_eq modules begins a.0 (At w) r (move_of (o.Waits v p) after.code.now) (At after)) e h
 
-  pub turned_from : (w after : Inside I) (n : Activation) (r s : Rest CodeValue) (result : Result Outcome Stop) → n.at ≡ w.now.at → n.tree ≡ w.now.tree → s ≡ r → Turned seen modules linked fits begins (record w { now = n }) s result after → Turned seen modules linked fits begins w r result after
+  pub turned_from : (w after : Inside I) (n : Activation) (r s : Rest CodeValue) (result : Result Outcome Stop) → n.at ≡ w.code.now.at → n.tree ≡ w.code.now.tree → s ≡ r → Turned seen modules linked fits begins (with_code w n) s result after → Turned seen modules linked fits begins w r result after
   turned_from w after n r s (Ok out) at tree e h = record {
     moved = subst (λ z. Moved seen modules linked fits begins w z out after) e (moved_from w after n s out at h.moved);
     same = record { at = h.same.at ∙ at; tree = h.same.tree ∙ tree; code = h.same.code; outcome = h.same.outcome };
     keeps = keeps_from w after n h.keeps;
   }
   turned_from w after n r s (Err (stops.Limit limit)) at tree e h = record {
-    turns = subst (λ z. Turns nat_eq modules begins w.now.at.0 (At w) z (On (comes.Stops limit)) (At after)) e (subst (λ (a : ModuleId). Turns nat_eq modules begins a.0 (At w) s (On (comes.Stops limit)) (At after)) at h.turns);
+    turns = subst (λ z. Turns nat_eq modules begins w.code.now.at.0 (At w) z (On (comes.Stops limit)) (At after)) e (subst (λ (a : ModuleId). Turns nat_eq modules begins a.0 (At w) s (On (comes.Stops limit)) (At after)) at h.turns);
     keeps = keeps_from w after n h.keeps;
   }
   turned_from w after n r s (Err stops.Memory) at tree e h = tt
 
-  pub ready_from : (w : Inside I) (n : Activation) (k : Kind) (r s : Rest CodeValue) → n.at ≡ w.now.at → n.tree ≡ w.now.tree → r ≡ s → Ready w k r → Ready (record w { now = n }) k s
+  pub ready_from : (w : Inside I) (n : Activation) (k : Kind) (r s : Rest CodeValue) → n.at ≡ w.code.now.at → n.tree ≡ w.code.now.tree → r ≡ s → Ready w k r → Ready (with_code w n) k s
   ready_from w n k r s at tree e h = record {
     state = h.state;
     home = ap (λ (a : ModuleId). linked (seen w.imports.now) a.0) at ∙ h.home;
     holds = subst (HoldsRest (K w) ⊥ k) e h.holds;
     made = h.made;
     tree = rw (at, tree) h.tree;
-    sets = rw tree (subst (SetsRest (IsNameOf (arc_value w.now.tree).items)) e h.sets);
+    sets = rw tree (subst (SetsRest (IsNameOf (arc_value w.code.now.tree).items)) e h.sets);
   }
 
   -- ---- steps
@@ -297,8 +306,8 @@ module _ {I S : Type 0} (seen : I → S) (modules : S → Modules ℕ) (linked :
       (subst (Fine k m v) (sym x) (record { whole = f.0.whole; cells = f.0.cells; standing = f.0.standing }, f.1, f.2, f.3), ap (λ (i : Inner ℕ S). i.scopes) x)
 
   -- behind a step the code is ready still
-  pub ready_stepped : (w y : Inside I) (k : Kind) (v : CodeValue) → IsSame w y → IsReady seen modules linked fits begins w → K w v → Performs nat_eq modules begins w.now.at.0 (inner_of seen w) (act.Step 1) (Ok tt) (inner_of seen y) → Scoped y
-      → IsReady seen modules linked fits begins y × K y v
+  pub ready_stepped : (w y : Inside I) (k : Kind) (v : CodeValue) → IsSame w y → CodeIsWhole seen modules linked fits begins w → K w v → Performs nat_eq modules begins w.code.now.at.0 (inner_of seen w) (act.Step 1) (Ok tt) (inner_of seen y) → Scoped y
+      → CodeIsWhole seen modules linked fits begins y × K y v
   ready_stepped w y k v s r h p made =
-      let f = (stepped_by _ k w.now.at.0 v (inner_of seen w) (inner_of seen y) p (r.state, r.scopes, r.home, h)).0 in
+      let f = (stepped_by _ k w.code.now.at.0 v (inner_of seen w) (inner_of seen y) p (r.state, r.scopes, r.home, h)).0 in
       (record { state = f.0; scopes = f.1; home = subst (λ (n : Activation). linked (seen y.imports.now) n.at.0 ≡ true) (sym s.now) f.2; made = made }, f.3)

@@ -9,10 +9,11 @@ use Rattle.esm_env.specs.Modules.{Modules}
 use Rattle.esm_body.specs.Rest.{Rest, end, more}
 use Rattle.esm_body.specs.State.{Importing}
 use Rattle.esm_body.specs.Fits.{Kind}
-use Rattle.esm_body.specs.Inner.Contexts.{surrounded}
-use Rattle.esm_body.specs.Inner.Stack.{contexts_of, innermost, in_front_of, levels_rest, part_of, AreLevels, IsTaken, IsLeft, IsWork}
-use Rattle.esm_body.specs.Inner.World.{state_in}
-use Rattle.esm_body.specs.Inner.Turn.{IsCode, code_rest, IsReadyFor, MayTurn, Came, Turned}
+use Rattle.esm_body.specs.Contexts.{surrounded}
+use Rattle.esm_body.specs.Inner.Stack.{levels_rest, IsTaken, IsLeft}
+use Rattle.esm_body.specs.Code.{contexts_of, innermost, in_front_of, part_of, AreLevels, IsWork, IsCode}
+use Rattle.esm_body.specs.Inner.World.{state_in, with_code}
+use Rattle.esm_body.specs.Inner.Turn.{code_rest, IsReadyFor, MayTurn, Came, Turned}
 use Rattle.esm_body.specs.declared.log.Stop.{Stop}
 use Rattle.esm_body.specs.declared.inside.Inside.{Inside}
 use Rattle.esm_body.specs.declared.turn.Outcome.{Outcome}
@@ -74,36 +75,36 @@ module _ {I S : Type 0} (seen : I → S) (modules : S → Modules ℕ) (linked :
   Ready w k r = IsReadyFor seen modules linked fits begins w k r
 
   -- a block at its end is left
-  pub leaves_came : (w : Inside I) (n : Activation) (k : Kind) (kind : LevelKind) → Ready w k (code_rest w.now) → innermost (arc_value w.now.tree).stmts w.now.levels.items ≡ end → n.at ≡ w.now.at → n.tree ≡ w.now.tree
-      → IsLeft (arc_value w.now.tree).stmts w.now.levels.items kind n.levels.items → AreLevels (length (arc_value w.now.tree).stmts) n.levels.items → Came seen modules linked fits begins w (code_rest w.now) o.On (record w { now = n })
+  pub leaves_came : (w : Inside I) (n : Activation) (k : Kind) (kind : LevelKind) → Ready w k (code_rest w.code.now) → innermost (arc_value w.code.now.tree).stmts w.code.now.levels.items ≡ end → n.at ≡ w.code.now.at → n.tree ≡ w.code.now.tree
+      → IsLeft (arc_value w.code.now.tree).stmts w.code.now.levels.items kind n.levels.items → AreLevels (length (arc_value w.code.now.tree).stmts) n.levels.items → Came seen modules linked fits begins w (code_rest w.code.now) o.On (with_code w n)
   leaves_came w n k kind r e at tree left levels = record {
-    moved = rw tree (level_ends modules begins w.now.at.0 (arc_value w.now.tree).stmts w.now.levels.items n.levels.items kind (state_in seen w) left e);
+    moved = rw tree (level_ends modules begins w.code.now.at.0 (arc_value w.code.now.tree).stmts w.code.now.levels.items n.levels.items kind (state_in seen w) left e);
     same = record { at = at; tree = tree; code = record { levels = rw tree levels; some = left.some }; outcome = tt };
     keeps = keeps_now seen modules linked fits begins w w n (keeps_itself seen modules linked fits begins w r.made);
   }
 
   -- nothing remains
-  pub ends_came : (w : Inside I) (k : Kind) → IsCode w.now → Ready w k (code_rest w.now) → innermost (arc_value w.now.tree).stmts w.now.levels.items ≡ end → length w.now.levels.items ≤ 1 → Came seen modules linked fits begins w (code_rest w.now) o.Done w
+  pub ends_came : (w : Inside I) (k : Kind) → IsCode w.code.now → Ready w k (code_rest w.code.now) → innermost (arc_value w.code.now.tree).stmts w.code.now.levels.items ≡ end → length w.code.now.levels.items ≤ 1 → Came seen modules linked fits begins w (code_rest w.code.now) o.Done w
   ends_came w k c r e few = record {
-    moved = (one_level (arc_value w.now.tree).stmts w.now.levels.items few e, refl);
+    moved = (one_level (arc_value w.code.now.tree).stmts w.code.now.levels.items few e, refl);
     same = record { at = refl; tree = refl; code = c; outcome = tt };
     keeps = keeps_itself seen modules linked fits begins w r.made;
   }
 
   -- ---- the next part was taken
 
-  module _ (w : Inside I) (n : Activation) (r : Option Work) (at : n.at ≡ w.now.at) (tree : n.tree ≡ w.now.tree) (h : (stmts : List Statement) → IsTaken stmts w.now.levels.items r n.levels.items) where
+  module _ (w : Inside I) (n : Activation) (r : Option Work) (at : n.at ≡ w.code.now.at) (tree : n.tree ≡ w.code.now.tree) (h : (stmts : List Statement) → IsTaken stmts w.code.now.levels.items r n.levels.items) where
     abbrev front : Work → Rest CodeValue
     front one = in_front_of n (part_of (arc_value n.tree).stmts one)
 
-    pub taken_may : (one : Work) → r ≡ Some one → MayTurn seen modules linked fits begins w (code_rest w.now) → MayTurn seen modules linked fits begins (record w { now = n }) (front one)
-    taken_may one e m = (m.0, ready_from seen modules linked fits begins w n m.0 (code_rest w.now) (front one) at tree (taken_is w.now n r tree h one e) m.1)
+    pub taken_may : (one : Work) → r ≡ Some one → MayTurn seen modules linked fits begins w (code_rest w.code.now) → MayTurn seen modules linked fits begins (with_code w n) (front one)
+    taken_may one e m = (m.0, ready_from seen modules linked fits begins w n m.0 (code_rest w.code.now) (front one) at tree (taken_is w.code.now n r tree h one e) m.1)
 
-    pub taken_turned : (after : Inside I) (one : Work) (result : Result Outcome Stop) → r ≡ Some one → Turned seen modules linked fits begins (record w { now = n }) (front one) result after → Turned seen modules linked fits begins w (code_rest w.now) result after
-    taken_turned after one result e t = turned_from seen modules linked fits begins w after n (code_rest w.now) (front one) result at tree (sym (taken_is w.now n r tree h one e)) t
+    pub taken_turned : (after : Inside I) (one : Work) (result : Result Outcome Stop) → r ≡ Some one → Turned seen modules linked fits begins (with_code w n) (front one) result after → Turned seen modules linked fits begins w (code_rest w.code.now) result after
+    taken_turned after one result e t = turned_from seen modules linked fits begins w after n (code_rest w.code.now) (front one) result at tree (sym (taken_is w.code.now n r tree h one e)) t
 
-    pub untaken_may : r ≡ None → MayTurn seen modules linked fits begins w (code_rest w.now) → MayTurn seen modules linked fits begins (record w { now = n }) (code_rest n)
-    untaken_may e m = (m.0, ready_from seen modules linked fits begins w n m.0 (code_rest w.now) (code_rest n) at tree (untaken_is w.now n r tree h e) m.1)
+    pub untaken_may : r ≡ None → MayTurn seen modules linked fits begins w (code_rest w.code.now) → MayTurn seen modules linked fits begins (with_code w n) (code_rest n)
+    untaken_may e m = (m.0, ready_from seen modules linked fits begins w n m.0 (code_rest w.code.now) (code_rest n) at tree (untaken_is w.code.now n r tree h e) m.1)
 
-    pub untaken_turned : (after : Inside I) (result : Result Outcome Stop) → r ≡ None → Turned seen modules linked fits begins (record w { now = n }) (code_rest n) result after → Turned seen modules linked fits begins w (code_rest w.now) result after
-    untaken_turned after result e t = turned_from seen modules linked fits begins w after n (code_rest w.now) (code_rest n) result at tree (sym (untaken_is w.now n r tree h e)) t
+    pub untaken_turned : (after : Inside I) (result : Result Outcome Stop) → r ≡ None → Turned seen modules linked fits begins (with_code w n) (code_rest n) result after → Turned seen modules linked fits begins w (code_rest w.code.now) result after
+    untaken_turned after result e t = turned_from seen modules linked fits begins w after n (code_rest w.code.now) (code_rest n) result at tree (sym (untaken_is w.code.now n r tree h e)) t

@@ -19,10 +19,11 @@ use Rattle.esm_body.specs.Segment.{Ended as ended}
 use Rattle.esm_body.specs.Segment.{Segment as segment}
 use Rattle.esm_body.specs.Fits.{FitsRun, FitCallers, kind_by}
 use Rattle.esm_body.specs.Inner.Chains.{Turns, EndsSo, IsFitNext}
-use Rattle.esm_body.specs.Inner.Declared.{IsNameOf, SetsRest, SetsMove}
-use Rattle.esm_body.specs.Inner.Running.{callers_of, place_rest, body_at, Belongs, CallersBelong, Running, MayRun, done_by, next_after, going, ending, Followed, FollowsFit, MayFollow, LeadsTo, by_turns, by_end, LinksStay, Went}
+use Rattle.esm_body.specs.Sets.{IsNameOf, SetsRest, SetsMove}
+use Rattle.esm_body.specs.Inner.Running.{callers_of, place_rest, body_at, CallersBelong, Running, MayRun, done_by, next_after, going, ending, Followed, FollowsFit, MayFollow, LeadsTo, by_turns, by_end, LinksStay, Went}
+use Rattle.esm_body.specs.Code.{Belongs, IsCode}
 use Rattle.esm_body.specs.Inner.Stack.{caller_of}
-use Rattle.esm_body.specs.Inner.Turn.{IsCode, MayTurn, Moved, Came, Keeps, Turned, move_of}
+use Rattle.esm_body.specs.Inner.Turn.{MayTurn, Moved, Came, Keeps, Turned, move_of}
 use Rattle.esm_body.specs.Inner.World.{state_in}
 use Rattle.esm_body.specs.declared.inside.Inside.{Inside}
 use Rattle.esm_body.specs.declared.log.Stop.{Stop}
@@ -103,27 +104,27 @@ module _ {I S : Type 0} (seen : I → S) (modules : S → Modules ℕ) (linked :
 
   -- ---- what follows, of what a turn comes to
 
-  moved_leads : (w mid : Inside I) (rest : Rest CodeValue) (cs : List Caller) (out : Outcome) (next : Next ℕ S) → mid.now.at ≡ w.now.at → Moved seen modules linked fits begins w rest out mid → next_after seen modules linked fits begins mid cs out ≡ Some next
-      → To (At w) w.now.at.0 rest (callers_of cs) next
-  moved_leads w mid rest cs o.On next at h e = by_turns (move_of o.On mid.now) h (subst (λ (m : ModuleId). next_by nat_eq modules begins m.0 (callers_of cs) (move_of o.On mid.now) (At mid) ≡ Some next) at e)
+  moved_leads : (w mid : Inside I) (rest : Rest CodeValue) (cs : List Caller) (out : Outcome) (next : Next ℕ S) → mid.code.now.at ≡ w.code.now.at → Moved seen modules linked fits begins w rest out mid → next_after seen modules linked fits begins mid cs out ≡ Some next
+      → To (At w) w.code.now.at.0 rest (callers_of cs) next
+  moved_leads w mid rest cs o.On next at h e = by_turns (move_of o.On mid.code.now) h (subst (λ (m : ModuleId). next_by nat_eq modules begins m.0 (callers_of cs) (move_of o.On mid.code.now) (At mid) ≡ Some next) at e)
   moved_leads w mid rest cs o.Done next at h e =
-      subst (λ rest. To (At w) w.now.at.0 rest (callers_of cs) next) (sym h.0) (by_end (subst (λ s. Done' (callers_of cs) s ≡ Some next) h.1 e))
-  moved_leads w mid rest cs (o.Returns v) next at h e = by_turns (move_of (o.Returns v) mid.now) h (subst (λ (m : ModuleId). next_by nat_eq modules begins m.0 (callers_of cs) (move_of (o.Returns v) mid.now) (At mid) ≡ Some next) at e)
-  moved_leads w mid rest cs (o.Thrown v) next at h e = by_turns (move_of (o.Thrown v) mid.now) h (subst (λ (m : ModuleId). next_by nat_eq modules begins m.0 (callers_of cs) (move_of (o.Thrown v) mid.now) (At mid) ≡ Some next) at e)
-  moved_leads w mid rest cs (o.Calls f vs d) next at h e = by_turns (move_of (o.Calls f vs d) mid.now) h (subst (λ (m : ModuleId). next_by nat_eq modules begins m.0 (callers_of cs) (move_of (o.Calls f vs d) mid.now) (At mid) ≡ Some next) at e)
-  moved_leads w mid rest cs (o.Waits v u) next at h e = by_turns (move_of (o.Waits v u) mid.now) h (subst (λ (m : ModuleId). next_by nat_eq modules begins m.0 (callers_of cs) (move_of (o.Waits v u) mid.now) (At mid) ≡ Some next) at e)
+      subst (λ rest. To (At w) w.code.now.at.0 rest (callers_of cs) next) (sym h.0) (by_end (subst (λ s. Done' (callers_of cs) s ≡ Some next) h.1 e))
+  moved_leads w mid rest cs (o.Returns v) next at h e = by_turns (move_of (o.Returns v) mid.code.now) h (subst (λ (m : ModuleId). next_by nat_eq modules begins m.0 (callers_of cs) (move_of (o.Returns v) mid.code.now) (At mid) ≡ Some next) at e)
+  moved_leads w mid rest cs (o.Thrown v) next at h e = by_turns (move_of (o.Thrown v) mid.code.now) h (subst (λ (m : ModuleId). next_by nat_eq modules begins m.0 (callers_of cs) (move_of (o.Thrown v) mid.code.now) (At mid) ≡ Some next) at e)
+  moved_leads w mid rest cs (o.Calls f vs d) next at h e = by_turns (move_of (o.Calls f vs d) mid.code.now) h (subst (λ (m : ModuleId). next_by nat_eq modules begins m.0 (callers_of cs) (move_of (o.Calls f vs d) mid.code.now) (At mid) ≡ Some next) at e)
+  moved_leads w mid rest cs (o.Waits v u) next at h e = by_turns (move_of (o.Waits v u) mid.code.now) h (subst (λ (m : ModuleId). next_by nat_eq modules begins m.0 (callers_of cs) (move_of (o.Waits v u) mid.code.now) (At mid) ≡ Some next) at e)
 
-  moved_sets : (w mid : Inside I) (rest : Rest CodeValue) (out : Outcome) (Has : List ℕ → Type 0) → Moved seen modules linked fits begins w rest out mid → SetsRest Has rest → SetsMove Has (move_of out mid.now)
-  moved_sets w mid rest o.On Has h g = turns_set nat_eq modules begins w.now.at.0 Has h g
+  moved_sets : (w mid : Inside I) (rest : Rest CodeValue) (out : Outcome) (Has : List ℕ → Type 0) → Moved seen modules linked fits begins w rest out mid → SetsRest Has rest → SetsMove Has (move_of out mid.code.now)
+  moved_sets w mid rest o.On Has h g = turns_set nat_eq modules begins w.code.now.at.0 Has h g
   moved_sets w mid rest o.Done Has h g = tt
   moved_sets w mid rest (o.Returns v) Has h g = tt
   moved_sets w mid rest (o.Thrown v) Has h g = tt
-  moved_sets w mid rest (o.Calls f vs d) Has h g = turns_set nat_eq modules begins w.now.at.0 Has h g
-  moved_sets w mid rest (o.Waits v u) Has h g = turns_set nat_eq modules begins w.now.at.0 Has h g
+  moved_sets w mid rest (o.Calls f vs d) Has h g = turns_set nat_eq modules begins w.code.now.at.0 Has h g
+  moved_sets w mid rest (o.Waits v u) Has h g = turns_set nat_eq modules begins w.code.now.at.0 Has h g
 
   -- where code goes on, it may run
   pub may_run : (mid after : Inside I) (awaits : Bool) (cs late : List Caller) (out : Outcome) (spot : Place) → Fit mid awaits cs out → Followed seen modules linked fits begins mid cs out (Ok (n.Goes spot)) after late
-      → MayRun seen modules linked fits begins after (place_rest after.now spot) late
+      → MayRun seen modules linked fits begins after (place_rest after.code.now spot) late
   may_run mid after awaits cs late out spot fit h =
       (awaits, record { run = subst (IsFitNext modules linked fits awaits) h.0 fit.next; made = h.1.keeps.made; belongs = h.1.belongs; before = h.1.before })
 
@@ -153,43 +154,43 @@ module _ {I S : Type 0} (seen : I → S) (modules : S → Modules ℕ) (linked :
         links_land m awaits w mid rest cs move (turns_land nat_eq modules linked fits begins some one m (kind_by modules linked awaits cs) t f.state f.home f.holds) x q
 
     moved_links : (w mid : Inside I) (awaits : Bool) (rest : Rest CodeValue) (cs : List Caller) (out : Outcome) → Runs w awaits rest cs → Moved seen modules linked fits begins w rest out mid → Links w mid
-    moved_links w mid awaits rest cs o.On r h x q = turns_link w.now.at.0 awaits (At w) (At mid) rest (callers_of cs) (move_of o.On mid.now) r.run h x q
+    moved_links w mid awaits rest cs o.On r h x q = turns_link w.code.now.at.0 awaits (At w) (At mid) rest (callers_of cs) (move_of o.On mid.code.now) r.run h x q
     moved_links w mid awaits rest cs o.Done r h x q = ap (λ (s : State ℕ S). linked s.outer.imports x) h.1 ∙ q
-    moved_links w mid awaits rest cs (o.Returns v) r h x q = turns_link w.now.at.0 awaits (At w) (At mid) rest (callers_of cs) (move_of (o.Returns v) mid.now) r.run h x q
-    moved_links w mid awaits rest cs (o.Thrown v) r h x q = turns_link w.now.at.0 awaits (At w) (At mid) rest (callers_of cs) (move_of (o.Thrown v) mid.now) r.run h x q
-    moved_links w mid awaits rest cs (o.Calls f vs d) r h x q = turns_link w.now.at.0 awaits (At w) (At mid) rest (callers_of cs) (move_of (o.Calls f vs d) mid.now) r.run h x q
-    moved_links w mid awaits rest cs (o.Waits v u) r h x q = turns_link w.now.at.0 awaits (At w) (At mid) rest (callers_of cs) (move_of (o.Waits v u) mid.now) r.run h x q
+    moved_links w mid awaits rest cs (o.Returns v) r h x q = turns_link w.code.now.at.0 awaits (At w) (At mid) rest (callers_of cs) (move_of (o.Returns v) mid.code.now) r.run h x q
+    moved_links w mid awaits rest cs (o.Thrown v) r h x q = turns_link w.code.now.at.0 awaits (At w) (At mid) rest (callers_of cs) (move_of (o.Thrown v) mid.code.now) r.run h x q
+    moved_links w mid awaits rest cs (o.Calls f vs d) r h x q = turns_link w.code.now.at.0 awaits (At w) (At mid) rest (callers_of cs) (move_of (o.Calls f vs d) mid.code.now) r.run h x q
+    moved_links w mid awaits rest cs (o.Waits v u) r h x q = turns_link w.code.now.at.0 awaits (At w) (At mid) rest (callers_of cs) (move_of (o.Waits v u) mid.code.now) r.run h x q
 
     -- what follows where nothing remains
     done_fits : (w : State ℕ S) (m : ℕ) (awaits : Bool) (cs : List (Active ℕ)) → FitsRun modules linked fits w m awaits end cs → IsFitNext modules linked fits awaits (Done' cs w)
     done_fits w m awaits [] f = f.state
     done_fits w m awaits (c ∷ cs) f = back nat_eq modules linked fits begins some one awaits w c cs (Val Undefined) f.state tt f.before
 
-    next_fits : (w mid : Inside I) (awaits : Bool) (rest : Rest CodeValue) (cs : List Caller) (move : RewrittenBody CodeValue Limit) → mid.now.at ≡ w.now.at → FitsRun modules linked fits (At w) w.now.at.0 awaits rest (callers_of cs) → Turns nat_eq modules begins w.now.at.0 (At w) rest move (At mid)
-        → IsFitNext modules linked fits awaits (next_by nat_eq modules begins mid.now.at.0 (callers_of cs) move (At mid))
+    next_fits : (w mid : Inside I) (awaits : Bool) (rest : Rest CodeValue) (cs : List Caller) (move : RewrittenBody CodeValue Limit) → mid.code.now.at ≡ w.code.now.at → FitsRun modules linked fits (At w) w.code.now.at.0 awaits rest (callers_of cs) → Turns nat_eq modules begins w.code.now.at.0 (At w) rest move (At mid)
+        → IsFitNext modules linked fits awaits (next_by nat_eq modules begins mid.code.now.at.0 (callers_of cs) move (At mid))
     next_fits w mid awaits rest cs move at f t =
         subst (λ (m : ModuleId). IsFitNext modules linked fits awaits (next_by nat_eq modules begins m.0 (callers_of cs) move (At mid))) (sym at)
-        (fits_next nat_eq modules linked fits begins some one awaits w.now.at.0 (callers_of cs) (comes_of nat_eq modules begins t) f)
+        (fits_next nat_eq modules linked fits begins some one awaits w.code.now.at.0 (callers_of cs) (comes_of nat_eq modules begins t) f)
 
-    moved_fits : (w mid : Inside I) (awaits : Bool) (rest : Rest CodeValue) (cs : List Caller) (out : Outcome) → mid.now.at ≡ w.now.at → FitsRun modules linked fits (At w) w.now.at.0 awaits rest (callers_of cs) → Moved seen modules linked fits begins w rest out mid
+    moved_fits : (w mid : Inside I) (awaits : Bool) (rest : Rest CodeValue) (cs : List Caller) (out : Outcome) → mid.code.now.at ≡ w.code.now.at → FitsRun modules linked fits (At w) w.code.now.at.0 awaits rest (callers_of cs) → Moved seen modules linked fits begins w rest out mid
         → IsFitNext modules linked fits awaits (next_after seen modules linked fits begins mid cs out)
-    moved_fits w mid awaits rest cs o.On at f h = next_fits w mid awaits rest cs (move_of o.On mid.now) at f h
+    moved_fits w mid awaits rest cs o.On at f h = next_fits w mid awaits rest cs (move_of o.On mid.code.now) at f h
     moved_fits w mid awaits rest cs o.Done at f h =
-        subst (λ s. IsFitNext modules linked fits awaits (Done' (callers_of cs) s)) (sym h.1) (done_fits (At w) w.now.at.0 awaits (callers_of cs) (subst (λ r. FitsRun modules linked fits (At w) w.now.at.0 awaits r (callers_of cs)) h.0 f))
-    moved_fits w mid awaits rest cs (o.Returns v) at f h = next_fits w mid awaits rest cs (move_of (o.Returns v) mid.now) at f h
-    moved_fits w mid awaits rest cs (o.Thrown v) at f h = next_fits w mid awaits rest cs (move_of (o.Thrown v) mid.now) at f h
-    moved_fits w mid awaits rest cs (o.Calls f' vs d) at f h = next_fits w mid awaits rest cs (move_of (o.Calls f' vs d) mid.now) at f h
-    moved_fits w mid awaits rest cs (o.Waits v u) at f h = next_fits w mid awaits rest cs (move_of (o.Waits v u) mid.now) at f h
+        subst (λ s. IsFitNext modules linked fits awaits (Done' (callers_of cs) s)) (sym h.1) (done_fits (At w) w.code.now.at.0 awaits (callers_of cs) (subst (λ r. FitsRun modules linked fits (At w) w.code.now.at.0 awaits r (callers_of cs)) h.0 f))
+    moved_fits w mid awaits rest cs (o.Returns v) at f h = next_fits w mid awaits rest cs (move_of (o.Returns v) mid.code.now) at f h
+    moved_fits w mid awaits rest cs (o.Thrown v) at f h = next_fits w mid awaits rest cs (move_of (o.Thrown v) mid.code.now) at f h
+    moved_fits w mid awaits rest cs (o.Calls f' vs d) at f h = next_fits w mid awaits rest cs (move_of (o.Calls f' vs d) mid.code.now) at f h
+    moved_fits w mid awaits rest cs (o.Waits v u) at f h = next_fits w mid awaits rest cs (move_of (o.Waits v u) mid.code.now) at f h
 
     -- what follows a turn fits
     pub follows_fit : (w mid : Inside I) (awaits : Bool) (rest : Rest CodeValue) (cs : List Caller) (out : Outcome) → Runs w awaits rest cs → Came' w rest out mid → Fit mid awaits cs out
     follows_fit w mid awaits rest cs out r h =
-        let items : (arc_value mid.now.tree).items ≡ (arc_value w.now.tree).items = rw h.same.tree refl in
+        let items : (arc_value mid.code.now.tree).items ≡ (arc_value w.code.now.tree).items = rw h.same.tree refl in
         record {
           next = moved_fits w mid awaits rest cs out h.same.at r.run h.moved;
           made = h.keeps.made;
-          tree = rw (h.same.at, h.same.tree) (h.keeps.trees w.now.at.0 r.run.home ∙ r.belongs.tree);
-          sets = subst (λ (xs : List Item). SetsMove (IsNameOf xs) (move_of out mid.now)) (sym items) (moved_sets w mid rest out (IsNameOf (arc_value w.now.tree).items) h.moved r.belongs.sets);
+          tree = rw (h.same.at, h.same.tree) (h.keeps.trees w.code.now.at.0 r.run.home ∙ r.belongs.tree);
+          sets = subst (λ (xs : List Item). SetsMove (IsNameOf xs) (move_of out mid.code.now)) (sym items) (moved_sets w mid rest out (IsNameOf (arc_value w.code.now.tree).items) h.moved r.belongs.sets);
           before = callers_stay modules linked (seen w.imports.now) (seen mid.imports.now) h.keeps.trees cs (fit_linked modules linked (seen w.imports.now) awaits (callers_of cs) r.run.before) r.before;
         }
 
@@ -207,7 +208,7 @@ module _ {I S : Type 0} (seen : I → S) (modules : S → Modules ℕ) (linked :
             run = may_run mid after awaits cs late out spot (follows_fit w mid awaits rest cs out r h) k;
             keeps = keeps_both seen modules linked fits begins h.keeps k.1.keeps links;
             links = λ x q. imports_link mid after k.1.imports x (links x q);
-            body = k.1.body ∙ body_same w.now mid.now cs h.same.at;
+            body = k.1.body ∙ body_same w.code.now mid.code.now cs h.same.at;
           },
         )
 
@@ -216,11 +217,11 @@ module _ {I S : Type 0} (seen : I → S) (modules : S → Modules ℕ) (linked :
     went_over w mid after rest cs late out how h k = (
       moved_leads w mid rest cs out (ending seen modules linked fits begins how after) h.same.at h.moved k.0,
       record {
-        code = subst (λ (x : Inside I). IsCode x.now) (sym k.1.same) h.same.code;
+        code = subst (λ (x : Inside I). IsCode x.code.now) (sym k.1.same) h.same.code;
         ended = k.1.ended;
         belongs = k.1.belongs;
         keeps = subst (λ (x : Inside I). Keeps seen modules linked fits begins w x) (sym k.1.same) h.keeps;
-        body = ap (λ (x : Inside I). x.now.at) k.1.same ∙ h.same.at ∙ (λ j. body_at w.now (sym k.1.last j));
+        body = ap (λ (x : Inside I). x.code.now.at) k.1.same ∙ h.same.at ∙ (λ j. body_at w.code.now (sym k.1.last j));
       },
     )
 

@@ -1,7 +1,6 @@
 -- Each call of expressions on code under way is an act of the definitions.
-use Rattle.std.proofs.Common.{◌≡◌, ℕ, nat_eq, Bool, true, List, refl, sym, MutBor}
-use Rattle.std.specs.Prelude.{Option, Some, None, Result, Ok, Err}
-use Rattle.esm_base.specs.declared.limits.Limit.{Limit}
+use Rattle.std.proofs.Common.{◌≡◌, ℕ, Bool, List, refl, sym}
+use Rattle.std.specs.Prelude.{Some, None, Result, Ok, Err}
 use Rattle.esm_base.specs.declared.limits.Limit.TheVariants.{L1, L2, L3, L4, L5}
 use Rattle.esm_values.specs.Value.{Error}
 use Rattle.esm_values.specs.Code.{CodeValue, value_of, valued}
@@ -23,15 +22,15 @@ use Rattle.esm_body.specs.Importers.{IsLawful, outer_with}
 use Rattle.esm_body.specs.Fits.{AreLinked}
 use Rattle.esm_body.specs.Inner.Stack.{scopes_round}
 use Rattle.esm_body.specs.Inner.Log.{TookSteps, AddedLine}
-use Rattle.esm_body.specs.Inner.Names.{reading_in, said_out, Tells}
+use Rattle.esm_body.specs.Inner.Names.{reading_in, Tells}
 use Rattle.esm_body.specs.Inner.Displayed.{IsShown, AreShown, IsSpecifier, MemberTold, RefusesTold, BeginsTold}
 use Rattle.esm_body.specs.Acts.{Inner}
-use Rattle.esm_body.specs.Inner.World.{state_in, inner_of, IsSame, IsReady, ActsInside}
+use Rattle.esm_body.specs.Inner.World.{state_in, inner_of, IsSame, CodeIsWhole, ActsInside}
 use Rattle.esm_body.specs.declared.log.Log.{Log}
 use Rattle.esm_body.specs.declared.log.Stop.{Stop}
 use Rattle.esm_body.specs.declared.log.Stop.TheVariants as stops
 use Rattle.esm_body.specs.declared.inside.Inside.{Inside}
-use Rattle.esm_body.proofs.Asked.{shows_there, show_all_there, read_performs, member_performs, fault_performs, refuse_performs, line_ok, line_stops, step_ok, step_stops, begin_performs, begin_stops, read_acts, member_acts}
+use Rattle.esm_body.proofs.Asked.{shows_there, show_all_there, read_performs, member_performs, refuse_performs, line_ok, line_stops, step_ok, step_stops, begin_performs, begin_stops, read_acts, member_acts}
 
 -- with other errors
 abbrev pub Errs : {I : Type 0} → Inside I → Errors → Inside I
@@ -46,29 +45,29 @@ abbrev pub Outs : {I : Type 0} → Inside I → Numbered → Errors → I → In
 Outs w ps es i = record w { promises = record w.promises { now = ps }; errors = record w.errors { now = es }; imports = record w.imports { now = i } }
 
 errs_same : {I : Type 0} (w : Inside I) (es : Errors) → IsSame w (Errs w es)
-errs_same w es = record { now = refl; alloc = refl; engine = refl; standing = refl; errors = refl; envs = refl; promises = refl; imports = refl }
+errs_same w es = record { now = refl; code = refl; alloc = refl; engine = refl; standing = refl; errors = refl; envs = refl; promises = refl; imports = refl }
 
 logs_same : {I : Type 0} (w : Inside I) (log : Log) → IsSame w (Logs w log)
-logs_same w log = record { now = refl; alloc = refl; engine = refl; standing = refl; errors = refl; envs = refl; promises = refl; imports = refl }
+logs_same w log = record { now = refl; code = refl; alloc = refl; engine = refl; standing = refl; errors = refl; envs = refl; promises = refl; imports = refl }
 
 outs_same : {I : Type 0} (w : Inside I) (ps : Numbered) (es : Errors) (i : I) → IsSame w (Outs w ps es i)
-outs_same w ps es i = record { now = refl; alloc = refl; engine = refl; standing = refl; errors = refl; envs = refl; promises = refl; imports = refl }
+outs_same w ps es i = record { now = refl; code = refl; alloc = refl; engine = refl; standing = refl; errors = refl; envs = refl; promises = refl; imports = refl }
 
 all_same : {I : Type 0} (w : Inside I) → IsSame w w
-all_same w = record { now = refl; alloc = refl; engine = refl; standing = refl; errors = refl; envs = refl; promises = refl; imports = refl }
+all_same w = record { now = refl; code = refl; alloc = refl; engine = refl; standing = refl; errors = refl; envs = refl; promises = refl; imports = refl }
 
 module _ {I S : Type 0} (seen : I → S) (modules : S → Modules ℕ) (linked : S → ℕ → Bool) (fits : Outer ℕ S → Type 0) (begins : Importing ℕ S) (w : Inside I) where
-  links : IsLawful modules linked fits begins → IsReady seen modules linked fits begins w → AreLinked (modules (seen w.imports.now)) (linked (seen w.imports.now))
+  links : IsLawful modules linked fits begins → CodeIsWhole seen modules linked fits begins w → AreLinked (modules (seen w.imports.now)) (linked (seen w.imports.now))
   links lawful ready = lawful.links (state_in seen w).outer ready.state.whole
 
   pub reads : (x : List ℕ) (out : Out) (new : Errors) → ReadsRight
-      → Tells x (reading_in (scopes_round w.now.levels.items) (scopes_of w.envs.now) w.now.at.0 x) w.errors.now (Ok out) new
+      → Tells x (reading_in (scopes_round w.code.now.levels.items) (scopes_of w.envs.now) w.code.now.at.0 x) w.errors.now (Ok out) new
       → ActsInside seen modules linked fits begins w (act.Read x) (said (Ok out)) (Errs w new)
   reads x out new right h = read_acts seen modules linked fits begins w (Errs w new) x out (
     errs_same w new,
     λ ready known. (
-      read_performs modules linked fits begins (scopes_round w.now.levels.items) (scopes_of w.envs.now) w.engine.now w.promises.now (seen w.imports.now)
-          w.errors.now new w.now.at.0 x out right ready.made ready.home h,
+      read_performs modules linked fits begins (scopes_round w.code.now.levels.items) (scopes_of w.envs.now) w.engine.now w.promises.now (seen w.imports.now)
+          w.errors.now new w.code.now.at.0 x out right ready.made ready.home h,
       ready.made,
     ),
   )
@@ -79,8 +78,8 @@ module _ {I S : Type 0} (seen : I → S) (modules : S → Modules ℕ) (linked :
   members v x out new lawful h = member_acts seen modules linked fits begins w (Errs w new) v x out (
     errs_same w new,
     λ ready known. (
-      member_performs modules linked fits begins (scopes_round w.now.levels.items) (scopes_of w.envs.now) w.engine.now w.promises.now (seen w.imports.now)
-          w.errors.now new w.now.at.0 v x out ready.made (links lawful ready) known h,
+      member_performs modules linked fits begins (scopes_round w.code.now.levels.items) (scopes_of w.envs.now) w.engine.now w.promises.now (seen w.imports.now)
+          w.errors.now new w.code.now.at.0 v x out ready.made (links lawful ready) known h,
       ready.made,
     ),
   )
@@ -103,7 +102,7 @@ module _ {I S : Type 0} (seen : I → S) (modules : S → Modules ℕ) (linked :
       (
         texts,
         show_all_there modules (state_in seen w) vs texts (shown ready.made (links lawful ready) known),
-        line_ok modules linked fits begins (scopes_round w.now.levels.items) (scopes_of w.envs.now) w.engine.now w.promises.now w.errors.now (seen w.imports.now) (printed_line texts) new h,
+        line_ok modules linked fits begins (scopes_round w.code.now.levels.items) (scopes_of w.envs.now) w.engine.now w.promises.now w.errors.now (seen w.imports.now) (printed_line texts) new h,
       ),
       ready.made,
     ),
@@ -118,7 +117,7 @@ module _ {I S : Type 0} (seen : I → S) (modules : S → Modules ℕ) (linked :
       (
         texts,
         show_all_there modules (state_in seen w) vs texts (shown ready.made (links lawful ready) known),
-        line_stops modules linked fits begins (scopes_round w.now.levels.items) (scopes_of w.envs.now) w.engine.now w.promises.now w.errors.now (seen w.imports.now) (printed_line texts) new h,
+        line_stops modules linked fits begins (scopes_round w.code.now.levels.items) (scopes_of w.envs.now) w.engine.now w.promises.now w.errors.now (seen w.imports.now) (printed_line texts) new h,
       ),
       ready.made,
     ),
@@ -136,14 +135,14 @@ module _ {I S : Type 0} (seen : I → S) (modules : S → Modules ℕ) (linked :
   takes_steps n (Ok u) new h = (
     logs_same w new,
     λ ready known.
-        (step_ok modules linked fits begins (scopes_round w.now.levels.items) (scopes_of w.envs.now) w.engine.now w.promises.now w.errors.now (seen w.imports.now) n new h, ready.made),
+        (step_ok modules linked fits begins (scopes_round w.code.now.levels.items) (scopes_of w.envs.now) w.engine.now w.promises.now w.errors.now (seen w.imports.now) n new h, ready.made),
   )
   takes_steps n (Err (stops.Limit L1)) new h = absurd h
   takes_steps n (Err (stops.Limit L2)) new h = absurd h
   takes_steps n (Err (stops.Limit L3)) new h = (
     logs_same w new,
     λ ready known.
-        (step_stops modules linked fits begins (scopes_round w.now.levels.items) (scopes_of w.envs.now) w.engine.now w.promises.now w.errors.now (seen w.imports.now) n new h, ready.made),
+        (step_stops modules linked fits begins (scopes_round w.code.now.levels.items) (scopes_of w.envs.now) w.engine.now w.promises.now w.errors.now (seen w.imports.now) n new h, ready.made),
   )
   takes_steps n (Err (stops.Limit L4)) new h = absurd h
   takes_steps n (Err (stops.Limit L5)) new h = absurd h
@@ -154,26 +153,26 @@ module _ {I S : Type 0} (seen : I → S) (modules : S → Modules ℕ) (linked :
   refuses v p late new none h = (
     outs_same w late new w.imports.now,
     λ ready known. (
-      refuse_performs modules linked fits begins (scopes_round w.now.levels.items) (scopes_of w.envs.now) w.engine.now w.promises.now (seen w.imports.now)
-          w.errors.now new late w.now.at.0 v p (sym none) h,
+      refuse_performs modules linked fits begins (scopes_round w.code.now.levels.items) (scopes_of w.envs.now) w.engine.now w.promises.now (seen w.imports.now)
+          w.errors.now new late w.code.now.at.0 v p (sym none) h,
       ready.made,
     ),
   )
 
   pub begins_import : (v : CodeValue) (text : List ℕ) (r : Result Value Stop) (late : Numbered) (new : Errors) (k : I) → IsLawful modules linked fits begins → MadePending
       → IsSpecifier w.errors.now v (Some text)
-      → BeginsTold modules linked fits begins (outer_with w.promises.now w.errors.now (seen w.imports.now)) w.now.at.0 text r (outer_with late new (seen k))
+      → BeginsTold modules linked fits begins (outer_with w.promises.now w.errors.now (seen w.imports.now)) w.code.now.at.0 text r (outer_with late new (seen k))
       → ActsInside seen modules linked fits begins w (act.Import v) (valued r) (Outs w late new k)
   begins_import v text (Ok p) late new k lawful pending some h = (
     outs_same w late new k,
     λ ready known.
-        begin_performs modules linked fits begins (scopes_round w.now.levels.items) (scopes_of w.envs.now) w.engine.now w.promises.now w.errors.now (seen w.imports.now)
-        lawful pending ready.state.whole late new (seen k) w.now.at.0 v text p (sym some) ready.home ready.made h,
+        begin_performs modules linked fits begins (scopes_round w.code.now.levels.items) (scopes_of w.envs.now) w.engine.now w.promises.now w.errors.now (seen w.imports.now)
+        lawful pending ready.state.whole late new (seen k) w.code.now.at.0 v text p (sym some) ready.home ready.made h,
   )
   begins_import v text (Err (stops.Limit limit)) late new k lawful pending some h = (
     outs_same w late new k,
     λ ready known.
-        begin_stops modules linked fits begins (scopes_round w.now.levels.items) (scopes_of w.envs.now) w.engine.now w.promises.now w.errors.now (seen w.imports.now)
-        lawful pending ready.state.whole late new (seen k) w.now.at.0 v text limit (sym some) ready.home ready.made h,
+        begin_stops modules linked fits begins (scopes_round w.code.now.levels.items) (scopes_of w.envs.now) w.engine.now w.promises.now w.errors.now (seen w.imports.now)
+        lawful pending ready.state.whole late new (seen k) w.code.now.at.0 v text limit (sym some) ready.home ready.made h,
   )
   begins_import v text (Err stops.Memory) late new k lawful pending some h = tt

@@ -1,5 +1,5 @@
 -- What lies outside of bodies, as the code has it: the modules that are there, and what begins an import().
-use Rattle.std.specs.Prelude.{◌≡◌, ◌<◌, ℕ, Bool, true, List, [], length, Some, Result, Ok, Err}
+use Rattle.std.specs.Prelude.{◌≡◌, ◌<◌, ℕ, Bool, true, List, [], length, Result, Ok, Err}
 use Rattle.esm_base.specs.declared.limits.Limit.{Limit}
 use Rattle.esm_resolve.specs.Graph.{Graph}
 use Rattle.esm_values.specs.Value.{Value}

@@ -1,14 +1,12 @@
-pub mod Contexts
 pub mod Log
 pub mod Stack
 pub mod World
 pub mod Names
 pub mod Displayed
 pub mod Chains
-pub mod Slots
 pub mod Calls
 pub mod Written
-pub mod Declared
 pub mod Turn
 pub mod Running
 pub mod Noting
+pub mod Going

@@ -1,4 +1,5 @@
 pub mod Scopes
+pub mod Slots
 pub mod Rest
 pub mod State
 pub mod Acts
@@ -10,7 +11,13 @@ pub mod Keeps
 pub mod Laws
 pub mod Examples
 pub mod Importers
+pub mod DisplayText
 pub mod Noted
+pub mod Contexts
+pub mod Sets
+pub mod Code
 pub mod Inner
 pub mod View
 pub mod Naming
+pub mod Engines
+pub mod SameScopes

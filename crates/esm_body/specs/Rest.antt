@@ -1,6 +1,6 @@
 -- What remains of a body, as syntax in which values replace what was evaluated, and in which what is under way stands as its
 -- remaining part. ECMA-262, Runtime Semantics: Evaluation of statements.
-use Rattle.std.specs.Prelude.{ℕ, Bool, true, false, List, Option, Some, None}
+use Rattle.std.specs.Prelude.{ℕ, suc, Bool, true, false, List, Option, Some, None}
 use Rattle.esm_tree.specs.Syntax.{Init, absent, plain, awaited, Bindings, no_more, binding, Stmts, nothing, first}
 use Rattle.esm_base.specs.DefaultExport.{star_default}
 use Rattle.esm_tree.specs.Syntax.{Stmt as Statement}
@@ -40,6 +40,11 @@ mutual
 abbrev pub whole : {V : Type 0} → Stmts → Rest V
 whole nothing = end
 whole (first s ss) = more (Whole s) (whole ss)
+
+-- how many statements these are
+abbrev pub count : Stmts → ℕ
+count nothing = 0
+count (first s ss) = suc (count ss)
 
 module _ {V : Type 0} (values : Values V) where
   -- ECMA-262, LexicalDeclaration: `let x` sets undefined

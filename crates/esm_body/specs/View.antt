@@ -6,7 +6,7 @@ use Rattle.esm_env.specs.Scopes.{Scopes, cells_of}
 use Rattle.esm_body.specs.State as state
 use Rattle.esm_body.specs.State.{State}
 use Rattle.esm_body.specs.Importers.{outer_with}
-use Rattle.esm_body.specs.Inner.Stack.{standing_rest}
+use Rattle.esm_body.specs.Code.{standing_rest}
 use Rattle.esm_body.specs.Noted.{event_of}
 use Rattle.esm_body.specs.declared.engine.Engine.{Engine}
 use Rattle.esm_body.specs.declared.work.Standing.{Standing}

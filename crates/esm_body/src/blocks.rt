@@ -10,9 +10,10 @@ ghost use Rattle.esm_expr_eval.specs.Terms.{term};
 ghost use Rattle.esm_body.specs.Rest as rests;
 ghost use Rattle.esm_body.specs.Rest.{more, end, whole};
 ghost use Rattle.esm_body.specs.Rest.Part.{Does};
-ghost use Rattle.esm_body.specs.Inner.Slots.{scope_of_slots};
-ghost use Rattle.esm_body.specs.Inner.Contexts.{placed};
-ghost use Rattle.esm_body.specs.Inner.Stack.{in_front, innermost, contexts_of, context_by, part_of, awaited_by, use_of, IsFront, AreNamed, IsUse, IsWork, AreWork, IsKind, AreLevels, Becomes, IsNodeOf, IsPopped, IsTaken, name_in, bound_name, assigned};
+ghost use Rattle.esm_body.specs.Slots.{scope_of_slots};
+ghost use Rattle.esm_body.specs.Contexts.{placed};
+ghost use Rattle.esm_body.specs.Inner.Stack.{IsFront, AreNamed, Becomes, IsNodeOf, IsPopped, IsTaken};
+ghost use Rattle.esm_body.specs.Code.{in_front, innermost, contexts_of, context_by, part_of, awaited_by, use_of, IsUse, IsWork, AreWork, IsKind, AreLevels, name_in, bound_name, assigned};
 
 use crate::log::Stop;
 use crate::scopes::add_block;

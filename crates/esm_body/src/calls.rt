@@ -8,7 +8,7 @@ ghost use Rattle.esm_values.specs.Value.{Undefined};
 ghost use Rattle.esm_body.specs.Scopes.{parameters, scope_of};
 ghost use Rattle.esm_body.specs.Rest.{end, more, whole};
 ghost use Rattle.esm_body.specs.Rest.Part.{In};
-ghost use Rattle.esm_body.specs.Inner.Slots.{scope_of_slots};
+ghost use Rattle.esm_body.specs.Slots.{scope_of_slots};
 ghost use Rattle.esm_body.specs.Inner.Calls.{argument_of, IsCallOf, IsEntered, IsOutermost, Remains};
 
 use crate::blocks::{begin_block, is_begun};

@@ -4,9 +4,10 @@ ghost use Rattle.std.specs.Arc.{arc_value};
 ghost use Rattle.esm_tree.specs.Syntax.{Stmt};
 ghost use Rattle.esm_tree.specs.Flat.{stmt_part, stmt_parts, stmt_of, IsStmtBelow, AllStmtsBelow};
 ghost use Rattle.esm_body.specs.Scopes as scopes;
-ghost use Rattle.esm_body.specs.Inner.Slots.{scope_of_slots};
+ghost use Rattle.esm_body.specs.Slots.{scope_of_slots};
 ghost use Rattle.esm_values.specs.Code.{value_of};
-ghost use Rattle.esm_body.specs.Inner.Stack.{handler_of, caught_of, told_name, AreLevels, IsKind, IsLeft, IsCaught, IsNodeOf, IsHandled};
+ghost use Rattle.esm_body.specs.Inner.Stack.{handler_of, caught_of, told_name, IsLeft, IsCaught, IsNodeOf, IsHandled};
+ghost use Rattle.esm_body.specs.Code.{AreLevels, IsKind};
 
 use crate::blocks::begin_block;
 use crate::log::Stop;

@@ -4,6 +4,7 @@ ghost use Rattle.esm_env.specs.Calls.{scopes_of};
 ghost use Rattle.esm_tree.specs.Flat.{item_of};
 ghost use Rattle.esm_values.specs.Code.{value_of, values_of};
 ghost use Rattle.esm_values.specs.Errors as spec;
+ghost use Rattle.esm_body.specs.DisplayText.{IsDisplayText};
 ghost use Rattle.esm_body.specs.Inner.Displayed.{IsKeys, IsShown, AreShown, IsSpecifier, item_name, name_told};
 
 use crate::importer::Importer;
@@ -76,8 +77,22 @@ fn keys_of<I: Importer>(alloc: Global, imports: &I, m: ModuleId) -> Result<Vec<T
     }
 }
 
-/// The display text of a value.
-pub(crate) fn display_text<I: Importer>(
+/// The display text of a value that is known over linked modules, whose scopes are in `envs`.
+pub fn display_text<I: Importer>(
+    alloc: Global,
+    errors: &Errors,
+    envs: &Envs,
+    imports: &I,
+    of: &Value,
+) -> Result<Text, Memory>
+    ensures { IfOk result (IsDisplayText I.modules I.linked (scopes_of envs.now) errors.now
+        (I.seen imports.now) (value_of of.now)) }
+{
+    shown_text(alloc, errors, envs, imports, of)
+}
+
+/// The display text of a value, over the modules and errors alone.
+pub(crate) fn shown_text<I: Importer>(
     alloc: Global,
     errors: &Errors,
     envs: &Envs,
@@ -114,7 +129,7 @@ pub(crate) fn display_texts<I: Importer>(
 {
     let mut texts = Vec::new(alloc);
     for value in values.iter() {
-        let text = display_text(alloc, errors, envs, imports, value)?;
+        let text = shown_text(alloc, errors, envs, imports, value)?;
         texts.push(text)?;
     }
     Ok(texts)

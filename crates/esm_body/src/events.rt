@@ -11,7 +11,7 @@ use std::marker::Model;
 #[derive(Drop)]
 pub struct Events {
     list: Vec<Event>,
-    /// For each id up to the greatest of a body that has begun, whether its body has.
+    /// For each id up to the greatest of a body that has begun, and maybe for more, whether its body has.
     marks: Vec<bool>,
 }
 

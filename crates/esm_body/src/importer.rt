@@ -3,7 +3,6 @@ ghost use Rattle.std.specs.Prelude.{◌≡◌};
 
 use crate::log::Stop;
 use esm_base::ModuleId;
-use esm_env::Envs;
 use esm_promise::Promises;
 use esm_resolve::ExportGraph;
 use esm_values::{Errors, PromiseId};
@@ -71,17 +70,4 @@ pub trait Importer: ExportGraph + Drop {
 
     /// What bodies rely on.
     ghost lawful: { IsLawful modules linked fits begins };
-}
-
-/// What bodies read and write beside the engine.
-#[derive(Drop)]
-pub struct Outer<'a, I: Importer> {
-    /// Promises and jobs.
-    pub promises: &'a mut Promises,
-    /// Error values.
-    pub errors: &'a mut Errors,
-    /// The cells of modules.
-    pub envs: &'a mut Envs,
-    /// The modules.
-    pub imports: &'a mut I,
 }

@@ -11,7 +11,7 @@ use std::alloc::Global;
 #[derive(Drop)]
 pub(crate) struct Inside<'a, I: Importer> {
     pub(crate) alloc: Global,
-    pub(crate) now: Activation,
+    pub(crate) code: &'a mut Activation,
     pub(crate) engine: &'a mut Engine,
     pub(crate) errors: &'a mut Errors,
     pub(crate) envs: &'a mut Envs,

@@ -3,6 +3,9 @@ ghost use Rattle.esm_body.specs.Laws.{HaveOneOutcome, StatementsTakeSteps, Stops
 ghost use Rattle.esm_body.specs.Examples.{ThrowLeaves, AwaitDivides};
 ghost use Rattle.esm_body.specs.Naming.{FollowsNames};
 ghost use Rattle.esm_body.specs.Keeps.{BodiesBegin, BodiesKeep};
+ghost use Rattle.esm_body.specs.Engines.{StaysReady};
+
+use crate::importer::Importer;
 
 /// A rewriting, a segment of a body, and each call for a body, has one outcome, where `import()` has one.
 pub fn one_outcome()
@@ -61,26 +64,26 @@ pub trait Named {
     /// What names it otherwise.
     type Other;
     /// What import() reads and writes.
-    type Imports;
+    type Seen;
     /// What it reads and writes on the other side.
     type Images;
 
     /// The other names.
     ghost names: { Naming Self.Name Self.Other };
     /// What import() reads and writes, as the other side sees it.
-    ghost image: { Self.Imports → Self.Images };
+    ghost image: { Self.Seen → Self.Images };
     /// Where the modules are the same by their names, and import() is.
-    ghost good: { Self.Imports → Type 0 };
+    ghost good: { Self.Seen → Type 0 };
     /// Two names are the same.
     ghost same: { Self.Name → Self.Name → Bool };
     /// Two of the other names are.
     ghost other: { Self.Other → Self.Other → Bool };
     /// The modules that are there.
-    ghost modules: { Self.Imports → Modules Self.Name };
+    ghost modules: { Self.Seen → Modules Self.Name };
     /// The same on the other side.
     ghost images: { Self.Images → Modules Self.Other };
     /// How import() begins.
-    ghost begins: { Importing Self.Name Self.Imports };
+    ghost begins: { Importing Self.Name Self.Seen };
     /// How it begins on the other side.
     ghost others: { Importing Self.Other Self.Images };
 }
@@ -93,7 +96,7 @@ pub fn follows_names<A: Named>()
 {}
 
 /// Modules, and how `import()` begins.
-pub trait Imports {
+pub trait CallsOfImport {
     ghost use Rattle.std.specs.Prelude.{Bool};
     ghost use Rattle.esm_env.specs.Modules.{Modules};
     ghost use Rattle.esm_body.specs.State.{Importing};
@@ -113,7 +116,14 @@ pub trait Imports {
 
 /// A call for a body changes what `import()` reads and writes beside promises and errors by `import()` alone, and begins no
 /// other body; where no limit is passed, one that starts or runs has begun.
-pub fn bodies_keep<A: Imports>()
+pub fn bodies_keep<A: CallsOfImport>()
     ensures keeps { BodiesKeep A.same A.modules A.begins }
     ensures begins { BodiesBegin A.same A.modules A.begins }
+{}
+
+/// What is ready for calls for bodies stays so where a fetch, linking, promises and errors change what lies outside: where
+/// linked modules keep their trees, the scopes are those of the modules, and the state fits. It fits where promises, errors
+/// and modules fit, what was known is known, and each cell has a known value.
+pub fn stays_ready<I: Importer>()
+    ensures { StaysReady I.modules I.linked I.fits I.begins }
 {}

@@ -6,8 +6,10 @@ mod bodies;
 mod calls;
 mod catching;
 mod displays;
+mod ends;
 mod engine;
 mod events;
+mod going;
 mod importer;
 mod imports;
 mod inside;
@@ -25,9 +27,10 @@ mod work;
 mod world;
 mod writes;
 
+pub use displays::display_text;
 pub use engine::{Engine, Event};
-pub use importer::{Importer, Outer};
-pub use log::{Log, Stop};
+pub use importer::Importer;
+pub use log::Stop;
 
 #[cfg(test)]
 mod tests;

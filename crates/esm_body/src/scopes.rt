@@ -2,7 +2,7 @@
 ghost use Rattle.std.specs.Prelude.{◌≡◌, ◌++◌, ◌∷◌, [], ◌<◌, length, OnOk, IfOk};
 ghost use Rattle.esm_tree.specs.Flat as flat;
 ghost use Rattle.esm_env.specs.Declarations.{declared_by, declares, declared_in};
-ghost use Rattle.esm_body.specs.Inner.Slots.{unset_slots, slot_with};
+ghost use Rattle.esm_body.specs.Slots.{unset_slots, slot_with};
 
 use crate::work::Slot;
 use esm_base::{Memory, Text};

@@ -3,7 +3,8 @@ ghost use Rattle.std.specs.Prelude.{◌≡◌, ◌<◌, ◌∷◌, ◌++◌, [],
 ghost use Rattle.std.specs.Arc.{arc_value};
 ghost use Rattle.esm_base.specs.declared.limits.TheConstants.{MAX_CALL_DEPTH};
 ghost use Rattle.esm_body.specs.Inner.World.{HasScopes};
-ghost use Rattle.esm_body.specs.Inner.Turn.{IsCode, IsCalling, IsOutcome, MayTurn, Turned};
+ghost use Rattle.esm_body.specs.Inner.Turn.{IsCalling, IsOutcome, MayTurn, Turned};
+ghost use Rattle.esm_body.specs.Code.{IsCode};
 ghost use Rattle.esm_body.specs.Inner.Running.{AreCallers, CallersBelong, CallsIn, Followed, GivesBack, IsCallee, IsPlace, IsThere, IsTooDeep};
 ghost use Rattle.esm_body.specs.Inner.Running.{MayFollow, MayRun, Ran, RanBehind, Stepped, ThrowsBack, Went, place_rest};
 
@@ -63,7 +64,7 @@ fn give_back<I: Importer>(
     match callers.pop() {
         Some(caller) => {
             let Caller { body, doing } = caller;
-            inside.now = body;
+            *inside.code = body;
             Next::Goes(Place::Gives(doing, value))
         }
         None => Next::Over(Ended::Normal),
@@ -85,7 +86,7 @@ fn throw_back<I: Importer>(
     match callers.pop() {
         Some(caller) => {
             let Caller { body, doing } = caller;
-            inside.now = body;
+            *inside.code = body;
             Next::Goes(Place::Throws(doing, thrown))
         }
         None => Next::Over(Ended::Thrown(thrown)),
@@ -109,7 +110,7 @@ fn call_in<I: Importer>(
     ensures { CallsIn inside.old callers.old.items callee doing result inside.new
         callers.new.items }
 {
-    let body = mem::replace(&mut inside.now, callee);
+    let body = mem::replace(inside.code, callee);
     if is_waiting(callers, Caller { body, doing }) {
         Ok(Next::Goes(Place::Turn))
     } else {
@@ -127,8 +128,8 @@ fn call<I: Importer>(
     values: Vec<Value>,
     doing: Doing,
 ) -> Result<Next, Stop>
-    requires code { IsCode inside.old.now }
-    requires calling { IsCalling (length (arc_value inside.old.now.tree).stmts) doing }
+    requires code { IsCode inside.old.code.now }
+    requires calling { IsCalling (length (arc_value inside.old.code.now.tree).stmts) doing }
     requires callers { AreCallers callers.old.items }
     requires few { length callers.old.items < MAX_CALL_DEPTH }
     requires fits { MayFollow I.seen I.modules I.linked I.fits I.begins inside.old callers.old.items
@@ -185,8 +186,8 @@ fn follow<I: Importer>(
     callers: &mut Vec<Caller>,
     outcome: Outcome,
 ) -> Result<Next, Stop>
-    requires code { IsCode inside.old.now }
-    requires outcome { IsOutcome (length (arc_value inside.old.now.tree).stmts) outcome }
+    requires code { IsCode inside.old.code.now }
+    requires outcome { IsOutcome (length (arc_value inside.old.code.now.tree).stmts) outcome }
     requires callers { AreCallers callers.old.items }
     requires fits { MayFollow I.seen I.modules I.linked I.fits I.begins inside.old
         callers.old.items outcome }
@@ -211,12 +212,12 @@ fn follow<I: Importer>(
 
 /// One turn from here.
 fn turn_at<I: Importer>(inside: &mut Inside<'_, I>, place: Place) -> Result<Outcome, Stop>
-    requires code { IsCode inside.old.now }
-    requires place { IsPlace (length (arc_value inside.old.now.tree).stmts) place }
+    requires code { IsCode inside.old.code.now }
+    requires place { IsPlace (length (arc_value inside.old.code.now.tree).stmts) place }
     requires fits { MayTurn I.seen I.modules I.linked I.fits I.begins inside.old
-        (place_rest inside.old.now place) }
+        (place_rest inside.old.code.now place) }
     ensures { Turned I.seen I.modules I.linked I.fits I.begins inside.old
-        (place_rest inside.old.now place) result inside.new }
+        (place_rest inside.old.code.now place) result inside.new }
 {
     match place {
         Place::Turn => turn(inside),
@@ -231,13 +232,14 @@ fn go_on<I: Importer>(
     callers: &mut Vec<Caller>,
     place: Place,
 ) -> Result<Next, Stop>
-    requires code { IsCode inside.old.now }
-    requires place { IsPlace (length (arc_value inside.old.now.tree).stmts) place }
+    requires code { IsCode inside.old.code.now }
+    requires place { IsPlace (length (arc_value inside.old.code.now.tree).stmts) place }
     requires callers { AreCallers callers.old.items }
     requires fits { MayRun I.seen I.modules I.linked I.fits I.begins inside.old
-        (place_rest inside.old.now place) callers.old.items }
+        (place_rest inside.old.code.now place) callers.old.items }
     ensures { Went I.seen I.modules I.linked I.fits I.begins inside.old
-        (place_rest inside.old.now place) callers.old.items result inside.new callers.new.items }
+        (place_rest inside.old.code.now place) callers.old.items result inside.new
+        callers.new.items }
 {
     esm_resolve::laws::shared_set();
     match turn_at(inside, place) {
@@ -252,13 +254,14 @@ fn up_to_step<I: Importer>(
     callers: &mut Vec<Caller>,
     place: Place,
 ) -> Result<Next, Stop>
-    requires code { IsCode inside.old.now }
-    requires place { IsPlace (length (arc_value inside.old.now.tree).stmts) place }
+    requires code { IsCode inside.old.code.now }
+    requires place { IsPlace (length (arc_value inside.old.code.now.tree).stmts) place }
     requires callers { AreCallers callers.old.items }
     requires fits { MayRun I.seen I.modules I.linked I.fits I.begins inside.old
-        (place_rest inside.old.now place) callers.old.items }
+        (place_rest inside.old.code.now place) callers.old.items }
     ensures { Stepped I.seen I.modules I.linked I.fits I.begins inside.old
-        (place_rest inside.old.now place) callers.old.items result inside.new callers.new.items }
+        (place_rest inside.old.code.now place) callers.old.items result inside.new
+        callers.new.items }
 {
     esm_resolve::laws::shared_set();
     let steps = inside.engine.log.steps;
@@ -285,13 +288,13 @@ fn run_from<I: Importer>(
     callers: &mut Vec<Caller>,
     place: Place,
 ) -> Result<Ended, Stop>
-    requires code { IsCode inside.old.now }
-    requires place { IsPlace (length (arc_value inside.old.now.tree).stmts) place }
+    requires code { IsCode inside.old.code.now }
+    requires place { IsPlace (length (arc_value inside.old.code.now.tree).stmts) place }
     requires callers { AreCallers callers.old.items }
     requires fits { MayRun I.seen I.modules I.linked I.fits I.begins inside.old
-        (place_rest inside.old.now place) callers.old.items }
+        (place_rest inside.old.code.now place) callers.old.items }
     ensures { Ran I.seen I.modules I.linked I.fits I.begins inside.old
-        (place_rest inside.old.now place) callers.old.items result inside.new }
+        (place_rest inside.old.code.now place) callers.old.items result inside.new }
 {
     let mut here = place;
     loop {
@@ -311,8 +314,8 @@ fn run_behind<I: Importer>(
     callers: &mut Vec<Caller>,
     outcome: Outcome,
 ) -> Result<Ended, Stop>
-    requires code { IsCode inside.old.now }
-    requires outcome { IsOutcome (length (arc_value inside.old.now.tree).stmts) outcome }
+    requires code { IsCode inside.old.code.now }
+    requires outcome { IsOutcome (length (arc_value inside.old.code.now.tree).stmts) outcome }
     requires none { callers.old.items ≡ [] }
     requires fits { MayFollow I.seen I.modules I.linked I.fits I.begins inside.old [] outcome }
     ensures { RanBehind I.seen I.modules I.linked I.fits I.begins inside.old outcome result
@@ -332,8 +335,8 @@ pub(crate) fn segment<I: Importer>(
     inside: &mut Inside<'_, I>,
     outcome: Outcome,
 ) -> Result<Ended, Stop>
-    requires code { IsCode inside.old.now }
-    requires outcome { IsOutcome (length (arc_value inside.old.now.tree).stmts) outcome }
+    requires code { IsCode inside.old.code.now }
+    requires outcome { IsOutcome (length (arc_value inside.old.code.now.tree).stmts) outcome }
     requires fits { MayFollow I.seen I.modules I.linked I.fits I.begins inside.old [] outcome }
     ensures { RanBehind I.seen I.modules I.linked I.fits I.begins inside.old outcome result
         inside.new }

@@ -6,7 +6,8 @@ ghost use Rattle.esm_tree.specs.Flat.{item_of, item_need, items_of, items_need, 
 ghost use Rattle.esm_env.specs.Declarations.{body_of, does};
 ghost use Rattle.esm_body.specs.Rest.{end, whole};
 ghost use Rattle.esm_body.specs.Inner.Calls.{AddsStatement, AreBelowTold, IsBelowTold, IsBranch, Remains, begun_branch, stmt_told};
-ghost use Rattle.esm_body.specs.Inner.Stack.{in_front, innermost, AreLevels, AreWork, Becomes, IsNodeOf};
+ghost use Rattle.esm_body.specs.Inner.Stack.{Becomes, IsNodeOf};
+ghost use Rattle.esm_body.specs.Code.{in_front, innermost, AreLevels, AreWork};
 
 use crate::blocks::{begin_block, is_pushed};
 use crate::calls::outermost;

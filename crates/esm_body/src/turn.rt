@@ -3,11 +3,11 @@ ghost use Rattle.std.specs.Prelude.{◌≡◌, ◌<◌, ◌∷◌, [], length, R
 ghost use Rattle.std.specs.Arc.{arc_value};
 ghost use Rattle.esm_expr_eval.specs.Machine.{IsGiven, IsSound};
 ghost use Rattle.esm_body.specs.Rest.{end};
-ghost use Rattle.esm_body.specs.Inner.Stack.{innermost, IsUse};
+ghost use Rattle.esm_body.specs.Code.{innermost, IsUse, IsCode};
 ghost use Rattle.esm_values.specs.Acts.{Act as act};
 ghost use Rattle.esm_values.specs.Code.{value_of};
 ghost use Rattle.esm_body.specs.Inner.World.{ActsInside};
-ghost use Rattle.esm_body.specs.Inner.Turn.{IsCode, MayTurn, Threw, Turned, code_rest, doing_given, unbegun, used};
+ghost use Rattle.esm_body.specs.Inner.Turn.{MayTurn, Threw, Turned, code_rest, doing_given, unbegun, used};
 
 use crate::blocks::{assigned, begin, bound_name, take_next};
 use crate::catching::{catch, pop_level};
@@ -41,15 +41,11 @@ pub(crate) enum Outcome {
 
 /// A throw leads to the handler of the innermost `try`, or out.
 pub(crate) fn throw<I: Importer>(inside: &mut Inside<'_, I>, thrown: Value) -> Result<Outcome, Stop>
-    requires code { IsCode inside.old.now }
+    requires code { IsCode inside.old.code.now }
     ensures { Threw inside.old thrown result inside.new }
 {
-    match catch(
-        inside.alloc,
-        &inside.now.tree,
-        &mut inside.now.levels,
-        thrown,
-    ) {
+    let code = &mut *inside.code;
+    match catch(inside.alloc, &code.tree, &mut code.levels, thrown) {
         Ok(None) => Ok(Outcome::On),
         Ok(Some(value)) => Ok(Outcome::Thrown(value)),
         Err(_) => Err(Stop::Memory),
@@ -63,14 +59,14 @@ fn set<I: Importer>(
     place: usize,
     value: Value,
 ) -> Result<Outcome, Stop>
-    requires code { IsCode inside.old.now }
-    requires id { id.0 < length (arc_value inside.old.now.tree).stmts }
+    requires code { IsCode inside.old.code.now }
+    requires id { id.0 < length (arc_value inside.old.code.now.tree).stmts }
     requires fits { MayTurn I.seen I.modules I.linked I.fits I.begins inside.old
-        (used inside.old.now (Use.Sets id place) value) }
+        (used inside.old.code.now (Use.Sets id place) value) }
     ensures { Turned I.seen I.modules I.linked I.fits I.begins inside.old
-        (used inside.old.now (Use.Sets id place) value) result inside.new }
+        (used inside.old.code.now (Use.Sets id place) value) result inside.new }
 {
-    match inside.now.tree.clone() {
+    match inside.code.tree.clone() {
         Ok(tree) => {
             set_name(inside, bound_name(&tree, id, place), value);
             Ok(Outcome::On)
@@ -81,14 +77,14 @@ fn set<I: Importer>(
 
 /// An assignment writes its name, or throws.
 fn write<I: Importer>(inside: &mut Inside<'_, I>, id: StmtId, value: Value) -> Result<Outcome, Stop>
-    requires code { IsCode inside.old.now }
-    requires id { id.0 < length (arc_value inside.old.now.tree).stmts }
+    requires code { IsCode inside.old.code.now }
+    requires id { id.0 < length (arc_value inside.old.code.now.tree).stmts }
     requires fits { MayTurn I.seen I.modules I.linked I.fits I.begins inside.old
-        (used inside.old.now (Use.Writes id) value) }
+        (used inside.old.code.now (Use.Writes id) value) }
     ensures { Turned I.seen I.modules I.linked I.fits I.begins inside.old
-        (used inside.old.now (Use.Writes id) value) result inside.new }
+        (used inside.old.code.now (Use.Writes id) value) result inside.new }
 {
-    match inside.now.tree.clone() {
+    match inside.code.tree.clone() {
         Ok(tree) => match write_name(inside, assigned(&tree, id), value) {
             Ok(None) => Ok(Outcome::On),
             Ok(Some(error)) => throw(inside, error),
@@ -100,11 +96,11 @@ fn write<I: Importer>(inside: &mut Inside<'_, I>, id: StmtId, value: Value) -> R
 
 /// A value that was awaited is printed, behind a step.
 fn print_awaited<I: Importer>(inside: &mut Inside<'_, I>, value: Value) -> Result<Outcome, Stop>
-    requires code { IsCode inside.old.now }
+    requires code { IsCode inside.old.code.now }
     requires fits { MayTurn I.seen I.modules I.linked I.fits I.begins inside.old
-        (used inside.old.now Use.Prints value) }
+        (used inside.old.code.now Use.Prints value) }
     ensures { Turned I.seen I.modules I.linked I.fits I.begins inside.old
-        (used inside.old.now Use.Prints value) result inside.new }
+        (used inside.old.code.now Use.Prints value) result inside.new }
 {
     match inside.step(1) {
         Ok(()) => match print_one(inside, value) {
@@ -133,23 +129,17 @@ fn branch<I: Importer>(
     id: StmtId,
     value: &Value,
 ) -> Result<Outcome, Stop>
-    requires code { IsCode inside.old.now }
-    requires id { id.0 < length (arc_value inside.old.now.tree).stmts }
+    requires code { IsCode inside.old.code.now }
+    requires id { id.0 < length (arc_value inside.old.code.now.tree).stmts }
     requires fits { MayTurn I.seen I.modules I.linked I.fits I.begins inside.old
-        (used inside.old.now (Use.Chooses id) value.now) }
+        (used inside.old.code.now (Use.Chooses id) value.now) }
     ensures { Turned I.seen I.modules I.linked I.fits I.begins inside.old
-        (used inside.old.now (Use.Chooses id) value.now) result inside.new }
+        (used inside.old.code.now (Use.Chooses id) value.now) result inside.new }
 {
     let truth = is_true(value);
-    let node = inside.now.tree.stmt(id);
-    match choose(
-        inside.alloc,
-        &inside.now.tree,
-        &mut inside.now.levels,
-        id,
-        node,
-        truth,
-    ) {
+    let code = &mut *inside.code;
+    let node = code.tree.stmt(id);
+    match choose(inside.alloc, &code.tree, &mut code.levels, id, node, truth) {
         Ok(()) => Ok(Outcome::On),
         Err(_) => Err(Stop::Memory),
     }
@@ -161,12 +151,12 @@ pub(crate) fn finish<I: Importer>(
     purpose: Use,
     value: Value,
 ) -> Result<Outcome, Stop>
-    requires code { IsCode inside.old.now }
-    requires purpose { IsUse (length (arc_value inside.old.now.tree).stmts) purpose }
+    requires code { IsCode inside.old.code.now }
+    requires purpose { IsUse (length (arc_value inside.old.code.now.tree).stmts) purpose }
     requires fits { MayTurn I.seen I.modules I.linked I.fits I.begins inside.old
-        (used inside.old.now purpose value) }
+        (used inside.old.code.now purpose value) }
     ensures { Turned I.seen I.modules I.linked I.fits I.begins inside.old
-        (used inside.old.now purpose value) result inside.new }
+        (used inside.old.code.now purpose value) result inside.new }
 {
     match purpose {
         Use::Drops => Ok(Outcome::On),
@@ -189,14 +179,14 @@ pub(crate) fn advance<I: Importer>(
     doing: Doing,
     given: Option<Value>,
 ) -> Result<Outcome, Stop>
-    requires code { IsCode inside.old.now }
-    requires purpose { IsUse (length (arc_value inside.old.now.tree).stmts) doing.purpose }
+    requires code { IsCode inside.old.code.now }
+    requires purpose { IsUse (length (arc_value inside.old.code.now.tree).stmts) doing.purpose }
     requires sound { IsSound doing.frame }
     requires given { IsGiven given doing.frame.focus }
     requires fits { MayTurn I.seen I.modules I.linked I.fits I.begins inside.old
-        (doing_given inside.old.now doing given) }
+        (doing_given inside.old.code.now doing given) }
     ensures { Turned I.seen I.modules I.linked I.fits I.begins inside.old
-        (doing_given inside.old.now doing given) result inside.new }
+        (doing_given inside.old.code.now doing given) result inside.new }
 {
     esm_resolve::laws::shared_set();
     let mut doing = doing;
@@ -217,18 +207,18 @@ pub(crate) fn advance<I: Importer>(
 
 /// A statement begins, behind its step.
 fn begin_statement<I: Importer>(inside: &mut Inside<'_, I>, id: StmtId) -> Result<Outcome, Stop>
-    requires code { IsCode inside.old.now }
-    requires id { id.0 < length (arc_value inside.old.now.tree).stmts }
+    requires code { IsCode inside.old.code.now }
+    requires id { id.0 < length (arc_value inside.old.code.now.tree).stmts }
     requires fits { MayTurn I.seen I.modules I.linked I.fits I.begins inside.old
-        (unbegun inside.old.now id) }
+        (unbegun inside.old.code.now id) }
     ensures { Turned I.seen I.modules I.linked I.fits I.begins inside.old
-        (unbegun inside.old.now id) result inside.new }
+        (unbegun inside.old.code.now id) result inside.new }
 {
     match inside.step(1) {
         Ok(()) => {
-            let node = inside.now.tree.stmt(id);
-            let levels = &mut inside.now.levels;
-            match begin(inside.alloc, &inside.now.tree, levels, id, node) {
+            let code = &mut *inside.code;
+            let node = code.tree.stmt(id);
+            match begin(inside.alloc, &code.tree, &mut code.levels, id, node) {
                 Ok(()) => Ok(Outcome::On),
                 Err(_) => Err(Stop::Memory),
             }
@@ -239,16 +229,16 @@ fn begin_statement<I: Importer>(inside: &mut Inside<'_, I>, id: StmtId) -> Resul
 
 /// A block at its end is left, if there is one.
 fn leave<I: Importer>(inside: &mut Inside<'_, I>) -> Outcome
-    requires code { IsCode inside.old.now }
-    requires ends { innermost (arc_value inside.old.now.tree).stmts inside.old.now.levels.items
-        ≡ end }
+    requires code { IsCode inside.old.code.now }
+    requires ends { innermost (arc_value inside.old.code.now.tree).stmts
+        inside.old.code.now.levels.items ≡ end }
     requires fits { MayTurn I.seen I.modules I.linked I.fits I.begins inside.old
-        (code_rest inside.old.now) }
+        (code_rest inside.old.code.now) }
     ensures { Turned I.seen I.modules I.linked I.fits I.begins inside.old
-        (code_rest inside.old.now) (Ok result) inside.new }
+        (code_rest inside.old.code.now) (Ok result) inside.new }
 {
-    if inside.now.levels.len() > 1 {
-        pop_level(&mut inside.now.levels);
+    if inside.code.levels.len() > 1 {
+        pop_level(&mut inside.code.levels);
         Outcome::On
     } else {
         Outcome::Done
@@ -257,13 +247,13 @@ fn leave<I: Importer>(inside: &mut Inside<'_, I>) -> Outcome
 
 /// One turn.
 pub(crate) fn turn<I: Importer>(inside: &mut Inside<'_, I>) -> Result<Outcome, Stop>
-    requires code { IsCode inside.old.now }
+    requires code { IsCode inside.old.code.now }
     requires fits { MayTurn I.seen I.modules I.linked I.fits I.begins inside.old
-        (code_rest inside.old.now) }
+        (code_rest inside.old.code.now) }
     ensures { Turned I.seen I.modules I.linked I.fits I.begins inside.old
-        (code_rest inside.old.now) result inside.new }
+        (code_rest inside.old.code.now) result inside.new }
 {
-    match take_next(&mut inside.now.levels) {
+    match take_next(&mut inside.code.levels) {
         Some(Work::Whole(id)) => begin_statement(inside, id),
         Some(Work::Does(doing)) => advance(inside, doing, None),
         Some(Work::Has(purpose, value)) => finish(inside, purpose, value),

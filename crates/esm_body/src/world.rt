@@ -1,5 +1,5 @@
 // Code under way as the world of its expressions.
-use crate::displays::{display_text, display_texts, specifier_of};
+use crate::displays::{display_texts, shown_text, specifier_of};
 use crate::importer::Importer;
 use crate::imports::{begin_import, refuse_import};
 use crate::inside::Inside;
@@ -21,7 +21,8 @@ impl<'a, I: Importer> World for Inside<'a, I> {
 
     fn read(&mut self, name: &str) -> Result<Out, Stop> {
         esm_env::laws::reads_right();
-        match read_name(self.now.levels.as_slice(), self.envs, self.now.at, name) {
+        let at = self.code.at;
+        match read_name(self.code.levels.as_slice(), self.envs, at, name) {
             Ok(found) => match tell(self.alloc, self.errors, name, found) {
                 Ok(out) => Ok(out),
                 Err(Memory) => Err(Stop::Memory),
@@ -38,7 +39,7 @@ impl<'a, I: Importer> World for Inside<'a, I> {
     }
 
     fn display(&mut self, of: &Value) -> Result<RcText, Stop> {
-        match display_text(self.alloc, self.errors, self.envs, self.imports, of) {
+        match shown_text(self.alloc, self.errors, self.envs, self.imports, of) {
             Ok(text) => match RcText::copy(self.alloc, text.as_str()) {
                 Ok(text) => Ok(text),
                 Err(Memory) => Err(Stop::Memory),
@@ -83,7 +84,7 @@ impl<'a, I: Importer> World for Inside<'a, I> {
                     self.promises,
                     self.errors,
                     self.imports,
-                    self.now.at,
+                    self.code.at,
                     specifier.as_str(),
                 ),
                 None => match refuse_import(self.alloc, self.promises, self.errors) {
@@ -96,6 +97,6 @@ impl<'a, I: Importer> World for Inside<'a, I> {
     }
 
     fn url(&self) -> &str {
-        self.imports.url(self.now.at)
+        self.imports.url(self.code.at)
     }
 }

@@ -145,8 +145,8 @@ pub(crate) fn write_name<I: Importer>(
         inside.new }
 {
     esm_env::laws::writes_right();
-    let at = inside.now.at;
-    let wrote = write_to(&mut inside.now.levels, inside.envs, at, name, value);
+    let at = inside.code.at;
+    let wrote = write_to(&mut inside.code.levels, inside.envs, at, name, value);
     throw_wrote(inside.alloc, inside.errors, name, wrote)
 }
 
@@ -182,6 +182,6 @@ pub(crate) fn set_name<I: Importer>(inside: &mut Inside<'_, I>, name: &str, valu
         inside.new }
 {
     esm_env::laws::writes_right();
-    let at = inside.now.at;
-    set_to(&mut inside.now.levels, inside.envs, at, name, value)
+    let at = inside.code.at;
+    set_to(&mut inside.code.levels, inside.envs, at, name, value)
 }

@@ -3,6 +3,7 @@ pub mod Root
 pub mod LateSteps
 pub mod Onces
 pub mod Tables
+pub mod Passing
 pub mod Growth
 pub mod Begun
 pub mod Due
@@ -13,3 +14,4 @@ pub mod Gathering
 pub mod Orders
 pub mod LateHost
 pub mod Stacks
+pub mod Scripts

@@ -7,6 +7,8 @@ pub mod Puts
 pub mod WalkKeeps
 pub mod EndsKeep
 pub mod WaitsStayOpen
+pub mod Between
+pub mod Whole
 pub mod Paths
 pub mod Once
 pub mod OnceEnds

@@ -2,6 +2,6 @@ pub mod Visit
 pub mod Ends
 pub mod Ready
 pub mod Hosts
-pub mod Counts
 pub mod Orders
 pub mod Stack
+pub mod Scripted

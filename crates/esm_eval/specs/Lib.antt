@@ -12,4 +12,9 @@ pub mod Naming
 pub mod Calls
 pub mod Table
 pub mod Host
+pub mod Counts
+pub mod WalkSteps
+pub mod EndSteps
+pub mod Between
+pub mod Whole
 pub mod Inner

@@ -1,5 +1,5 @@
 -- What evaluation keeps of modules in the code, as a table of nodes by the numbers of modules.
-use Rattle.std.specs.Prelude.{◌≡◌, ◌<◌, ℕ, zero, suc, false, nat_eq, List, [], ◌∷◌, ◌++◌, map, length, slice_get, Option, Some, None}
+use Rattle.std.specs.Prelude.{◌≡◌, ◌<◌, ◌≤◌, ℕ, zero, suc, Bool, true, false, nat_eq, List, [], ◌∷◌, ◌++◌, map, length, slice_get, Option, Some, None}
 use Rattle.std.specs.Option.{option_map}
 use Rattle.esm_base.specs.Lists.{is_in}
 use Rattle.esm_values.specs.Code.{CodeValue, value_of}
@@ -77,8 +77,34 @@ abbrev pub IsOrderOf : List ℕ → ℕ → Option ℕ → Type 0
 IsOrderOf stamps x None = is_in nat_eq stamps x ≡ false
 IsOrderOf stamps x (Some k) = slice_get stamps k ≡ Some x
 
+-- the module is done
+abbrev pub is_done_by : Option Node → Bool
+is_done_by None = false
+is_done_by (Some n) = n.done
+
+abbrev pub is_done_in : List Node → ℕ → Bool
+is_done_in ns y = is_done_by (slice_get ns y)
+
+-- of these waits those before this place are done
+abbrev pub ArePassed : List Node → List ℕ → ℕ → Type 0
+ArePassed ns waits place = (k y : ℕ) → k < place → slice_get waits k ≡ Some y → is_done_in ns y ≡ true
+
+abbrev pub AreDone : Table → List ℕ → ℕ → Type 0
+AreDone t waits place = (k y : ℕ) → k < place → slice_get waits k ≡ Some y → (node_at t y).done ≡ true
+
+-- what a node has passed is there and done
+pub record HasPassed (ns : List Node) (n : Node) : Type 0 where
+  pub within : n.passed ≤ length n.waits.items
+  pub passed : ArePassed ns n.waits.items n.passed
+
+-- y may go on to this place of its waits
+abbrev pub PassesTo : List Node → ℕ → ℕ → Type 0
+PassesTo ns y place = (n : Node) → slice_get ns y ≡ Some n → HasPassed ns n
+    → (place ≤ length n.waits.items) × ArePassed ns n.waits.items place
+
 -- nodes and stamps belong together
 pub record AreKept (ns : List Node) (stamps : List ℕ) : Type 0 where
   pub bounded : (x : ℕ) (n : Node) → slice_get ns x ≡ Some n → IsBounded (length ns) n
   pub ordered : (x : ℕ) (n : Node) → slice_get ns x ≡ Some n → IsOrderOf stamps x n.order
   pub below : (k x : ℕ) → slice_get stamps k ≡ Some x → x < length ns
+  pub gone : (x : ℕ) (n : Node) → slice_get ns x ≡ Some n → HasPassed ns n

@@ -14,7 +14,7 @@ pub trait Bodies: Drop {
     ghost use Rattle.esm_promise.specs.Promises.{is_pending};
     ghost use Rattle.esm_eval.specs.Calls.{CodeCalls};
     ghost use Rattle.esm_eval.specs.Host.{BeginsItsOwn, LeavesModules, Outside, RunsAs, StartsAs, StaysFit, outside_with};
-    ghost use Rattle.esm_eval.specs.Inner.Ends.{RunFits};
+    ghost use Rattle.esm_eval.specs.EndSteps.{RunFits};
 
     /// Why a call stops.
     type Stop: Drop;

@@ -14,7 +14,8 @@ use esm_values::{PromiseId, Value};
 impl<B: Bodies> Desk for EvalHost<B> {
     ghost use Rattle.esm_eval.specs.Host.{HostFits, calls, evaluation, knows_in};
     ghost use Rattle.esm_eval.specs.Inner.Hosts.{begins_one, lawful, steady};
-    ghost use Rattle.esm_eval.specs.Inner.Counts.{unentered};
+    ghost use Rattle.esm_eval.specs.Table.{size};
+    ghost use Rattle.esm_eval.specs.Counts.{unentered};
 
     type Stop = B::Stop;
 
@@ -31,6 +32,8 @@ impl<B: Bodies> Desk for EvalHost<B> {
     ghost linked = { λ w. B.linked w.bodies };
 
     ghost left = { λ w. unentered w.nodes };
+
+    ghost size = { λ w. size w.nodes };
 
     ghost fits = { HostFits B.fits B.linked B.knows };
 

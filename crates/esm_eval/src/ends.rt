@@ -4,7 +4,8 @@ ghost use Rattle.esm_values.specs.Code.{value_of};
 ghost use Rattle.esm_eval.specs.BodyEnd.{Rejects};
 ghost use Rattle.esm_eval.specs.Begins.{First, HaveBegunOnce};
 ghost use Rattle.esm_eval.specs.Calls.{FulfillsAs, numbered};
-ghost use Rattle.esm_eval.specs.Inner.Ends.{BeginsOnly, GoesOn, IsEndOf, IsEvaluated, RanKnown, SameWaiters, Stays};
+ghost use Rattle.esm_eval.specs.Inner.Ends.{BeginsOnly, GoesOn, IsEndOf};
+ghost use Rattle.esm_eval.specs.EndSteps.{IsEvaluated, RanKnown, SameWaiters, Stays};
 
 use crate::walk::EvalEnd;
 use esm_base::{Memory, ModuleId};
@@ -18,7 +19,7 @@ pub trait Late: Drop {
     ghost use Rattle.esm_eval.specs.Begins.{BeginsOne};
     ghost use Rattle.esm_eval.specs.BodyEnd as end;
     ghost use Rattle.esm_eval.specs.Calls.{CodeCalls, CodeEvaluation, numbered};
-    ghost use Rattle.esm_eval.specs.Inner.Ends.{AreLinked, Begins, IsEvaluated, IsFinished, RunFits, Runs, SameWaiters, Says, Stays};
+    ghost use Rattle.esm_eval.specs.EndSteps.{AreLinked, Begins, IsEvaluated, IsFinished, RunFits, Runs, SameWaiters, Says, Stays};
 
     /// Why a call for a body stops.
     type Stop: Drop;
@@ -35,6 +36,8 @@ pub trait Late: Drop {
     ghost begins_one: { BeginsOne (numbered lens) acts };
     /// How many modules aren't evaluated.
     ghost unfinished: { Self → ℕ };
+    /// How many modules have a node.
+    ghost size: { Self → ℕ };
     /// The modules that are linked.
     ghost linked: { Self → ℕ → Bool };
     /// What holds between two steps, so that each may be made.
@@ -62,7 +65,8 @@ pub trait Late: Drop {
         ensures fewer { OnOk result (unfinished self.new < unfinished self.old) }
         ensures waiters { OnOk result (SameWaiters lens self.old self.new) }
         ensures stays { OnOk result (Stays linked knows self.old self.new) }
-        ensures fits { OnOk result (fits self.new) };
+        ensures fits { OnOk result (fits self.new) }
+        ensures size { size self.new ≡ size self.old };
 
     /// How many requests wait for the module.
     fn waiter_count(&self, x: u32) -> usize
@@ -82,7 +86,8 @@ pub trait Late: Drop {
         requires fits { fits self.old }
         ensures world { self.new ≡ end.finish (numbered lens) self.old x }
         ensures stays { Stays linked knows self.old self.new }
-        ensures fits { fits self.new };
+        ensures fits { fits self.new }
+        ensures size { size self.new ≡ size self.old };
 
     /// The modules that are ready once `m` is done, in their order of asynchronous evaluation.
     fn ready(&self, m: u32) -> Result<Vec<u32>, Memory>
@@ -100,7 +105,8 @@ pub trait Late: Drop {
         requires fits { fits self.old }
         ensures begins { Begins lens acts self.old x result self.new }
         ensures stays { OnOk result (Stays linked knows self.old self.new) }
-        ensures fits { OnOk result (fits self.new) };
+        ensures fits { OnOk result (fits self.new) }
+        ensures size { size self.new ≡ size self.old };
 
     /// The body of the module, which doesn't await and hasn't begun, runs to its end.
     fn run(&mut self, x: u32) -> Result<Ran, EvalEnd<Self::Stop>>
@@ -110,12 +116,14 @@ pub trait Late: Drop {
         requires fits { fits self.old }
         ensures runs { Runs lens acts self.old x result self.new }
         ensures stays { OnOk result (Stays linked knows self.old self.new) }
-        ensures fits { RunFits fits knows result self.new };
+        ensures fits { RunFits fits knows result self.new }
+        ensures size { size self.new ≡ size self.old };
 }
 
 /// A body that awaits has ended by a throw: its module, and all that wait for it, have the error.
 ///
-/// What holds between two calls is kept (`between`, `fits`). After want of memory the desk may be dropped only.
+/// What holds between two calls is kept (`between`, `fits`), and no module gets a node (`size`). After want of memory the
+/// desk may be dropped only.
 ///
 /// ECMA-262, AsyncModuleExecutionRejected.
 pub fn rejected<D: Late>(desk: &mut D, m: ModuleId, with: &Value) -> Result<(), Memory>
@@ -127,6 +135,7 @@ pub fn rejected<D: Late>(desk: &mut D, m: ModuleId, with: &Value) -> Result<(), 
         (Rejects (numbered D.lens) desk.old m.0 (value_of with.now) desk.new) }
     ensures between { OnOk result (HaveBegunOnce (numbered D.lens) desk.new) }
     ensures fits { OnOk result (D.fits desk.new) }
+    ensures size { D.size desk.new ≡ D.size desk.old }
 {
     reject_by(desk, m.0, with)
 }
@@ -134,7 +143,7 @@ pub fn rejected<D: Late>(desk: &mut D, m: ModuleId, with: &Value) -> Result<(), 
 /// A body that awaits has ended normally: its module is done, and those that are ready go on.
 ///
 /// Each call for a body is of one that hasn't begun (`first`), and what holds between two calls is kept (`between`, `fits`).
-/// After a stop or want of memory the desk may be dropped only.
+/// No module gets a node (`size`). After a stop or want of memory the desk may be dropped only.
 ///
 /// ECMA-262, AsyncModuleExecutionFulfilled.
 pub fn fulfilled<D: Late>(desk: &mut D, m: ModuleId) -> Result<(), EvalEnd<D::Stop>>
@@ -146,6 +155,7 @@ pub fn fulfilled<D: Late>(desk: &mut D, m: ModuleId) -> Result<(), EvalEnd<D::St
         desk.old m.0 result desk.new }
     ensures between { OnOk result (HaveBegunOnce (numbered D.lens) desk.new) }
     ensures fits { OnOk result (D.fits desk.new) }
+    ensures size { D.size desk.new ≡ D.size desk.old }
 {
     fulfill_ready(desk, m.0)
 }
@@ -162,6 +172,7 @@ fn reject_by<D: Late>(desk: &mut D, x: u32, v: &Value) -> Result<(), Memory>
     ensures stays { OnOk result (Stays D.linked D.knows desk.old desk.new) }
     ensures rejects { OnOk result (Rejects (numbered D.lens) desk.old x (value_of v.now) desk.new) }
     ensures fits { OnOk result (D.fits desk.new) }
+    ensures size { D.size desk.new ≡ D.size desk.old }
 {
     if desk.is_evaluated(x) {
         return Ok(());
@@ -183,6 +194,7 @@ fn fulfill_ready<D: Late>(desk: &mut D, m: u32) -> Result<(), EvalEnd<D::Stop>>
     requires fits { D.fits desk.old }
     ensures fulfills { FulfillsAs (numbered D.lens) D.acts desk.old m result desk.new }
     ensures fits { OnOk result (D.fits desk.new) }
+    ensures size { D.size desk.new ≡ D.size desk.old }
 {
     if desk.is_evaluated(m) {
         return Ok(());
@@ -215,6 +227,7 @@ fn go_on<D: Late>(desk: &mut D, x: u32) -> Result<(), EvalEnd<D::Stop>>
     ensures begins { OnOk result (BeginsOnly D.lens desk.old x desk.new) }
     ensures stays { OnOk result (Stays D.linked D.knows desk.old desk.new) }
     ensures fits { OnOk result (D.fits desk.new) }
+    ensures size { D.size desk.new ≡ D.size desk.old }
 {
     if desk.awaits(x) {
         return desk.start(x);
@@ -233,6 +246,7 @@ fn ended<D: Late>(desk: &mut D, x: u32, ran: Ran) -> Result<(), EvalEnd<D::Stop>
     ensures ends { IsEndOf D.lens desk.old x ran result desk.new }
     ensures stays { OnOk result (Stays D.linked D.knows desk.old desk.new) }
     ensures fits { OnOk result (D.fits desk.new) }
+    ensures size { D.size desk.new ≡ D.size desk.old }
 {
     match ran {
         Ran::Normal => {

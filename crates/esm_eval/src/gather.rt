@@ -31,6 +31,9 @@ impl<B: Bodies> EvalHost<B> {
         ensures orders { OnOk result (AreOrders self.now.nodes.stamps known.new.keys) }
     {
         for i in 0..self.nodes.waiter_count(y) {
+            if self.nodes.repeats(y, i) {
+                continue;
+            }
             let x = self.nodes.waiter(y, i);
             let order = match self.joining(known, x) {
                 Some(order) => order,
@@ -99,7 +102,8 @@ impl<B: Bodies> EvalHost<B> {
             (has_one_of self.now.nodes.stamps known.now.keys)
             (parts.waits (evaluation B.targets B.awaits B.begun) self.now x) }
     {
-        for k in 0..self.nodes.wait_count(x) {
+        let from = self.nodes.passed(x);
+        for k in from..self.nodes.wait_count(x) {
             let y = self.nodes.wait(x, k);
             if self.is_over(known, y) {
                 continue;

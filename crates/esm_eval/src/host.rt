@@ -5,9 +5,11 @@ ghost use Rattle.esm_values.specs.Code.{value_of};
 ghost use Rattle.esm_eval.specs.Evaluation as parts;
 ghost use Rattle.esm_eval.specs.Evaluate as walk;
 ghost use Rattle.esm_eval.specs.Host.{HostFits, LeavesBodies, calls, evaluation, knows_in};
-ghost use Rattle.esm_eval.specs.Inner.Counts.{unentered};
-ghost use Rattle.esm_eval.specs.Inner.Ends.{Begins, RunFits, Runs};
-ghost use Rattle.esm_eval.specs.Inner.Visit.{AllEntered, Keeps, KnowsError, LeavesAsync, LeavesBy, LeavesFit, ThrowsBy, cut_of};
+ghost use Rattle.esm_eval.specs.Counts.{unentered};
+ghost use Rattle.esm_eval.specs.Table.{size};
+ghost use Rattle.esm_eval.specs.EndSteps.{Begins, RunFits, Runs};
+ghost use Rattle.esm_eval.specs.Inner.Visit.{LeavesAsync, ThrowsBy, cut_of};
+ghost use Rattle.esm_eval.specs.WalkSteps.{AllEntered, Keeps, KnowsError, LeavesBy, LeavesFit};
 
 use crate::bodies::Bodies;
 use crate::nodes::Nodes;
@@ -40,6 +42,7 @@ impl<B: Bodies> EvalHost<B> {
             self.old (value_of v.now) opened.now) }
         ensures fits { OnOk result (HostFits B.fits B.linked B.knows self.new) }
         ensures known { OnOk result (B.knows self.new.bodies (value_of v.now)) }
+        ensures size { size self.new.nodes ≡ size self.old.nodes }
     {
         for i in 0..opened.len() {
             let error = v.clone()?;
@@ -96,6 +99,7 @@ impl<B: Bodies> EvalHost<B> {
             (value_of v) result self.new }
         ensures fits { LeavesFit (HostFits B.fits B.linked B.knows) (knows_in B.knows)
             result self.new }
+        ensures size { size self.new.nodes ≡ size self.old.nodes }
     {
         match self.fail_all(opened, &v) {
             Ok(()) => Err(Cut::Thrown(v)),
@@ -113,6 +117,7 @@ impl<B: Bodies> EvalHost<B> {
         ensures keeps { OnOk result (Keeps (evaluation B.targets B.awaits B.begun)
             (λ w. B.linked w.bodies) (λ w. unentered w.nodes) self.old self.new) }
         ensures fits { OnOk result (HostFits B.fits B.linked B.knows self.new) }
+        ensures size { size self.new.nodes ≡ size self.old.nodes }
     {
         match self.nodes.push_wait(x, y) {
             Ok(()) => self.nodes.push_waiter(y, x),
@@ -130,6 +135,7 @@ impl<B: Bodies> EvalHost<B> {
         ensures leaves { LeavesAsync (evaluation B.targets B.awaits B.begun)
             (λ w. B.linked w.bodies) (λ w. unentered w.nodes) (calls B.acts) self.old x result self.new }
         ensures fits { OnOk result (HostFits B.fits B.linked B.knows self.new) }
+        ensures size { size self.new.nodes ≡ size self.old.nodes }
     {
         match self.nodes.add_stamp(x) {
             Ok(()) => self.begin(x),
@@ -148,6 +154,7 @@ impl<B: Bodies> EvalHost<B> {
             (λ w. unentered w.nodes) (calls B.acts) self.old opened.now x result self.new }
         ensures fits { LeavesFit (HostFits B.fits B.linked B.knows) (knows_in B.knows)
             result self.new }
+        ensures size { size self.new.nodes ≡ size self.old.nodes }
     {
         if self.bodies.awaits(ModuleId(x)) {
             return match self.leave_async(x) {
@@ -178,6 +185,7 @@ impl<B: Bodies> EvalHost<B> {
         ensures modules { OnOk result
             (LeavesBodies B.linked B.targets B.knows self.old.bodies self.new.bodies) }
         ensures fits { OnOk result (HostFits B.fits B.linked B.knows self.new) }
+        ensures size { size self.new.nodes ≡ size self.old.nodes }
     {
         let reaction = Reaction {
             kind: ReactionKind::BodyEnd,
@@ -204,6 +212,7 @@ impl<B: Bodies> EvalHost<B> {
             (LeavesBodies B.linked B.targets B.knows self.old.bodies self.new.bodies) }
         ensures fits { RunFits (HostFits B.fits B.linked B.knows) (knows_in B.knows)
             result self.new }
+        ensures size { size self.new.nodes ≡ size self.old.nodes }
     {
         self.bodies.run(&mut self.promises, ModuleId(x))
     }

@@ -17,7 +17,8 @@ use std::collections::BTreeSet;
 impl<B: Bodies> Late for EvalHost<B> {
     ghost use Rattle.esm_eval.specs.Host.{HostFits, calls, evaluation, knows_in};
     ghost use Rattle.esm_eval.specs.Inner.Hosts.{begins_one, lawful, steady};
-    ghost use Rattle.esm_eval.specs.Inner.Counts.{unfinished};
+    ghost use Rattle.esm_eval.specs.Table.{size};
+    ghost use Rattle.esm_eval.specs.Counts.{unfinished};
 
     type Stop = B::Stop;
 
@@ -32,6 +33,8 @@ impl<B: Bodies> Late for EvalHost<B> {
     ghost begins_one = { begins_one B.targets B.awaits B.begun B.acts B.begins_its_own };
 
     ghost unfinished = { λ w. unfinished w.nodes };
+
+    ghost size = { λ w. size w.nodes };
 
     ghost linked = { λ w. B.linked w.bodies };
 
@@ -99,8 +102,10 @@ impl<B: Bodies> EvalHost<B> {
 
     /// The promise that a module keeps is rejected, where there is one.
     fn reject_kept(&mut self, promise: Option<PromiseId>, v: &Value) -> Result<(), Memory>
-        ensures { OnOk result (self.new ≡ parts.reject_kept (evaluation B.targets B.awaits B.begun)
+        ensures world { OnOk result (self.new
+            ≡ parts.reject_kept (evaluation B.targets B.awaits B.begun)
             self.old (option_map (λ p. p.0) promise) (value_of v.now)) }
+        ensures nodes { self.new.nodes ≡ self.old.nodes }
     {
         match promise {
             Some(p) => {

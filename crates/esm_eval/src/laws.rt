@@ -1,7 +1,11 @@
 // Laws of the definitions, as functions without effect.
+ghost use Rattle.esm_eval.specs.Between.{HostsStayBetween, StaysBetween};
 ghost use Rattle.esm_eval.specs.Keeping.{HasEvaluation};
 ghost use Rattle.esm_eval.specs.Naming.{EvaluationFollowsNames};
 ghost use Rattle.esm_eval.specs.Laws.{BeginsOnce, OneEvaluation, WaitsStayOpen};
+ghost use Rattle.esm_eval.specs.Whole.{HostsMayEvaluate};
+
+use crate::bodies::Bodies;
 
 /// A world of any kind, with a relation for what the calls for bodies do in it. The laws range over all of them.
 pub trait AnyWorld {
@@ -36,6 +40,24 @@ pub fn waits_stay_open<A: AnyWorld>()
 /// No body begins twice.
 pub fn begins_once<A: AnyWorld>()
     ensures { BeginsOnce A.evaluation A.acts }
+{}
+
+/// What holds between two calls of evaluation holds wherever evaluation has come as far: the same was written of modules,
+/// and the same bodies have begun.
+pub fn stays_between<A: AnyWorld>()
+    ensures { StaysBetween A.evaluation }
+{}
+
+/// Over nodes, promises and bodies it holds at the opening, and stays whatever is done to promises and modules, as long as no
+/// other body begins, and also where a module more has a node.
+pub fn hosts_stay_between<B: Bodies>()
+    ensures { HostsStayBetween B.targets B.awaits B.begun }
+{}
+
+/// Over nodes, promises and bodies that fit an evaluation may begin at each linked module, where what is linked has targets
+/// among the linked modules alone.
+pub fn hosts_may_evaluate<B: Bodies>()
+    ensures { HostsMayEvaluate B.targets B.awaits B.begun B.linked B.knows B.fits }
 {}
 
 /// Worlds in which evaluation has an outcome.

@@ -10,6 +10,7 @@ mod host;
 mod late;
 pub mod laws;
 mod nodes;
+mod passing;
 mod stack;
 mod walk;
 
@@ -19,3 +20,6 @@ pub use host::EvalHost;
 pub use laws::AnyWorld;
 pub use nodes::{Nodes, Phase};
 pub use walk::{Cut, Desk, EvalEnd, evaluate};
+
+#[cfg(test)]
+mod tests;

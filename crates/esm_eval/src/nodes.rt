@@ -4,10 +4,11 @@ ghost use Rattle.std.specs.Option.{option_map, option_copied, option_or, unwrap_
 ghost use Rattle.esm_base.specs.Lists.{is_in};
 ghost use Rattle.esm_values.specs.Code.{value_of};
 ghost use Rattle.esm_eval.specs.Nodes as spec;
-ghost use Rattle.esm_eval.specs.Inner.Ends.{Says};
-ghost use Rattle.esm_eval.specs.Inner.Ready.{is_async, no_error};
-ghost use Rattle.esm_eval.specs.Table.{IsOrderOf, node_at, no_nodes, phase_of, size, with_node, with_one, with_stamp};
+ghost use Rattle.esm_eval.specs.EndSteps.{Says};
+ghost use Rattle.esm_eval.specs.Inner.Ready.{RepeatsAt, is_async, no_error};
+ghost use Rattle.esm_eval.specs.Table.{AreDone, IsOrderOf, node_at, no_nodes, phase_of, size, with_node, with_one, with_stamp};
 
+use crate::passing::pass_waiters;
 use esm_base::Memory;
 use esm_values::{PromiseId, Value};
 use std::alloc::Global;
@@ -40,6 +41,8 @@ pub(crate) struct Node {
     pub(crate) order: Option<usize>,
     pub(crate) waits: Vec<u32>,
     pub(crate) waiters: Vec<u32>,
+    /// The modules of its waits before this place are done.
+    pub(crate) passed: usize,
 }
 
 /// The nodes of modules by their ids, and the modules that have an order of asynchronous evaluation, in that order.
@@ -50,7 +53,7 @@ pub struct Nodes {
 }
 
 impl Model for Nodes {
-    ghost use Rattle.esm_eval.specs.Inner.Ends.{Says};
+    ghost use Rattle.esm_eval.specs.EndSteps.{Says};
     ghost use Rattle.esm_eval.specs.Inner.Ready.{is_async, no_error};
     ghost use Rattle.esm_eval.specs.Table.{AreKept, Table, table_of};
 
@@ -88,6 +91,7 @@ impl Nodes {
             order: None,
             waits,
             waiters,
+            passed: 0,
         })?;
         Ok(())
     }
@@ -277,7 +281,7 @@ impl Nodes {
         node.error = Some(error);
     }
 
-    /// The module is done, without an error.
+    /// The module is done, without an error. Those that wait for it go past this wait.
     pub(crate) fn finish(&mut self, x: u32)
         requires { x < size self.old }
         ensures { self.new ≡ with_node self.old x
@@ -286,6 +290,7 @@ impl Nodes {
         let node = &mut self.nodes[x as usize];
         node.phase = Phase::Evaluated;
         node.done = true;
+        pass_waiters(&mut self.nodes, x as usize);
     }
 
     /// The module is done, with an error.
@@ -331,8 +336,9 @@ impl Nodes {
     pub(crate) fn push_wait(&mut self, x: u32, y: u32) -> Result<(), Memory>
         requires has { x < size self.old }
         requires other { y < size self.old }
-        ensures { OnOk result (self.new ≡ with_node self.old x
+        ensures ok { OnOk result (self.new ≡ with_node self.old x
             (record (node_at self.old x) { waits = (node_at self.old x).waits ++ y ∷ [] })) }
+        ensures size { size self.new ≡ size self.old }
     {
         let node = &mut self.nodes[x as usize];
         node.waits.push(y)?;
@@ -343,8 +349,9 @@ impl Nodes {
     pub(crate) fn push_waiter(&mut self, x: u32, y: u32) -> Result<(), Memory>
         requires has { x < size self.old }
         requires other { y < size self.old }
-        ensures { OnOk result (self.new ≡ with_node self.old x
+        ensures ok { OnOk result (self.new ≡ with_node self.old x
             (record (node_at self.old x) { waiters = (node_at self.old x).waiters ++ y ∷ [] })) }
+        ensures size { size self.new ≡ size self.old }
     {
         let node = &mut self.nodes[x as usize];
         node.waiters.push(y)?;
@@ -356,6 +363,18 @@ impl Nodes {
         ensures { Says result ((node_at self.now x).waits ≡ []) }
     {
         self.wait_count(x) == 0
+    }
+
+    /// A place before which all modules are done for which the requests of this one wait.
+    pub(crate) fn passed(&self, x: u32) -> usize
+        ensures { AreDone self.now (node_at self.now x).waits result }
+    {
+        let at = x as usize;
+        if at < self.nodes.len() {
+            self.nodes[at].passed
+        } else {
+            0
+        }
     }
 
     /// The module for which one of these requests waits.
@@ -388,6 +407,18 @@ impl Nodes {
         self.nodes[x as usize].waiters[i]
     }
 
+    /// Whether one of these requests is of the same module as the one before it.
+    pub(crate) fn repeats(&self, x: u32, i: usize) -> bool
+        requires has { x < size self.now }
+        requires within { i < length (node_at self.now x).waiters }
+        ensures { IsTrue result → RepeatsAt (node_at self.now x).waiters i }
+    {
+        if i == 0 {
+            return false;
+        }
+        self.waiter(x, i - 1) == self.waiter(x, i)
+    }
+
     /// How many modules have an order of asynchronous evaluation.
     pub(crate) fn stamp_count(&self) -> usize
         ensures { result ≡ length self.now.stamps }
@@ -406,7 +437,8 @@ impl Nodes {
     /// The module has the next order of asynchronous evaluation.
     pub(crate) fn add_stamp(&mut self, x: u32) -> Result<(), Memory>
         requires { x < size self.old }
-        ensures { OnOk result (self.new ≡ with_stamp self.old x) }
+        ensures ok { OnOk result (self.new ≡ with_stamp self.old x) }
+        ensures size { size self.new ≡ size self.old }
     {
         let place = self.stamps.len();
         self.stamps.push(x)?;

@@ -1,7 +1,7 @@
 // The open modules of a walk.
 ghost use Rattle.std.specs.Prelude.{◌≡◌, ◌++◌, [], ◌∷◌, false, nat_eq, length, take, slice_get, Some, OnOk};
 ghost use Rattle.esm_base.specs.Lists.{is_in};
-ghost use Rattle.esm_eval.specs.Inner.Ends.{Says};
+ghost use Rattle.esm_eval.specs.EndSteps.{Says};
 ghost use Rattle.esm_eval.specs.Inner.Visit.{IsPlace};
 
 use esm_base::Memory;

@@ -2,7 +2,8 @@
 ghost use Rattle.std.specs.Prelude.{◌≡◌, ◌<◌, ℕ, cond, nat_lt, List, Result, Ok, OnOk};
 ghost use Rattle.esm_eval.specs.Begins.{First, HaveBegunOnce};
 ghost use Rattle.esm_eval.specs.Calls.{EvaluatesAs, numbered};
-ghost use Rattle.esm_eval.specs.Inner.Visit.{AllEntered, BeginsNew, IsSteadyStep, IsWhole, LeavesFit, Unbegun, Visiting, Within};
+ghost use Rattle.esm_eval.specs.Inner.Visit.{BeginsNew, Unbegun, Visiting};
+ghost use Rattle.esm_eval.specs.WalkSteps.{AllEntered, IsSteadyStep, IsWhole, LeavesFit, Within};
 
 use crate::stack::Stack;
 use esm_base::{Memory, ModuleId};
@@ -39,7 +40,7 @@ pub trait Desk: Drop {
     ghost use Rattle.esm_eval.specs.Evaluate as walk;
     ghost use Rattle.esm_eval.specs.Begins.{BeginsOne};
     ghost use Rattle.esm_eval.specs.Calls.{CodeCalls, CodeEvaluation, numbered};
-    ghost use Rattle.esm_eval.specs.Inner.Visit.{AllEntered, IsSteadyStep, Keeps, KnowsError, LeavesBy, LeavesFit, Opens, PassesBy, StillKnows, is_entered};
+    ghost use Rattle.esm_eval.specs.WalkSteps.{AllEntered, IsSteadyStep, Keeps, KnowsError, LeavesBy, LeavesFit, Opens, PassesBy, StillKnows, is_entered};
 
     /// Why a call for a body stops.
     type Stop: Drop;
@@ -58,6 +59,8 @@ pub trait Desk: Drop {
     ghost linked: { Self → ℕ → Bool };
     /// How many modules there are that no evaluation has entered.
     ghost left: { Self → ℕ };
+    /// How many modules have a node.
+    ghost size: { Self → ℕ };
     /// What holds between two steps, so that each may be made.
     ghost fits: { Self → Type 0 };
     /// The values that are known.
@@ -74,7 +77,8 @@ pub trait Desk: Drop {
         requires fits { fits self.old }
         ensures world { self.new ≡ walk.enter (numbered lens) self.old x }
         ensures opens { Opens lens linked left self.old x self.new }
-        ensures fits { fits self.new };
+        ensures fits { fits self.new }
+        ensures size { size self.new ≡ size self.old };
 
     /// How many requests the module has.
     fn count(&self, x: u32) -> usize
@@ -93,7 +97,8 @@ pub trait Desk: Drop {
         requires stack { AllEntered lens self.old opened.now }
         requires fits { fits self.old }
         ensures passes { PassesBy lens linked left acts self.old opened.now x t result self.new }
-        ensures fits { LeavesFit fits knows result self.new };
+        ensures fits { LeavesFit fits knows result self.new }
+        ensures size { size self.new ≡ size self.old };
 
     /// All requests of `x` are passed. Its body hasn't begun, and may begin now.
     fn leave(&mut self, x: u32, opened: &[u32]) -> Result<(), Cut<Self::Stop>>
@@ -103,7 +108,8 @@ pub trait Desk: Drop {
         requires unbegun { lens.begun self.old x ≡ false }
         requires fits { fits self.old }
         ensures leaves { LeavesBy lens linked left acts self.old opened.now x result self.new }
-        ensures fits { LeavesFit fits knows result self.new };
+        ensures fits { LeavesFit fits knows result self.new }
+        ensures size { size self.new ≡ size self.old };
 
     /// The component of `x` closes, which stands from a place of the stack on.
     fn close(&mut self, x: u32, opened: &[u32], place: usize)
@@ -112,7 +118,8 @@ pub trait Desk: Drop {
         requires fits { fits self.old }
         ensures world { self.new ≡ walk.close (numbered lens) self.old x (drop place opened.now) }
         ensures keeps { Keeps lens linked left self.old self.new }
-        ensures fits { fits self.new };
+        ensures fits { fits self.new }
+        ensures size { size self.new ≡ size self.old };
 
     /// The cycle root of the module, or itself.
     fn root_of(&self, m: u32) -> u32
@@ -136,21 +143,24 @@ pub trait Desk: Drop {
         ensures number { IfOk result (λ p. p.0 ≡ lens.next_promise self.old) }
         ensures keeps { OnOk result (Keeps lens linked left self.old self.new) }
         ensures fits { OnOk result (fits self.new) }
-        ensures knows { OnOk result (StillKnows knows self.old self.new) };
+        ensures knows { OnOk result (StillKnows knows self.old self.new) }
+        ensures size { size self.new ≡ size self.old };
 
     /// A promise is rejected.
     fn reject(&mut self, p: PromiseId, v: Value)
         requires known { knows self.old (value_of v) }
         requires fits { fits self.old }
         ensures world { self.new ≡ lens.reject self.old p.0 (value_of v) }
-        ensures fits { fits self.new };
+        ensures fits { fits self.new }
+        ensures size { size self.new ≡ size self.old };
 
     /// A promise is fulfilled where the module is evaluated.
     fn fulfill_by(&mut self, p: PromiseId, m: u32)
         requires { fits self.old }
         ensures world { self.new
             ≡ walk.fulfill_by lens self.old p.0 (evaluation.phase lens self.old m) }
-        ensures fits { fits self.new };
+        ensures fits { fits self.new }
+        ensures size { size self.new ≡ size self.old };
 }
 
 /// Visits a module. Gives the lowest place among the open modules that it and those above it lead to.
@@ -167,6 +177,7 @@ fn visit<D: Desk>(desk: &mut D, opened: &mut Stack, x: u32) -> Result<usize, Cut
         desk.new opened.new }
     ensures begins { OnOk result (BeginsNew D.lens desk.old desk.new) }
     ensures fits { LeavesFit D.fits D.knows result desk.new }
+    ensures size { D.size desk.new ≡ D.size desk.old }
 {
     if desk.was_entered(x) {
         return Ok(opened.place_of(x));
@@ -212,7 +223,7 @@ fn lesser(low: usize, found: usize) -> usize
 /// rejected already where the evaluation has ended.
 ///
 /// Each call for a body is of one that hasn't begun (`first`), and what holds between two calls is kept (`between`, `fits`).
-/// After a stop or want of memory the desk may be dropped only.
+/// No module gets a node (`size`). After a stop or want of memory the desk may be dropped only.
 ///
 /// ECMA-262, Evaluate.
 pub fn evaluate<D: Desk>(
@@ -228,6 +239,7 @@ pub fn evaluate<D: Desk>(
         desk.old m.0 result desk.new }
     ensures between { OnOk result (HaveBegunOnce (numbered D.lens) desk.new) }
     ensures fits { OnOk result (D.fits desk.new) }
+    ensures size { D.size desk.new ≡ D.size desk.old }
 {
     evaluate_by(alloc, desk, m.0)
 }
@@ -239,6 +251,7 @@ fn evaluate_by<D: Desk>(alloc: Global, desk: &mut D, m: u32) -> Result<PromiseId
     requires fits { D.fits desk.old }
     ensures evaluates { EvaluatesAs (numbered D.lens) D.acts desk.old m result desk.new }
     ensures fits { OnOk result (D.fits desk.new) }
+    ensures size { D.size desk.new ≡ D.size desk.old }
 {
     let root = desk.root_of(m);
     match desk.promise(root) {

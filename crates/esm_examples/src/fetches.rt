@@ -1,17 +1,19 @@
 //! What a server or a test runner wants: the run of an entry over fetches of its own.
-ghost use Rattle.std.specs.Prelude.{◌≡◌, ◌+◌, [], true, IfOk, OnOk, length};
+ghost use Rattle.std.specs.Prelude.{◌≡◌, ◌+◌, [], true, false, IfOk, OnOk, length};
 ghost use Rattle.esm_ast.specs.Outcome.{outcome_view};
 ghost use Rattle.esm_base.specs.Urls.{Url, is_usable};
 ghost use Rattle.esm_import_map.specs.ImportMap.{Maps};
-ghost use Rattle.esm_turn.specs.Represents.{Represents, RepresentsOn};
+ghost use Rattle.esm_machine.specs.Machine.{state_of};
+ghost use Rattle.esm_machine.specs.Represents.{Represents, RepresentsOn};
 ghost use Rattle.esm_examples.specs.Fetches.{Files, ComesFrom, IsRunOver};
 ghost use Rattle.esm_examples.specs.Inner.Driving.{IsOpen, IsNext, IsDriven};
 
 use esm_ast::{BrokenText, Outcome};
 use esm_base::{Memory, ReadEnd, Status, Text, TextMap};
 use esm_import_map::ImportMap;
+use esm_machine::{Machine, TurnEnd};
 use esm_script::read_script;
-use esm_turn::{Machine, TurnEnd, laws};
+use esm_world::laws;
 use std::alloc::Global;
 use std::sync::Arc;
 
@@ -46,7 +48,7 @@ fn fetch(alloc: Global, files: &TextMap<Vec<u8>>, url: &Text) -> Result<Outcome,
 
 // The oldest open ask, if there is one.
 fn next_ask(machine: &Machine) -> Result<Option<Text>, Memory>
-    ensures { IfOk result (IsNext machine.now) }
+    ensures { IfOk result (IsNext (state_of machine.now)) }
 {
     match machine.asks() {
         [] => Ok(None),
@@ -56,9 +58,9 @@ fn next_ask(machine: &Machine) -> Result<Option<Text>, Memory>
 
 // Delivers what came of a fetch. Where a limit stops the machine it asks for nothing more.
 fn hand_over(machine: &mut Machine, url: &Text, outcome: &Outcome) -> Result<(), Memory>
-    requires { IsOpen machine.old url.now }
+    requires { IsOpen (state_of machine.old) url.now }
     ensures { OnOk result
-        (RepresentsOn machine.old url.now (outcome_view outcome.now) machine.new) }
+        (RepresentsOn (state_of machine.old) url.now (outcome_view outcome.now) (state_of machine.new)) }
 {
     match machine.deliver(url, outcome) {
         Ok(()) => Ok(()),
@@ -75,10 +77,10 @@ fn take_turn(
     url: Text,
     fetched: &mut Vec<Text>,
 ) -> Result<(), Memory>
-    requires { IsOpen machine.old url }
+    requires { IsOpen (state_of machine.old) url }
     ensures driven { (maps : Maps) (entry : Url)
-        → IsDriven maps entry files.now machine.old fetched.old.items
-        → OnOk result (IsDriven maps entry files.now machine.new fetched.new.items) }
+        → IsDriven maps entry files.now (state_of machine.old) fetched.old.items
+        → OnOk result (IsDriven maps entry files.now (state_of machine.new) fetched.new.items) }
     ensures more { OnOk result (length fetched.new.items ≡ length fetched.old.items + 1) }
 {
     let outcome = fetch(alloc, files, &url)?;
@@ -90,9 +92,10 @@ fn take_turn(
 // What came of a run that asks for nothing more.
 fn ended(machine: Machine, fetched: Vec<Text>) -> Result<Ran, Memory>
     ensures { (maps : Maps) (entry : Url) (files : Files)
-        → IsDriven maps entry files machine fetched.items
+        → IsDriven maps entry files (state_of machine) fetched.items
         → IfOk result (IsRunOver maps entry files) }
 {
+    laws::has_standard_run();
     let Some(status) = machine.end() else {
         return Err(Memory);
     };
@@ -109,10 +112,10 @@ fn ended(machine: Machine, fetched: Vec<Text>) -> Result<Ran, Memory>
 // A machine under this import map that has asked for the entry.
 fn new_machine(alloc: Global, map: ImportMap, entry: &Text) -> Result<Machine, Memory>
     requires { is_usable entry.now ≡ true }
-    ensures { IfOk result (λ m. Represents map entry.now m []) }
+    ensures { IfOk result (λ m. Represents map entry.now false (state_of m) []) }
 {
     let map = Arc::new(alloc, map)?;
-    Machine::new(alloc, map, entry.clone()?)
+    Machine::new(alloc, map, entry.clone()?, false)
 }
 
 /// Runs the entry, whose URL may name a module, over these files under an import map. The answer is what the standard
@@ -127,6 +130,7 @@ pub fn run_over(
     ensures { IfOk result (IsRunOver map entry.now files.now) }
 {
     laws::deliveries();
+    laws::has_standard_run();
     let mut machine = new_machine(alloc, map, entry)?;
     let mut fetched = Vec::new(alloc);
     loop {

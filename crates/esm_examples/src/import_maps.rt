@@ -1,6 +1,8 @@
 //! What a dev server wants to know: which URL a specifier in one of its modules names.
 ghost use Rattle.std.specs.Prelude.{IfOk};
+ghost use Rattle.esm_base.specs.Ends.{Gives};
 ghost use Rattle.esm_base.specs.Urls.{IsUsable};
+ghost use Rattle.esm_examples.specs.ImportMaps.{named_under};
 
 use esm_base::{End, Memory, Text, is_canonical, parse_absolute};
 use esm_import_map::{ImportMap, MapFault};
@@ -18,7 +20,8 @@ pub enum Unresolved {
     Specifier(SpecFault),
 }
 
-/// The URL that the specifier names in the module at `referrer`, under the import map of the page at `page`.
+/// The URL that the specifier names in the module at `referrer`, under the import map of the page at `page`; or the
+/// first reason why there is none: the address of the page, the import map, the address of the module, the specifier.
 pub fn resolve_under(
     alloc: Global,
     page: &str,
@@ -26,6 +29,7 @@ pub fn resolve_under(
     referrer: &str,
     specifier: &str,
 ) -> Result<Text, End<Unresolved>>
+    ensures told { Gives result (named_under page.now map.now referrer.now specifier.now) }
     ensures usable { IfOk result IsUsable }
 {
     let Some(base) = parse_absolute(alloc, page)? else {

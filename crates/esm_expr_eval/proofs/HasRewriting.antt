@@ -18,44 +18,13 @@ use Rattle.esm_expr_eval.specs.Terms.Term.{Val, Waits, Fails, Name, Or, And, Equ
 use Rattle.esm_expr_eval.specs.Terms.Terms.{none, more}
 use Rattle.esm_expr_eval.specs.Terms.Compared.{last, compared}
 use Rattle.esm_expr_eval.specs.Terms.LinkTerms.{ends, member, call}
+use Rattle.esm_expr_eval.specs.Sizes.{size, size_all, size_compared, size_links}
 use Rattle.esm_expr_eval.specs.Ready.{Holds, HoldAll, HoldCompared, HoldLinks}
 use Rattle.esm_expr_eval.specs.Rewriting.{AreValues, Rewrites, RewritesIn, enters, called, printed, error_made, import_begun}
 use Rattle.esm_expr_eval.specs.Rewriting.AreValues.{nil, cons}
 use Rattle.esm_expr_eval.specs.Rewriting.Rewrites.{fails, name, or_in, or, and_in, and, equal_in, equal_right, equal, equal_end, sum_in, sum_right, joins, sum_end, not_in, not_of, post_in, member_of, arguments, call_of, post_end, print_in, print, error_in, error, import_in, begins, own_url}
 use Rattle.esm_expr_eval.specs.Rewriting.RewritesIn.{first, later}
 use Rattle.esm_expr_eval.proofs.Lands.{AllKnown, KnowsCompletion, Views, Later, Lives, Inside, Lands, Followed, followed, stays, onward, ask, lift}
-
--- ---- sizes
-
-abbrev mutual
-  pub size : {V : Type 0} → Term V → ℕ
-  size (Val v) = 1
-  size Waits = 1
-  size (Fails v) = 1
-  size (Name x) = 2
-  size (Or e es) = suc (size e + size_all es)
-  size (And e es) = suc (size e + size_all es)
-  size (Equal e cs) = suc (size e + size_compared cs)
-  size (Sum e es) = suc (size e + size_all es)
-  size (Not e) = suc (size e)
-  size (Post e ls) = suc (size e + size_links ls)
-  size (Print es) = suc (suc (size_all es))
-  size (NewError e) = suc (size e)
-  size (Import e) = suc (size e)
-  size OwnUrl = 2
-
-  pub size_all : {V : Type 0} → Terms V → ℕ
-  size_all none = 0
-  size_all (more e es) = suc (size e + size_all es)
-
-  pub size_compared : {V : Type 0} → Compared V → ℕ
-  size_compared last = 0
-  size_compared (compared b e cs) = suc (size e + size_compared cs)
-
-  pub size_links : {V : Type 0} → LinkTerms V → ℕ
-  size_links ends = 0
-  size_links (member x ls) = suc (size_links ls)
-  size_links (call es ls) = suc (size_all es + size_links ls)
 
 -- ---- what is known stays known
 

@@ -14,7 +14,8 @@ use Rattle.esm_expr_eval.specs.Ready.{IsAtWork}
 use Rattle.esm_expr_eval.specs.Rewriting.{Rewrites}
 use Rattle.esm_expr_eval.specs.Laws.{ActsAlways, HasRewriting}
 use Rattle.esm_expr_eval.proofs.Lands.{Views, HasAnswer, answers, stopped, Lives, KnowsAnswer, KnowsCompletion}
-use Rattle.esm_expr_eval.proofs.HasRewriting.{Comes', comes, come, Here, Arrives, size}
+use Rattle.esm_expr_eval.proofs.HasRewriting.{Comes', comes, come, Here, Arrives}
+use Rattle.esm_expr_eval.specs.Sizes.{size}
 
 -- nothing is asked of worlds and values
 abbrev any : (W : Type 0) → Views W CodeValue

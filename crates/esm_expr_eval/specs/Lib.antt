@@ -1,4 +1,5 @@
 pub mod Terms
+pub mod Sizes
 pub mod Ready
 pub mod Rewriting
 pub mod Ends

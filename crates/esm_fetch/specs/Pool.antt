@@ -28,8 +28,8 @@ module _ {S : Type 0} where
       (0 < times d.number v.numbers) × ServedIf d.short (holds_of d.source) (asked_of d.source) d.number v.seen
 
   -- own: a caller of this map that has one share and one number, and its source
-  abbrev pub IsReady : TableId → (S → Option Contents) → (S → List Asked) → Job S → Type 0
-  IsReady table holds_of asked_of job =
+  abbrev pub IsToBegin : TableId → (S → Option Contents) → (S → List Asked) → Job S → Type 0
+  IsToBegin table holds_of asked_of job =
       (table_of table job.caller.pass ≡ table) × ((view_in job.caller.pass).shares ≡ 1)
       × ((view_in job.caller.pass).numbers ≡ job.caller.number ∷ [])
       × Serves (holds_of job.source) (asked_of job.source) job.caller.number (view_in job.caller.pass).seen

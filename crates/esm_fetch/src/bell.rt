@@ -1,4 +1,6 @@
-// What wakes threads that wait for the map. No contract says anything of it.
+// What wakes threads that wait for the map. That they are woken no contract says.
+ghost use Rattle.std.specs.Prelude.{◌≢◌};
+
 use std::sync::{Condvar, Mutex, Wait};
 
 /// A counter that threads wait on. It is rung after each event of the map that others may wait for.
@@ -25,8 +27,11 @@ impl Bell {
         self.rung.notify_all();
     }
 
-    /// Waits while the counter is `heard`, and gives the counter. Who keeps what was given misses no ring.
-    pub fn wait<R: Wait>(&self, rt: &R, heard: u64) -> u64 {
+    /// Waits while the counter is `heard`, and gives the counter, which is another then. Who keeps what was given misses
+    /// no ring.
+    pub fn wait<R: Wait>(&self, rt: &R, heard: u64) -> u64
+        ensures { result ≢ heard }
+    {
         let count = self
             .rung
             .wait_while(rt, self.count.lock(rt), |n| *n == heard);

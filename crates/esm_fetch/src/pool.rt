@@ -7,7 +7,7 @@ ghost use Rattle.esm_module_map.specs.Views.{view_in, table_of, Same};
 ghost use Rattle.esm_module_map.specs.Replay.{maker_of};
 ghost use Rattle.esm_module_map.specs.Counts.{AreTakenOnce};
 ghost use Rattle.esm_fetch.specs.Serving.{weight, Serves, ServedIf};
-ghost use Rattle.esm_fetch.specs.Pool.{IsReady, IsDone, caller_in, source_in, source_of};
+ghost use Rattle.esm_fetch.specs.Pool.{IsToBegin, IsDone, caller_in, source_in, source_of};
 
 use crate::bell::Bell;
 use crate::posted::Posted;
@@ -106,7 +106,7 @@ pub fn work_all<R: Threads + Wait + Sync, S: Source + Send>(
 ) -> Pool<S>
     requires own { table_of modules.now.lock.table.shared.table_id caller.pass
         ≡ modules.now.lock.table.shared.table_id }
-    requires jobs { All (IsReady modules.now.lock.table.shared.table_id S.holds S.asked)
+    requires jobs { All (IsToBegin modules.now.lock.table.shared.table_id S.holds S.asked)
         jobs.items }
     requires none { done.items ≡ [] }
     requires room { vec_len done + vec_len jobs ≤ vec_capacity done }
@@ -152,7 +152,7 @@ pub fn work_all<R: Threads + Wait + Sync, S: Source + Send>(
                     requires { IsSync R.row
                         × (table_of modules.now.lock.table.shared.table_id caller.pass
                         ≡ modules.now.lock.table.shared.table_id)
-                        × All (IsReady modules.now.lock.table.shared.table_id S.holds S.asked) jobs.items
+                        × All (IsToBegin modules.now.lock.table.shared.table_id S.holds S.asked) jobs.items
                         × (done.items ≡ []) × (vec_len done + vec_len jobs ≤ vec_capacity done) }
                     ensures { (table_of modules.entry.now.lock.table.shared.table_id
                         result.caller.pass ≡ modules.entry.now.lock.table.shared.table_id)

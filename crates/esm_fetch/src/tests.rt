@@ -5,7 +5,7 @@ ghost use Rattle.std.specs.Thread.{IsSync};
 ghost use Rattle.esm_module_map.specs.Views.{view_in, table_of};
 ghost use Rattle.esm_module_map.specs.Saying.{SaysNothing};
 ghost use Rattle.esm_fetch.specs.Serving.{weight, Serves};
-ghost use Rattle.esm_fetch.specs.Pool.{IsReady};
+ghost use Rattle.esm_fetch.specs.Pool.{IsToBegin};
 
 use crate::{Bell, Done, Job, Pool, Posted, Turned, fetch_one, work_all, worker};
 use esm_ast::Outcome;
@@ -150,9 +150,9 @@ fn two_jobs<S: Source>(
     one: Job<S>,
     other: Job<S>,
 ) -> Result<Vec<Job<S>>, Fail>
-    requires one { IsReady modules.now.lock.table.shared.table_id S.holds S.asked one }
-    requires other { IsReady modules.now.lock.table.shared.table_id S.holds S.asked other }
-    ensures jobs { IfOk result (λ v. All (IsReady modules.now.lock.table.shared.table_id S.holds
+    requires one { IsToBegin modules.now.lock.table.shared.table_id S.holds S.asked one }
+    requires other { IsToBegin modules.now.lock.table.shared.table_id S.holds S.asked other }
+    ensures jobs { IfOk result (λ v. All (IsToBegin modules.now.lock.table.shared.table_id S.holds
         S.asked) v.items) }
     ensures two { IfOk result (λ v. vec_len v ≡ 2) }
 {
@@ -170,7 +170,7 @@ fn job<S: Source>(modules: &ModuleMap<Posted>, caller: Caller<Posted>, source: S
     requires numbers { (view_in caller.pass).numbers ≡ caller.number ∷ [] }
     requires fresh { SaysNothing weight caller.number (view_in caller.pass).seen }
     requires unasked { S.asked source ≡ [] }
-    ensures { IsReady modules.now.lock.table.shared.table_id S.holds S.asked result }
+    ensures { IsToBegin modules.now.lock.table.shared.table_id S.holds S.asked result }
 {
     Job { caller, source }
 }
@@ -229,7 +229,7 @@ fn work_and_lead<R: Threads + Wait + Sync, S: Source + Send>(
         ≡ modules.now.lock.table.shared.table_id }
     requires spare { table_of modules.now.lock.table.shared.table_id spare.pass
         ≡ modules.now.lock.table.shared.table_id }
-    requires jobs { All (IsReady modules.now.lock.table.shared.table_id S.holds S.asked)
+    requires jobs { All (IsToBegin modules.now.lock.table.shared.table_id S.holds S.asked)
         jobs.items }
     requires none { done.items ≡ [] }
     requires room { vec_len done + vec_len jobs ≤ vec_capacity done }
@@ -244,7 +244,7 @@ fn work_and_lead<R: Threads + Wait + Sync, S: Source + Send>(
             requires { IsSync R.row
                 × (table_of modules.now.lock.table.shared.table_id spare.pass
                 ≡ modules.now.lock.table.shared.table_id)
-                × All (IsReady modules.now.lock.table.shared.table_id S.holds S.asked) jobs.items
+                × All (IsToBegin modules.now.lock.table.shared.table_id S.holds S.asked) jobs.items
                 × (done.items ≡ []) × (vec_len done + vec_len jobs ≤ vec_capacity done) }
             ensures { table_of modules.entry.now.lock.table.shared.table_id result.caller.pass
                 ≡ modules.entry.now.lock.table.shared.table_id }

@@ -22,7 +22,8 @@ use Rattle.esm_realm.proofs.Lists.{either}
 use Rattle.esm_realm.proofs.Urls.{or_true, or_left, or_cases, or_false}
 use Rattle.esm_env.specs.Declarations.{initial}
 use Rattle.esm_link.specs.Realm.{IsOwnBinding, declared, namespace, BindsOwnExports}
-use Rattle.esm_link.specs.Parsed.{AreSpelled, SpelledIsBound}
+use Rattle.esm_ast.specs.Spelled.{AreSpelled}
+use Rattle.esm_link.specs.Parsed.{SpelledIsBound}
 use Rattle.esm_link.proofs.SpelledNames.{IsPlain, names_plain}
 use Rattle.esm_link.proofs.DeclaredNames.{Has, any_append, owns, owns_in, initial_is, imports_in, imports_are, stated, by_statement, by_function, split_names, imports_named, apart}
 

@@ -1,15 +1,11 @@
 -- What was read meets the conditions of linking.
 use Rattle.std.specs.Prelude.{◌≡◌, ◌<◌, ◌^◌, ℕ, List, length, All}
 use Rattle.esm_tree.specs.Syntax.{Item, Parts}
-use Rattle.esm_grammar.specs.ModuleText.{Spells}
 use Rattle.esm_ast.specs.Entries.{entries_of}
+use Rattle.esm_ast.specs.Spelled.{AreSpelled}
 use Rattle.esm_realm.specs.Sound.{RecordParts}
 use Rattle.esm_realm.specs.ById.{entries_at}
 use Rattle.esm_link.specs.Realm.{items_at, BindsOwnExports, AreTrees}
-
--- a text spells these items
-abbrev pub AreSpelled : List Item → Type 0
-AreSpelled items = (bytes : List ℕ) × Spells bytes items
 
 pub record SpelledIsBound : Type 0 where
   -- ECMA-262, early errors of a module: what it exports as its own is declared once

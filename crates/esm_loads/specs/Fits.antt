@@ -1,8 +1,8 @@
 -- When loads fit the records of a realm, and their indices are right.
 use Rattle.std.specs.Prelude.{◌≡◌, ℕ, ◌≤◌, ◌<◌, true, false, List, [], ◌∷◌, ◌++◌, length, slice_get, Some, All}
 use Rattle.esm_tree.specs.Syntax.{Item}
-use Rattle.esm_grammar.specs.ModuleText.{Spells}
 use Rattle.esm_ast.specs.Entries.{entries_of}
+use Rattle.esm_ast.specs.Spelled.{AreSpelled}
 use Rattle.esm_base.specs.declared.limits.TheConstants.{MAX_URLS, MAX_IMPORT_CALLS}
 use Rattle.esm_base.specs.Urls.{Url, IsUsable}
 use Rattle.esm_realm.specs.Laws.{AreDistinct}
@@ -74,7 +74,7 @@ pub record HasRecord (records : List RecordParts) (id : ℕ) (url : Url) : Type 
 
 -- a text spells each of these trees
 abbrev pub HaveTexts : List (List Item) → Type 0
-HaveTexts trees = All (λ (items : List Item). (bytes : List ℕ) × Spells bytes items) trees
+HaveTexts trees = All AreSpelled trees
 
 -- each module of the table has its record, under its URL
 pub record HaveRecords (slots : List Slot) (records : List RecordParts) : Type 0 where

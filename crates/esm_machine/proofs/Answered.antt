@@ -20,8 +20,8 @@ use Rattle.esm_loads.specs.LoadsView.{before_linking}
 use Rattle.esm_loads.specs.LoadsAsLoading.{loading_of}
 use Rattle.esm_loads.specs.Whole.{IsWhole}
 use Rattle.esm_loads.specs.declared.loads.Loads.{Loads}
-use Rattle.esm_machine.specs.Calls.{AnswersBy, LeavesModules, UnlessLost}
-use Rattle.esm_machine.specs.Imports.{imported, seen_of, is_whole, condition_by}
+use Rattle.esm_machine.specs.Calls.{AnswersBy, KeepsRecords, UnlessLost}
+use Rattle.esm_machine.specs.ModuleStore.{imported, seen_of, is_whole, condition_by}
 use Rattle.esm_machine.specs.Kept.{GoesOn}
 use Rattle.esm_machine.specs.declared.condition.Condition.{Condition}
 use Rattle.esm_machine.specs.declared.condition.Condition.TheVariants as conditions
@@ -49,20 +49,20 @@ module _ (R S : List RecordParts) (t l : Loads) (maps : Maps) where
   -- ---- which modules there are
 
   pub leaves_ok : map before_linking S ≡ map before_linking R → (c : Condition) → is_whole c ≡ true
-      → UnlessLost c (LeavesModules (seen_of (imported R t maps c)) (seen_of (imported S l maps c)))
+      → UnlessLost c (KeepsRecords (seen_of (imported R t maps c)) (seen_of (imported S l maps c)))
   leaves_ok same conditions.Whole w = record { urls = urls_stay R S same; linked = linked_stay R S same }
   leaves_ok same (conditions.Stopped limit) w = cc
   leaves_ok same conditions.Lost w = cc
 
   leaves_by : map before_linking S ≡ map before_linking R → (end : End Limit)
-      → UnlessLost (condition_by end) (LeavesModules (seen_of (imported R t maps conditions.Whole)) (seen_of (imported S l maps (condition_by end))))
+      → UnlessLost (condition_by end) (KeepsRecords (seen_of (imported R t maps conditions.Whole)) (seen_of (imported S l maps (condition_by end))))
   leaves_by same (ends.Fault limit) = record { urls = urls_stay R S same; linked = linked_stay R S same }
   leaves_by same ends.Memory = tt
 
   pub leaves_err : map before_linking S ≡ map before_linking R → (c d : Condition) (end : End Limit) → is_whole c ≡ true → d ≡ condition_by end
-      → UnlessLost d (LeavesModules (seen_of (imported R t maps c)) (seen_of (imported S l maps d)))
+      → UnlessLost d (KeepsRecords (seen_of (imported R t maps c)) (seen_of (imported S l maps d)))
   leaves_err same conditions.Whole d end w e =
-      subst (λ d. UnlessLost d (LeavesModules (seen_of (imported R t maps conditions.Whole)) (seen_of (imported S l maps d)))) (sym e) (leaves_by same end)
+      subst (λ d. UnlessLost d (KeepsRecords (seen_of (imported R t maps conditions.Whole)) (seen_of (imported S l maps d)))) (sym e) (leaves_by same end)
   leaves_err same (conditions.Stopped limit) d end w e = cc
   leaves_err same conditions.Lost d end w e = cc
 

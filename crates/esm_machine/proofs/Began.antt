@@ -25,7 +25,7 @@ use Rattle.esm_loads.specs.declared.loads.Loads.{Loads}
 use Rattle.esm_body.specs.Importers.{Begun, outer_with}
 use Rattle.esm_body.specs.declared.log.Stop.{Stop}
 use Rattle.esm_machine.specs.Seen.{Begins}
-use Rattle.esm_machine.specs.Imports.{imported, seen_of, linked_urls, is_whole, condition_by, stop_by}
+use Rattle.esm_machine.specs.ModuleStore.{imported, seen_of, linked_urls, is_whole, condition_by, stop_by}
 use Rattle.esm_machine.specs.Kept.{Show, GoesOn, IsKept}
 use Rattle.esm_machine.specs.declared.condition.Condition.{Condition}
 use Rattle.esm_machine.specs.declared.condition.Condition.TheVariants as conditions

@@ -35,7 +35,7 @@ use Rattle.esm_world.specs.Layers as layers
 use Rattle.esm_machine.specs.Seen.{Seen, names, modules}
 use Rattle.esm_machine.specs.Following.{loading_of}
 use Rattle.esm_machine.specs.Held.{Held, EntryHeld, world_by}
-use Rattle.esm_machine.specs.Evaluating.{value_by, IsLinkedBy, held_in, world_in, by_ids, state_in, ActsById, HasUrls, EvaluationIsOfTheWorld}
+use Rattle.esm_machine.specs.Evaluating.{value_by, IsLinkedNumber, held_in, world_in, by_ids, state_in, ActsById, HasUrls, EvaluationIsOfTheWorld}
 use Rattle.esm_machine.specs.Inner.Numbers.{url, number, url_number, number_url}
 use Rattle.esm_machine.proofs.Following.{same_names, urls_tell_apart, bodies_are_of_the_world}
 
@@ -201,7 +201,7 @@ module _ {B : Type 0} (seen : B → Seen) (errors : B → Errors) (cells : B →
         )
 
     calls_follow : (acts : CodeCalls (Outside B) Limit) → ((o v : Outside B) (c : Call ℕ) (r : Result (CallAnswer (Value ℕ) c) Limit) → acts o c r v → Acts o c r v)
-        → CallsFollow (numbering urls) (value_by urls) (Good urls) ids layers.evaluation world (IsLinkedBy urls linked) (host.calls acts) layers.Executes
+        → CallsFollow (numbering urls) (value_by urls) (Good urls) ids layers.evaluation world (IsLinkedNumber urls linked) (host.calls acts) layers.Executes
     calls_follow acts are w v c r g due a =
         let b = call_by_urls w v c r g a.0 (are (host.outside w) (host.outside v) c r a.1) in (
           subst (λ us. layers.Executes (world_by us (held w) linked) (named_call (numbering urls) (value urls) c) (mapped_result (numbering urls) (value urls) c r) (world v)) (sym g)
@@ -213,5 +213,5 @@ pub evaluation_is_of_the_world : {B : Type 0} (seen : B → Seen) (errors : B �
     → EvaluationIsOfTheWorld seen errors cells engine acts
 evaluation_is_of_the_world seen errors cells engine acts entry linked urls are lawful steady one =
     evaluation_follows_names (numbering urls) (value_by urls) (HasUrls seen errors cells engine urls) (by_ids seen errors cells engine) layers.evaluation (world_in seen errors cells engine entry linked)
-    (IsLinkedBy urls linked) (host.calls acts) layers.Executes lawful steady one
+    (IsLinkedNumber urls linked) (host.calls acts) layers.Executes lawful steady one
     (matches seen errors cells engine entry linked urls) (writes_stay seen errors cells engine entry linked urls) (calls_follow seen errors cells engine entry linked urls acts are)

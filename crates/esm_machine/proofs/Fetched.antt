@@ -29,7 +29,7 @@ use Rattle.esm_loads.specs.declared.loads.Loads.{Loads}
 use Rattle.esm_link.specs.Realm.{is_linked}
 use Rattle.esm_machine.specs.Arrivals.{urls_with}
 use Rattle.esm_machine.specs.Calls.{FetchesBy}
-use Rattle.esm_machine.specs.Imports.{imported, is_whole, seen_of, linked_urls}
+use Rattle.esm_machine.specs.ModuleStore.{imported, is_whole, seen_of, linked_urls}
 use Rattle.esm_machine.specs.Kept.{GoesOn}
 use Rattle.esm_machine.specs.declared.condition.Condition.{Condition}
 use Rattle.esm_machine.specs.declared.condition.Condition.TheVariants as conditions

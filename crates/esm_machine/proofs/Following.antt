@@ -23,7 +23,7 @@ use Rattle.esm_machine.specs.Following.{loading_of, BodiesAreOfTheWorld, Linking
 pub urls_tell_apart : IsSameness same_url
 urls_tell_apart = record { own = λ u. (bytes_eq-Decides u u).1 refl; equal = λ u v e. (bytes_eq-Decides u v).0 e }
 
-numbers_tell_apart : IsSameness nat_eq
+pub numbers_tell_apart : IsSameness nat_eq
 numbers_tell_apart = record { own = λ n. eq-eqb n n refl; equal = λ m n e. eqb-true m n e }
 
 module _ (urls : List Url) where

@@ -81,7 +81,7 @@ not_same true h = absurd (h refl)
 not_same false h = refl
 
 -- with a URL behind them that isn't among them, they differ still
-one_more : (us : List Url) (u : Url) → EachOnce same_url us → has us u ≡ false → EachOnce same_url (us ++ u ∷ [])
+pub one_more : (us : List Url) (u : Url) → EachOnce same_url us → has us u ≡ false → EachOnce same_url (us ++ u ∷ [])
 one_more [] u d n = (refl, tt)
 one_more (v ∷ us) u d n = (behind us d.0, one_more us u d.1 (rest_false (same_url u v) (has us u) n))
   where
@@ -107,7 +107,7 @@ module _ (us : List Url) (u : Url) (once : EachOnce same_url us) (new : has us u
   abbrev More : List Url
   More = us ++ u ∷ []
 
-  same_url_of : (m : ℕ) → m < length us → url us m ≡ url More m
+  pub same_url_of : (m : ℕ) → m < length us → url us m ≡ url More m
   same_url_of m h =
       let g = got us m h in
       numbers_urls.begins us m g.0 once g.1 ∙ sym (numbers_urls.begins More m g.0 (one_more us u once new) (got_still us (u ∷ []) m g.0 g.1))
@@ -291,10 +291,10 @@ module _ (h : Held) (linked : List Url) (u : Url) (k : IsHeld h linked) (new : h
 
   engine_alike : renamed_engine (numbering Us) h.engine ≡ renamed_engine (numbering (Us ++ u ∷ [])) h.engine
   engine_alike = λ i. record {
-    events = events_alike Us u k.apart new linked Table' k.have_ids h.engine.events k.fits.events i;
+    events = events_alike Us u k.covered.apart new linked Table' k.covered.have_ids h.engine.events k.fits.events i;
     log = h.engine.log;
     steps = h.engine.steps;
-    standing = standing_alike Us u k.apart new linked Table' k.have_ids k.fits.modules h.seen.loading refl h.engine.standing k.fits.state.standing i;
+    standing = standing_alike Us u k.covered.apart new linked Table' k.covered.have_ids k.fits.modules h.seen.loading refl h.engine.standing k.fits.state.standing i;
     trace = h.engine.trace;
     stopped = h.engine.stopped;
   }
@@ -306,13 +306,13 @@ module _ (h : Held) (linked : List Url) (u : Url) (k : IsHeld h linked) (new : h
   world_alike = λ i. record {
     loading = h.seen.loading;
     linked = linked;
-    nodes = λ v. nodes_alike Us u k.apart new linked Table' k.have_ids h.nodes k.nodes v (k.fits.nodes v) i;
-    stamps = all_names_alike Us u k.apart new linked Table' k.have_ids h.nodes.stamps k.fits.stamps i;
-    promises = promises_alike Us u k.apart new linked Table' k.have_ids h.promises k.fits.state.whole.promises i;
+    nodes = λ v. nodes_alike Us u k.covered.apart new linked Table' k.covered.have_ids h.nodes k.covered.nodes v (k.fits.nodes v) i;
+    stamps = all_names_alike Us u k.covered.apart new linked Table' k.covered.have_ids h.nodes.stamps k.fits.stamps i;
+    promises = promises_alike Us u k.covered.apart new linked Table' k.covered.have_ids h.promises k.fits.state.whole.promises i;
     errors = h.errors;
-    cells = λ v x. cells_alike Us u k.apart new linked Table' k.have_ids h.cells k.cells v x (known_cell v x) i;
+    cells = λ v x. cells_alike Us u k.covered.apart new linked Table' k.covered.have_ids h.cells k.covered.cells v x (known_cell v x) i;
     engine = engine_alike i;
-    entry = entry_alike Us u k.apart new linked Table' k.have_ids h.entry k.fits.entry i;
+    entry = entry_alike Us u k.covered.apart new linked Table' k.covered.have_ids h.entry k.fits.entry i;
   }
 
 pub records_are_added : RecordsAreAdded

@@ -13,7 +13,7 @@ use Rattle.esm_loads.specs.LoadsView.{every_form, place_in}
 use Rattle.esm_loads.specs.Whole.{IsWhole}
 use Rattle.esm_loads.specs.declared.loads.Loads.{Loads}
 use Rattle.esm_machine.specs.Calls.{opening_seen}
-use Rattle.esm_machine.specs.Imports.{imported, seen_of, linked_urls}
+use Rattle.esm_machine.specs.ModuleStore.{imported, seen_of, linked_urls}
 use Rattle.esm_machine.specs.Kept.{IsKept}
 use Rattle.esm_machine.specs.declared.condition.Condition.TheVariants as conditions
 

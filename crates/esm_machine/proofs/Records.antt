@@ -24,7 +24,7 @@ use Rattle.esm_loads.proofs.PlacesOfUrls.{listed}
 use Rattle.esm_loads.proofs.NextFacts.{entry_of}
 use Rattle.esm_link.specs.Realm.{is_linked}
 use Rattle.esm_world.specs.World.{url_at}
-use Rattle.esm_machine.specs.Imports.{linked_urls, loaded_or}
+use Rattle.esm_machine.specs.ModuleStore.{linked_urls, loaded_or}
 use Rattle.esm_machine.specs.Inner.Numbers.{url, number, number_url}
 use Rattle.esm_machine.specs.Inner.Importing.{or_true, Linked, Named, among, short}
 

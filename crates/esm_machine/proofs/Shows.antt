@@ -1,13 +1,15 @@
 -- What is read of the records is what is seen of modules, as long as nothing is lost.
-use Rattle.std.proofs.Common.{◌≡◌, ℕ, zero, suc, ◌<◌, Bool, true, false, List, [], ◌∷◌, length, Option, Some, None, refl, ap, subst, sym, ◌∙◌, arith}
+use Rattle.std.proofs.Common.{◌≡◌, ℕ, zero, suc, ◌<◌, Bool, true, false, List, [], ◌∷◌, map, length, Option, Some, None, refl, ap, subst, sym, ◌∙◌, arith}
 use Rattle.std.specs.Prelude.{◌&&◌, nat_lt, if◌then◌else◌, slice_get, All, IfSome}
 use Rattle.std.specs.Option.{option_map}
 use Rattle.std.proofs.lemmas.Bool.Decides.{nat_tests}
+use Rattle.esm_base.specs.Urls.{Url, IsUsable, has}
 use Rattle.esm_base.specs.declared.module_id.ModuleId.{ModuleId}
 use Rattle.esm_import_map.specs.ImportMap.{Maps}
 use Rattle.esm_realm.specs.ById.{entries_at, loaded_at, loaded_by, url_at, url_by}
-use Rattle.esm_realm.specs.Sound.{RecordParts, IsSound, AreLoaded}
+use Rattle.esm_realm.specs.Sound.{RecordParts, IsSound, AreLoaded, url_of}
 use Rattle.esm_env.specs.Modules.{entries}
+use Rattle.esm_loads.specs.Arrival.{open_asks}
 use Rattle.esm_loads.specs.Loading.{Loading, import_promise}
 use Rattle.esm_loads.specs.Loaded.{root_url}
 use Rattle.esm_loads.specs.LoadsView.{is_unlinked}
@@ -15,13 +17,15 @@ use Rattle.esm_loads.specs.LoadsAsLoading.{loading_of}
 use Rattle.esm_loads.specs.declared.loads.Loads.{Loads}
 use Rattle.esm_loads.proofs.Places.{get_within, all_get}
 use Rattle.esm_loads.proofs.ReadFacts.{past_end}
+use Rattle.esm_link.specs.Scopes.{linked_in}
 use Rattle.esm_machine.specs.Seen.{modules, linked}
-use Rattle.esm_machine.specs.Imports.{Imported, imported, is_whole, loading_by, seen_of, size_by, loaded_or, or_itself, target_of, graph_of, urls_of}
+use Rattle.esm_machine.specs.ModuleStore.{Imported, imported, is_whole, limit_by, linked_by, linked_urls, loading_by, seen_of, size_by, loaded_or, or_itself, target_of, graph_of, urls_of}
 use Rattle.esm_machine.specs.Kept.{Show, GoesOn, IsKept, RecordsShow}
 use Rattle.esm_machine.specs.declared.condition.Condition.{Condition}
 use Rattle.esm_machine.specs.declared.condition.Condition.TheVariants as conditions
-use Rattle.esm_machine.specs.Inner.Importing.{Named, lt_true}
+use Rattle.esm_machine.specs.Inner.Importing.{Named, among, lt_true}
 use Rattle.esm_machine.proofs.Records.{name_is, entries_read, target_read}
+use Rattle.esm_machine.proofs.SeenRecords.{linked_is, unlinked_is, asks_new, asks_usable, root_seen}
 
 pub shows : (R : List RecordParts) (t : Loads) (maps : Maps) → IsSound R → GoesOn (imported R t maps conditions.Whole) → Show R (seen_of (imported R t maps conditions.Whole))
 shows R t maps s k = record {
@@ -91,11 +95,45 @@ url_right i s m = by (nat_lt m (length i.records)) refl
 
 -- ---- all together
 
+linked_right : (c : Condition) (R : List RecordParts) (t : Loads) (maps : Maps) → is_whole c ≡ true → IsKept (imported R t maps c) → (m : ℕ)
+    → linked (seen_of (imported R t maps c)) m ≡ linked_in R m
+linked_right conditions.Whole R t maps w k m = linked_is R m k.sound.differ
+linked_right (conditions.Stopped limit) R t maps w k m = cc
+linked_right conditions.Lost R t maps w k m = cc
+
+unlinked_right : (c : Condition) (R : List RecordParts) (t : Loads) (maps : Maps) → is_whole c ≡ true → IsKept (imported R t maps c) → (m : ℕ)
+    → (seen_of (imported R t maps c)).loading.unlinked (Named R m) ≡ is_unlinked R m
+unlinked_right conditions.Whole R t maps w k m = unlinked_is R t maps k.sound k.known m
+unlinked_right (conditions.Stopped limit) R t maps w k m = cc
+unlinked_right conditions.Lost R t maps w k m = cc
+
+ids_right : (c : Condition) (R : List RecordParts) (u : Url) → has (linked_by c (linked_urls R)) u ≡ true → has (map url_of R) u ≡ true
+ids_right conditions.Whole R u h = among R u h
+ids_right (conditions.Stopped limit) R u h = among R u h
+ids_right conditions.Lost R u h = cc
+
+asks_right : (c : Condition) (R : List RecordParts) (t : Loads) (maps : Maps) → is_whole c ≡ true → IsKept (imported R t maps c) → (u : Url)
+    → has (open_asks (seen_of (imported R t maps c)).loading) u ≡ true → has (map url_of R) u ≡ false
+asks_right conditions.Whole R t maps w k u h = asks_new R t maps k.sound k.known u h
+asks_right (conditions.Stopped limit) R t maps w k u h = cc
+asks_right conditions.Lost R t maps w k u h = cc
+
+stops_right : (c : Condition) (maps : Maps) (t : Loads) (R : List RecordParts) → (loading_by c (loading_of maps t R)).stopped ≡ limit_by c
+stops_right conditions.Whole maps t R = refl
+stops_right (conditions.Stopped limit) maps t R = refl
+stops_right conditions.Lost maps t R = refl
+
 pub records_show : RecordsShow
 records_show = record {
   entries_are = λ i m k lt. entries_right i.condition i.records i.loads i.maps k m lt;
   targets_are = λ i m request k lt within. target_right i.condition i.records i.loads i.maps k m request lt within;
   urls_are = λ i m k. url_right i k.sound m;
+  linked_are = λ i m k w. linked_right i.condition i.records i.loads i.maps w k m;
+  unlinked_are = λ i m k w. unlinked_right i.condition i.records i.loads i.maps w k m;
+  apart = λ i k. k.sound.differ;
+  have_ids = λ i u h. ids_right i.condition i.records u h;
+  asks_are_new = λ i u k w h. asks_right i.condition i.records i.loads i.maps w k u h;
+  stops = λ i. stops_right i.condition i.maps i.loads i.records;
 }
 
 pub within_size : (c : Condition) (n m : ℕ) → m < size_by c n → m < n
@@ -133,3 +171,16 @@ there (r ∷ R) (suc id) e = let l = there R id e in omega (arith, l)
 pub root_named : (R : List RecordParts) → IsSound R → (o : Option ModuleId) → IfSome o (λ m. is_unlinked R m.0 ≡ true) → root_url R o ≡ option_map (λ m. Named R m.0) o
 root_named R s None u = refl
 root_named R s (Some m) u = ap (λ v. Some v) (sym (name_at R m.0 s (there R m.0 u)))
+
+-- the root of a load is loaded
+pub root_loaded : (c : Condition) (R : List RecordParts) (t : Loads) (maps : Maps) → is_whole c ≡ true → IsKept (imported R t maps c) → (o : Option ModuleId)
+    → IfSome o (λ m. is_unlinked R m.0 ≡ true) → IfSome o (λ m. (seen_of (imported R t maps c)).loading.unlinked (Named R m.0) ≡ true)
+root_loaded conditions.Whole R t maps w k o h = root_seen R t maps k.sound k.known o h
+root_loaded (conditions.Stopped limit) R t maps w k o h = cc
+root_loaded conditions.Lost R t maps w k o h = cc
+
+pub usable_asks : (c : Condition) (R : List RecordParts) (t : Loads) (maps : Maps) → is_whole c ≡ true → IsKept (imported R t maps c)
+    → All IsUsable (open_asks (loading_of maps t R))
+usable_asks conditions.Whole R t maps w k = asks_usable R t maps k.sound k.known
+usable_asks (conditions.Stopped limit) R t maps w k = cc
+usable_asks conditions.Lost R t maps w k = cc

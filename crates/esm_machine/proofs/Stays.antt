@@ -17,7 +17,7 @@ use Rattle.esm_loads.proofs.Unlinks.{get_stale, long_stale}
 use Rattle.esm_link.specs.Realm.{is_linked}
 use Rattle.esm_world.specs.World.{url_at}
 use Rattle.esm_machine.specs.Seen.{Seen, modules, linked}
-use Rattle.esm_machine.specs.Imports.{linked_urls, loaded_or}
+use Rattle.esm_machine.specs.ModuleStore.{linked_urls, loaded_or}
 use Rattle.esm_machine.specs.Kept.{Show}
 use Rattle.esm_machine.specs.Inner.Numbers.{number}
 use Rattle.esm_machine.specs.Inner.Importing.{Linked, Named}

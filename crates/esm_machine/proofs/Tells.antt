@@ -30,7 +30,7 @@ use Rattle.esm_machine.proofs.Opens.{opens_as_world}
 
 -- ---- what a world shows
 
-asks_shown : (o : Option TurnEnd) (h : Held) (w : World) → ShowsBy o h w → asks w ≡ asks_by_stop o h.seen.loading
+pub asks_shown : (o : Option TurnEnd) (h : Held) (w : World) → ShowsBy o h w → asks w ≡ asks_by_stop o h.seen.loading
 asks_shown None h w s = ap (λ o. asks_by o (open_asks w.loading)) s.live ∙ ap (λ (v : World). open_asks v.loading) s.stands.world
 asks_shown (Some (ends.Fault limit)) h w s = ap (λ o. asks_by o (open_asks w.loading)) s.stopped
 asks_shown (Some ends.Memory) h w s = absurd s

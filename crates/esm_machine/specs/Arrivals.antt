@@ -1,25 +1,28 @@
--- What the end of a fetch, and the answer of a pending request, do to what a machine holds, they do in the world.
-use Rattle.std.specs.Prelude.{◌≡◌, ◌≤◌, ℕ, true, false, List, [], ◌∷◌, ◌++◌, length, None}
-use Rattle.esm_base.specs.Lists.{EachOnce}
-use Rattle.esm_base.specs.Urls.{Url, has, same_url}
+-- What the end of a fetch, and the answer of a pending request, do to what a machine holds, they do in the world, up to the limit that
+-- stops them.
+use Rattle.std.specs.Prelude.{◌≡◌, ℕ, true, false, List, [], ◌∷◌, ◌++◌, Some, None, Result, Ok, Err}
+use Rattle.esm_base.specs.declared.limits.Limit.{Limit}
+use Rattle.esm_base.specs.Urls.{Url, has}
 use Rattle.esm_ast.specs.Outcome.{OutcomeView}
 use Rattle.esm_ast.specs.Deliveries.{completed}
 use Rattle.esm_values.specs.Errors.{Errors}
 use Rattle.esm_promise.specs.Code.{Numbered}
 use Rattle.esm_eval.specs.Table.{Table, node_at}
-use Rattle.esm_loads.specs.Arrival.{after_fetch, AnswersNext}
+use Rattle.esm_loads.specs.Arrival.{after_fetch, open_asks, AnswersNext}
+use Rattle.esm_loads.specs.Host.{Host}
 use Rattle.esm_loads.specs.Hosted.{host_of}
 use Rattle.esm_loads.specs.Loading.{Loading}
 use Rattle.esm_loads.specs.LoadsView.{every_form}
 use Rattle.esm_loads.specs.UrlTable.{Found, Nothing, Faulty, Script, found}
 use Rattle.esm_world.specs.World as world
 use Rattle.esm_world.specs.World.{World}
-use Rattle.esm_world.specs.Run.{IsAllowed}
+use Rattle.esm_world.specs.Run.{HasModuleTree, IsAllowed}
 use Rattle.esm_world.specs.Sound.{IsSound}
 use Rattle.esm_world.specs.Turn.{fetched}
 use Rattle.esm_machine.specs.Seen.{names}
-use Rattle.esm_machine.specs.Held.{Held, with_host}
+use Rattle.esm_machine.specs.Held.{Held, RecordsCover, with_host}
 use Rattle.esm_machine.specs.Represents.{IsLive}
+use Rattle.esm_machine.specs.Steps.{Leaves}
 
 -- a module text brings a record more, and anything else none
 abbrev pub urls_with : List Url → Url → Found → List Url
@@ -32,13 +35,6 @@ pub record SameNodes (t s : Table) : Type 0 where
   pub nodes : (m : ℕ) → node_at s m ≡ node_at t m
   pub stamps : s.stamps ≡ t.stamps
 
--- the records have URLs that differ, among them those of what is linked, and nodes and cells are of modules that have a record
-pub record HaveRecords (h : Held) : Type 0 where
-  pub apart : EachOnce same_url h.seen.urls
-  pub have_ids : (u : Url) → has h.seen.linked u ≡ true → has h.seen.urls u ≡ true
-  pub nodes : length h.nodes.nodes ≤ length h.seen.urls
-  pub cells : (m : ℕ) (x : List ℕ) → length h.seen.urls ≤ m → h.cells m x ≡ None
-
 -- the bytes were counted, the outcome stands in the table, and a module has its record, which is the last
 pub record HasArrived (h : Held) (u : Url) (c : OutcomeView) (after : Held) : Type 0 where
   pub host : (named : ℕ → Url) → host_of named after.promises after.errors after.seen.loading
@@ -50,14 +46,29 @@ pub record HasArrived (h : Held) (u : Url) (c : OutcomeView) (after : Held) : Ty
   pub engine : after.engine ≡ h.engine
   pub entry : after.entry ≡ h.entry
 
+-- what loading is behind an answer, by ids: a limit has stopped it, or none
+abbrev pub StopsAs : Result (Unit {0}) Limit → Loading → Type 0
+StopsAs (Ok done) l = l.stopped ≡ None
+StopsAs (Err limit) l = l.stopped ≡ Some limit
+
+-- the next pending request is answered, with this host behind it
+abbrev pub IsAnswered : World → Host → World → Type 0
+IsAnswered w o after = AnswersNext (world.host_of w) o × (after ≡ world.with_host w o)
+
 pub record ArrivalsAreOfTheWorld : Type 0 where
-  -- a fetch that is allowed ends, and no record has its URL
-  pub arrives : (h after : Held) (w : World) (u : Url) (c : OutcomeView) → IsLive h w → IsSound w → IsAllowed w (completed u c)
-      → HaveRecords h → has h.seen.urls u ≡ false → HasArrived h u c after → (fetched w u c).loading.stopped ≡ None
-      → IsLive after (fetched w u c)
-  -- the next pending request is answered
-  pub answers : (h : Held) (w : World) (promises : Numbered) (errors : Errors) (l : Loading) → IsLive h w
+  -- the fetch of an open ask is allowed in each world that is stood for
+  pub allowed : (h : Held) (w : World) (u : Url) (c : OutcomeView) → IsLive h w → has (open_asks h.seen.loading) u ≡ true
+      → HasModuleTree c → IsAllowed w (completed u c)
+  -- a fetch that is allowed ends, no record has its URL, and no limit stops it, where one of the worlds that are stood for is sound
+  pub arrives : (h after : Held) (sound w : World) (u : Url) (c : OutcomeView) → IsLive h sound → IsSound sound → IsLive h w
+      → IsAllowed w (completed u c) → RecordsCover h h.seen.linked → has h.seen.urls u ≡ false → HasArrived h u c after
+      → after.seen.loading.stopped ≡ None → IsLive after (fetched w u c)
+  -- a limit stops it, before anything else happens
+  pub fetch_stops : (h : Held) (w : World) (u : Url) (c : OutcomeView) (limit : Limit) → IsLive h w
+      → (after_fetch (host_of (names h.seen).name h.promises h.errors h.seen.loading) u c).imports.stopped ≡ Some limit
+      → Leaves (Err limit) (λ v. v ≡ fetched w u c) h
+  -- the next pending request is answered, up to the limit that stops it
+  pub answers : (h : Held) (w : World) (promises : Numbered) (errors : Errors) (l : Loading) (end : Result (Unit {0}) Limit) → IsLive h w
       → AnswersNext (host_of (names h.seen).name h.promises h.errors h.seen.loading) (host_of (names h.seen).name promises errors l)
-      → l.stopped ≡ None
-      → AnswersNext (world.host_of w) (host_of (names h.seen).name promises errors l)
-      × IsLive (with_host h promises errors l) (world.with_host w (host_of (names h.seen).name promises errors l))
+      → StopsAs end l
+      → Leaves end (IsAnswered w (host_of (names h.seen).name promises errors l)) (with_host h promises errors l)

@@ -10,7 +10,7 @@ use Rattle.esm_loads.specs.Host.{Host}
 use Rattle.esm_loads.specs.Loading.{opening_loading}
 use Rattle.esm_loads.specs.LoadsView.{every_form}
 use Rattle.esm_machine.specs.Seen.{Seen}
-use Rattle.esm_machine.specs.Imports.{condition_by}
+use Rattle.esm_machine.specs.ModuleStore.{condition_by}
 use Rattle.esm_machine.specs.declared.condition.Condition.{Condition}
 use Rattle.esm_machine.specs.declared.condition.Condition.TheVariants as conditions
 
@@ -32,7 +32,7 @@ UnlessLost (conditions.Stopped limit) P = P
 UnlessLost conditions.Lost P = Unit {0}
 
 -- the same modules have records, and the same are linked
-pub record LeavesModules (before after : Seen) : Type 0 where
+pub record KeepsRecords (before after : Seen) : Type 0 where
   pub urls : after.urls ≡ before.urls
   pub linked : after.linked ≡ before.linked
 

@@ -29,8 +29,8 @@ abbrev pub value_by : List Url → Value ℕ → Value Url
 value_by urls v = renamed_value (numbering urls).name v
 
 -- the module with this id is linked
-abbrev pub IsLinkedBy : List Url → List Url → ℕ → Type 0
-IsLinkedBy urls linked m = has linked ((numbering urls).name m) ≡ true
+abbrev pub IsLinkedNumber : List Url → List Url → ℕ → Type 0
+IsLinkedNumber urls linked m = has linked ((numbering urls).name m) ≡ true
 
 module _ {B : Type 0} (seen : B → Seen) (errors : B → Errors) (cells : B → Cells ℕ) (engine : B → Engine ℕ) where
   -- with how far the entry has come
@@ -78,4 +78,4 @@ module _ {B : Type 0} (seen : B → Seen) (errors : B → Errors) (cells : B →
       → ((o v : Outside B) (c : Call ℕ) (r : Result (CallAnswer (Value ℕ) c) Limit) → acts o c r v → ActsById o c r v)
       → IsLawful by_ids → IsSteady by_ids (host.calls acts) → BeginsOne by_ids (host.calls acts)
       → EvaluationFollows (numbering urls) (value_by urls) (HasUrls urls) by_ids layers.evaluation (world_in entry linked)
-      (IsLinkedBy urls linked) (host.calls acts) layers.Executes
+      (IsLinkedNumber urls linked) (host.calls acts) layers.Executes

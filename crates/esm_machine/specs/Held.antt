@@ -85,13 +85,17 @@ pub record IsHalted (limit : Limit) (log : List ℕ) (w : World) : Type 0 where
 
 -- ---- the end of a fetch that brings a record
 
--- what holds of it between two jobs: the world fits, each linked module has a record, and nodes and cells are of modules that have one
-pub record IsHeld (h : Held) (linked : List Url) : Type 0 where
-  pub fits : FitsWorld linked h.seen.loading.entries (world_of h linked)
+-- the records have URLs that differ, among them those of what is linked, and nodes and cells are of modules that have a record
+pub record RecordsCover (h : Held) (linked : List Url) : Type 0 where
   pub apart : EachOnce same_url h.seen.urls
   pub have_ids : (u : Url) → has linked u ≡ true → has h.seen.urls u ≡ true
   pub nodes : length h.nodes.nodes ≤ length h.seen.urls
   pub cells : (m : ℕ) (x : List ℕ) → length h.seen.urls ≤ m → h.cells m x ≡ None
+
+-- what holds of it between two jobs: the world fits, and records cover it
+pub record IsHeld (h : Held) (linked : List Url) : Type 0 where
+  pub fits : FitsWorld linked h.seen.loading.entries (world_of h linked)
+  pub covered : RecordsCover h linked
 
 -- with a record more, which has this URL
 abbrev pub with_record : Held → Url → Held

@@ -6,3 +6,8 @@ pub mod HostFits
 pub mod Lawful
 pub mod Below
 pub mod Importing
+pub mod Parts
+pub mod Leads
+pub mod Between
+pub mod HostLaws
+pub mod Stops

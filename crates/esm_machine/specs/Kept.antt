@@ -1,15 +1,20 @@
 -- What holds of the records of modules and the loads as long as nothing is lost.
 use Rattle.std.specs.Prelude.{◌≡◌, ◌<◌, ℕ, true, false, List, length, slice_get}
+use Rattle.esm_base.specs.Lists.{EachOnce}
+use Rattle.esm_base.specs.Urls.{Url, has, same_url}
 use Rattle.esm_realm.specs.ById.{entries_at, loaded_at, url_at, status_of, is_linking}
 use Rattle.esm_realm.specs.Sound.{RecordParts, IsSound}
 use Rattle.esm_env.specs.Modules.{entries}
+use Rattle.esm_loads.specs.Arrival.{open_asks}
 use Rattle.esm_loads.specs.Fits.{FitRecords}
 use Rattle.esm_loads.specs.Laws.{IsOrderly}
 use Rattle.esm_loads.specs.Loaded.{HaveLoaded}
 use Rattle.esm_loads.specs.LoadsAsLoading.{loading_of}
+use Rattle.esm_loads.specs.LoadsView.{is_unlinked}
 use Rattle.esm_loads.specs.Whole.{IsWhole}
-use Rattle.esm_machine.specs.Seen.{Seen, modules, linked}
-use Rattle.esm_machine.specs.Imports.{Imported, seen_of, graph_of, urls_of, loaded_or}
+use Rattle.esm_link.specs.Scopes.{linked_in}
+use Rattle.esm_machine.specs.Seen.{Seen, names, modules, linked}
+use Rattle.esm_machine.specs.ModuleStore.{Imported, is_whole, limit_by, seen_of, graph_of, urls_of, loaded_or}
 use Rattle.esm_machine.specs.declared.condition.Condition.{Condition}
 use Rattle.esm_machine.specs.declared.condition.Condition.TheVariants as conditions
 
@@ -43,3 +48,14 @@ pub record RecordsShow : Type 0 where
   pub targets_are : (i : Imported) (m request : ℕ) → IsKept i → m < (graph_of i).size → request < length ((graph_of i).entries m).requests
       → loaded_or m (slice_get (loaded_at i.records m) request) ≡ (graph_of i).target m request
   pub urls_are : (i : Imported) (m : ℕ) → IsKept i → url_at i.records m ≡ urls_of i m
+  -- the records that are Linked are seen to be, and those that are past New
+  pub linked_are : (i : Imported) (m : ℕ) → IsKept i → is_whole i.condition ≡ true → linked (seen_of i) m ≡ linked_in i.records m
+  pub unlinked_are : (i : Imported) (m : ℕ) → IsKept i → is_whole i.condition ≡ true
+      → (seen_of i).loading.unlinked ((names (seen_of i)).name m) ≡ is_unlinked i.records m
+  -- the URLs of the records differ, those of what is linked are among them, and no open ask is
+  pub apart : (i : Imported) → IsKept i → EachOnce same_url (seen_of i).urls
+  pub have_ids : (i : Imported) (u : Url) → has (seen_of i).linked u ≡ true → has (seen_of i).urls u ≡ true
+  pub asks_are_new : (i : Imported) (u : Url) → IsKept i → is_whole i.condition ≡ true
+      → has (open_asks (seen_of i).loading) u ≡ true → has (seen_of i).urls u ≡ false
+  -- the limit that has stopped loading is the one that is known
+  pub stops : (i : Imported) → (seen_of i).loading.stopped ≡ limit_by i.condition

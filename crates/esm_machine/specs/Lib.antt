@@ -6,7 +6,10 @@ pub mod Steps
 pub mod FitsById
 pub mod Arrivals
 pub mod Evaluating
-pub mod Imports
+pub mod ModuleStore
 pub mod Kept
 pub mod Calls
+pub mod SeenScopes
+pub mod Linking
 pub mod Inner
+pub mod Machine

@@ -3,7 +3,7 @@ ghost use Rattle.std.specs.Prelude.{◌≡◌, ◌≤◌, ◌<◌, length, slice
 ghost use Rattle.esm_base.specs.declared.limits.TheConstants.{MAX_URLS};
 ghost use Rattle.esm_realm.specs.ById.{entries_at, loaded_at, url_at};
 ghost use Rattle.esm_realm.specs.Sound.{records_of};
-ghost use Rattle.esm_machine.specs.Imports.{loaded_or};
+ghost use Rattle.esm_machine.specs.ModuleStore.{loaded_or};
 
 use esm_ast::Entries;
 use esm_base::ModuleId;
@@ -15,6 +15,13 @@ pub fn count_of(realm: &Realm) -> u32
     ensures { result ≡ length (records_of realm.now) }
 {
     realm.records.len() as u32
+}
+
+/// How many records there are.
+pub fn record_count(realm: &Realm) -> usize
+    ensures { result ≡ length (records_of realm.now) }
+{
+    realm.records.len()
 }
 
 /// Whether there is a module with this id.

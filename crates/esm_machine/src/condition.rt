@@ -1,9 +1,11 @@
 // What refusals leave of what lies outside of bodies.
-ghost use Rattle.std.specs.Prelude.{◌≡◌, Bool};
-ghost use Rattle.esm_machine.specs.Imports.{condition_by, is_whole, stop_by};
+ghost use Rattle.std.specs.Prelude.{◌≡◌, Bool, Err};
+ghost use Rattle.esm_machine.specs.Linking.{condition_linked};
+ghost use Rattle.esm_machine.specs.ModuleStore.{condition_by, is_whole, stop_by};
 
 use esm_base::Limit;
 use esm_body::Stop;
+use esm_link::LinkEnd;
 use esm_loads::LoadEnd;
 
 /// What is known of what lies outside of bodies.
@@ -37,6 +39,16 @@ pub fn condition_after(end: LoadEnd) -> Condition
     match end {
         LoadEnd::Fault(limit) => Condition::Stopped(limit),
         LoadEnd::Memory => Condition::Lost,
+    }
+}
+
+/// What a linking that was refused leaves: a fault changes nothing of what is known.
+pub fn condition_unlinked(end: &LinkEnd) -> Condition
+    ensures { result ≡ condition_linked (Err end.now) }
+{
+    match end {
+        LinkEnd::Fault(_fault) => Condition::Whole,
+        LinkEnd::Memory => Condition::Lost,
     }
 }
 

@@ -6,9 +6,10 @@ ghost use Rattle.esm_machine.specs.Held.{LoadingIsOfTheWorld, OpensAsWorld, Reco
 ghost use Rattle.esm_machine.specs.Arrivals.{ArrivalsAreOfTheWorld};
 ghost use Rattle.esm_machine.specs.FitsById.{WorldsFitById};
 ghost use Rattle.esm_machine.specs.Steps.{StepsAreOfTheWorld};
-ghost use Rattle.esm_machine.specs.Imports.{ImportsAreThere};
+ghost use Rattle.esm_machine.specs.ModuleStore.{ImportsAreThere};
 ghost use Rattle.esm_machine.specs.Kept.{RecordsShow};
 ghost use Rattle.esm_machine.specs.Represents.{OpeningRepresents, TellsTheRun, TurnsAreTaken};
+ghost use Rattle.esm_machine.specs.SeenScopes.{ScopesStay};
 ghost use Rattle.esm_machine.specs.Seen.{Begins, Fits, linked, modules};
 
 /// What bodies rely on holds of what lies outside of them: what fits stays so by all that bodies do to promises and errors, and
@@ -22,10 +23,21 @@ pub fn imports_are_there()
     ensures { ImportsAreThere }
 {}
 
-/// As long as nothing is lost, the records have what is seen of modules.
+/// As long as nothing is lost, the records have what is seen of modules; and where nothing was refused, what is Linked and
+/// what is past New is seen to be, and an open ask has no record.
 pub fn records_show()
     ensures { RecordsShow }
 {}
+
+/// Scopes that are right for what is seen of modules, and of loaded modules alone, stay so over an answer, a call of `import()`
+/// and, where nothing was refused, the end of a fetch; behind bodies, where they are right, they are of loaded modules alone
+/// still. Where nothing was refused they are right for the records with their trees, and the other way round where they are
+/// of what is past New alone.
+pub fn scopes_stay()
+    ensures { ScopesStay }
+{
+    esm_link::laws::scopes_are_local()
+}
 
 /// What bodies do by ids, they do in the world.
 pub fn bodies_are_of_the_world()
@@ -80,7 +92,7 @@ pub fn worlds_fit_by_id()
 {}
 
 /// What the end of a fetch that is allowed, with the record of a module, and the answer of a pending request do by ids, they
-/// do in the world, unless a limit stops them.
+/// do in the world, up to the limit that stops them.
 pub fn arrivals_are_of_the_world()
     ensures { ArrivalsAreOfTheWorld }
 {

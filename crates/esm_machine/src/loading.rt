@@ -1,5 +1,5 @@
 // Fetches and answers, as what lies outside of bodies takes them.
-ghost use Rattle.std.specs.Prelude.{◌≡◌, ◌<◌, ℕ, List, Bool, true, false, None, Some, IfOk, OnOk, Ok, length, All};
+ghost use Rattle.std.specs.Prelude.{◌≡◌, ◌<◌, ℕ, List, Bool, true, false, None, Some, IfOk, IfSome, OnOk, Ok, length, All};
 ghost use Rattle.std.specs.Arc.{arc_value};
 ghost use Rattle.std.specs.Option.{option_map};
 ghost use Rattle.esm_base.specs.Lists.{EachOnce};
@@ -12,13 +12,14 @@ ghost use Rattle.esm_loads.specs.Loading as loading;
 ghost use Rattle.esm_loads.specs.LoadsView.{every_form, promise_id};
 ghost use Rattle.esm_loads.specs.UrlTable.{found};
 ghost use Rattle.esm_machine.specs.Arrivals.{urls_with};
-ghost use Rattle.esm_machine.specs.Calls.{AnswersBy, FetchesBy, LeavesModules, UnlessLost, condition_fetched, condition_of, opening_seen};
-ghost use Rattle.esm_machine.specs.Imports.{is_whole, seen_of};
+ghost use Rattle.esm_machine.specs.Calls.{AnswersBy, FetchesBy, KeepsRecords, UnlessLost, condition_fetched, condition_of, opening_seen};
+ghost use Rattle.esm_machine.specs.Kept.{IsKept};
+ghost use Rattle.esm_machine.specs.ModuleStore.{is_whole, seen_of};
 ghost use Rattle.esm_machine.specs.Seen.{names};
 ghost use Rattle.esm_machine.specs.declared.condition.Condition.TheVariants as conditions;
 
 use crate::condition::{Condition, condition_after};
-use crate::imports::Imports;
+use crate::module_store::ModuleStore;
 use esm_ast::Outcome;
 use esm_base::{Memory, ModuleId, Text};
 use esm_import_map::ImportMap;
@@ -29,14 +30,14 @@ use esm_values::{Errors, PromiseId};
 use std::alloc::Global;
 use std::sync::Arc;
 
-impl Imports {
+impl ModuleStore {
     /// The entry is asked for, by a load that has the first promise.
     pub fn opening(
         alloc: Global,
         import_map: Arc<ImportMap>,
         entry: &Text,
         promise: PromiseId,
-    ) -> Result<Imports, Memory>
+    ) -> Result<ModuleStore, Memory>
         requires usable { IsUsable entry.now }
         requires first { promise.0 ≡ 0 }
         ensures opens { IfOk result (λ i. seen_of i
@@ -50,7 +51,7 @@ impl Imports {
         let realm = Realm::new(alloc);
         let mut loads = Loads::new(alloc);
         match loads.ask_entry(&realm, entry, promise) {
-            Ok(()) => Ok(Imports {
+            Ok(()) => Ok(ModuleStore {
                 realm,
                 loads,
                 import_map,
@@ -107,7 +108,7 @@ impl Imports {
         ensures unchanged { result ≡ Ok false → (self.new ≡ self.old)
             × (promises.new ≡ promises.old) × (errors.new ≡ errors.old) }
         ensures modules { UnlessLost self.new.condition
-            (LeavesModules (seen_of self.old) (seen_of self.new)) }
+            (KeepsRecords (seen_of self.old) (seen_of self.new)) }
         ensures condition { self.new.condition ≡ condition_of result }
         ensures maps { self.new.maps ≡ self.old.maps }
     {
@@ -123,11 +124,14 @@ impl Imports {
         }
     }
 
-    /// The root of a load that has ended with all modules loaded; none of any other load.
+    /// The root of a load that has ended with all modules loaded, which is loaded with all that it reaches; none of any
+    /// other load.
     pub fn root_of_load(&self, load: usize) -> Option<ModuleId>
         requires whole { is_whole self.now.condition ≡ true }
-        ensures { loading.root_of_load (seen_of self.now).loading load
+        ensures root { loading.root_of_load (seen_of self.now).loading load
             ≡ option_map (λ m. (names (seen_of self.now)).name m.0) result }
+        ensures loaded { IfSome result (λ m. (seen_of self.now).loading.unlinked
+            ((names (seen_of self.now)).name m.0) ≡ true) }
     {
         self.loads.root_of_load(load)
     }
@@ -139,11 +143,20 @@ impl Imports {
         self.loads.import_promise(load)
     }
 
-    /// The URLs that are asked and not fetched, in order of asking.
+    /// The URLs that are asked and not fetched, in order of asking, as long as nothing was refused. Each is canonical and at
+    /// most 8,192 bytes long.
     pub fn asks(&self) -> &[Text]
-        requires whole { is_whole self.now.condition ≡ true }
-        ensures { result.now ≡ open_asks (seen_of self.now).loading }
+        ensures open { is_whole self.now.condition ≡ true
+            → result.now ≡ open_asks (seen_of self.now).loading }
+        ensures usable { is_whole self.now.condition ≡ true → All IsUsable result.now }
     {
         self.loads.asks()
+    }
+
+    /// What holds of the records and the loads is known behind it. It does nothing.
+    pub fn known(&self)
+        ensures { IsKept self.now }
+    {
+        let _realm = &self.realm;
     }
 }

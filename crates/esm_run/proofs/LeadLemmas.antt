@@ -12,11 +12,13 @@ use Rattle.esm_base.specs.Urls.{Url, has, same_url}
 use Rattle.esm_realm.proofs.Urls.{or_left, or_true, own_text}
 use Rattle.esm_ast.specs.Outcome.{OutcomeView, outcome_view}
 use Rattle.esm_import_map.specs.ImportMap.{Maps}
-use Rattle.esm_turn.specs.Run.{shown, Shown, StandardRun}
+use Rattle.esm_world.specs.Run.{shown, Shown, StandardRun}
 use Rattle.esm_ast.specs.Deliveries.{Delivery, completed}
-use Rattle.esm_turn.specs.World.{opening}
-use Rattle.esm_turn.specs.Laws.{AsksStay, OpenAsks}
-use Rattle.esm_turn.specs.Represents.{State, Represents, RepresentsOn, ShownBy, asks_of}
+use Rattle.esm_world.specs.World.{opening}
+use Rattle.esm_loads.specs.LoadsView.{every_form}
+use Rattle.esm_world.specs.Laws.{AsksStay, HasStandardRun, OpenAsks}
+use Rattle.esm_machine.specs.Machine.{MachineParts, state_of}
+use Rattle.esm_machine.specs.Represents.{Represents, RepresentsOn, ShownBy, asks_of}
 use Rattle.esm_module_map.specs.declared.event.MapEvent.{MapEvent}
 use Rattle.esm_module_map.specs.Replay.{replay}
 use Rattle.esm_module_map.specs.Laws.{UrlsStay, PostsStay}
@@ -56,59 +58,59 @@ module _ {G : Type 0} where
   tickets_stay law old new ts b all = All-weaker (HasTicket old) (HasTicket new) (λ x h. law x.number x.url old new b h) ts all
 
   -- what the caller asked for, where it has asked for nothing since
-  pub asks_same : (maps : Maps) (entry : Url) (taken : List Delivery) (c : ℕ) (old new : List (MapEvent Posted G)) → asks_by weight c new ≡ asks_by weight c old → AsksOn maps entry taken c old new
-  asks_same maps entry taken c old new same all = subst (All (IsStandardAsk maps entry taken)) (sym same) all
+  pub asks_same : (maps : Maps) (entry : Url) (trace : Bool) (taken : List Delivery) (c : ℕ) (old new : List (MapEvent Posted G)) → asks_by weight c new ≡ asks_by weight c old → AsksOn maps entry trace taken c old new
+  asks_same maps entry trace taken c old new same all = subst (All (IsStandardAsk maps entry trace taken)) (sym same) all
 
 -- ---- what is taken
 
 module _ {G : Type 0} where
   -- memory ran out
-  pub led_short : UrlsStay Posted G weight → PostsStay Posted G → (maps : Maps) (entry : Url) (c : ℕ) (old new : List (MapEvent Posted G)) (m : State) (taken : List Delivery) → Begins old new → asks_by weight c new ≡ asks_by weight c old
-      → IsLed maps entry c old m taken → IsLedShort maps entry c new taken
-  led_short urls posts maps entry c old new m taken b same led = record {
-    cut = cut_of (WasPosted new) maps entry m taken (record { represents = led.driven.represents; delivered = all_posted urls posts old new taken b led.driven.delivered });
-    asks = asks_same maps entry taken c old new same led.asks;
+  pub led_short : UrlsStay Posted G weight → PostsStay Posted G → (maps : Maps) (entry : Url) (trace : Bool) (c : ℕ) (old new : List (MapEvent Posted G)) (m : MachineParts) (taken : List Delivery) → Begins old new → asks_by weight c new ≡ asks_by weight c old
+      → IsLed maps entry trace c old m taken → IsLedShort maps entry trace c new taken
+  led_short urls posts maps entry trace c old new m taken b same led = record {
+    cut = cut_of (WasPosted new) maps entry trace m taken (record { represents = led.driven.represents; delivered = all_posted urls posts old new taken b led.driven.delivered });
+    asks = asks_same maps entry trace taken c old new same led.asks;
   }
 
   -- the history has grown
-  pub led_stays : UrlsStay Posted G weight → PostsStay Posted G → (maps : Maps) (entry : Url) (c : ℕ) (old new : List (MapEvent Posted G)) (m : State) (taken : List Delivery) → Begins old new → AsksOn maps entry taken c old new
-      → IsLed maps entry c old m taken → IsLed maps entry c new m taken
-  led_stays urls posts maps entry c old new m taken b on led = record {
+  pub led_stays : UrlsStay Posted G weight → PostsStay Posted G → (maps : Maps) (entry : Url) (trace : Bool) (c : ℕ) (old new : List (MapEvent Posted G)) (m : MachineParts) (taken : List Delivery) → Begins old new → AsksOn maps entry trace taken c old new
+      → IsLed maps entry trace c old m taken → IsLed maps entry trace c new m taken
+  led_stays urls posts maps entry trace c old new m taken b on led = record {
     driven = record { represents = led.driven.represents; delivered = all_posted urls posts old new taken b led.driven.delivered };
     asks = on led.asks;
   }
 
-  pub short_of : (maps : Maps) (entry : Url) (c : ℕ) (h : List (MapEvent Posted G)) (m : State) (taken : List Delivery) → IsLed maps entry c h m taken → IsLedShort maps entry c h taken
-  short_of maps entry c h m taken led = record { cut = cut_of (WasPosted h) maps entry m taken led.driven; asks = led.asks }
+  pub short_of : (maps : Maps) (entry : Url) (trace : Bool) (c : ℕ) (h : List (MapEvent Posted G)) (m : MachineParts) (taken : List Delivery) → IsLed maps entry trace c h m taken → IsLedShort maps entry trace c h taken
+  short_of maps entry trace c h m taken led = record { cut = cut_of (WasPosted h) maps entry trace m taken led.driven; asks = led.asks }
 
   -- one delivery more
-  pub led_more : UrlsStay Posted G weight → PostsStay Posted G → AsksStay → (maps : Maps) (entry : Url) (c : ℕ) (old new : List (MapEvent Posted G)) (m after : State) (taken longer : List Delivery) (u : Url) (n : ℕ) (p : Posted) (o : OutcomeView)
-      → Begins old new → asks_by weight c new ≡ asks_by weight c old → RepresentsOn m u o after → slice_get (replay weight old).urls n ≡ Some u → IsPostIn new n p → outcome_view p.outcome ≡ o → longer ≡ taken ++ completed u o ∷ []
-      → IsLed maps entry c old m taken → IsLed maps entry c new after longer
-  led_more urls posts stay maps entry c old new m after taken longer u n p o b same stands has post outcome more led =
+  pub led_more : UrlsStay Posted G weight → PostsStay Posted G → AsksStay → HasStandardRun → (maps : Maps) (entry : Url) (trace : Bool) (c : ℕ) (old new : List (MapEvent Posted G)) (m after : MachineParts) (taken longer : List Delivery) (u : Url) (n : ℕ) (p : Posted) (o : OutcomeView)
+      → Begins old new → asks_by weight c new ≡ asks_by weight c old → RepresentsOn (state_of m) u o (state_of after) → slice_get (replay weight old).urls n ≡ Some u → IsPostIn new n p → outcome_view p.outcome ≡ o → longer ≡ taken ++ completed u o ∷ []
+      → IsLed maps entry trace c old m taken → IsLed maps entry trace c new after longer
+  led_more urls posts stay has_run maps entry trace c old new m after taken longer u n p o b same stands has post outcome more led =
       let d : Delivery = completed u o in
-      let run : StandardRun maps entry taken (shown led.driven.represents.0) = (led.driven.represents.0, led.driven.represents.1, refl) in
+      let before = has_run maps every_form entry trace taken led.driven.represents.0 led.driven.represents.1 in
       record {
         driven = record {
-          represents = subst (Represents maps entry after) (sym more) (stands maps entry taken led.driven.represents);
+          represents = subst (Represents maps entry trace (state_of after)) (sym more) (stands maps entry trace taken led.driven.represents);
           delivered = subst (All (WasPosted new)) (sym more) (All-append (WasPosted new) taken (d ∷ []) (all_posted urls posts old new taken b led.driven.delivered)
               (All-cons (WasPosted new) d [] (record { number = n; payload = p; has_url = urls n u old new b has; posted = post; outcome = outcome }) (All-nil (WasPosted new))));
         };
-        asks = subst (λ l. All (IsStandardAsk maps entry l) (asks_by weight c new)) (sym more) (subst (All (IsStandardAsk maps entry (taken ++ d ∷ []))) (sym same)
-            (All-weaker (IsStandardAsk maps entry taken) (IsStandardAsk maps entry (taken ++ d ∷ [])) (λ url q what longer_run. stay maps entry taken (d ∷ []) (shown led.driven.represents.0) what url run longer_run (q (shown led.driven.represents.0) run)) (asks_by weight c old) led.asks));
+        asks = subst (λ l. All (IsStandardAsk maps entry trace l) (asks_by weight c new)) (sym more) (subst (All (IsStandardAsk maps entry trace (taken ++ d ∷ []))) (sym same)
+            (All-weaker (IsStandardAsk maps entry trace taken) (IsStandardAsk maps entry trace (taken ++ d ∷ [])) (λ url q what longer_run. stay maps every_form entry trace taken (d ∷ []) before.0 what url before.1 longer_run (q before.0 before.1)) (asks_by weight c old) led.asks));
       }
 
   -- at the start
-  pub led_new : (maps : Maps) (entry : Url) (c : ℕ) (h : List (MapEvent Posted G)) (m : State) (taken : List Delivery) → Represents maps entry m [] → taken ≡ [] → asks_by weight c h ≡ [] → IsLed maps entry c h m taken
-  led_new maps entry c h m taken represents none unasked = rw none (record {
+  pub led_new : (maps : Maps) (entry : Url) (trace : Bool) (c : ℕ) (h : List (MapEvent Posted G)) (m : MachineParts) (taken : List Delivery) → Represents maps entry trace (state_of m) [] → taken ≡ [] → asks_by weight c h ≡ [] → IsLed maps entry trace c h m taken
+  led_new maps entry trace c h m taken represents none unasked = rw none (record {
     driven = record { represents = represents; delivered = All-nil (WasPosted h) };
-    asks = subst (All (IsStandardAsk maps entry [])) (sym unasked) (All-nil (IsStandardAsk maps entry []));
+    asks = subst (All (IsStandardAsk maps entry trace [])) (sym unasked) (All-nil (IsStandardAsk maps entry trace []));
   })
 
-  pub short_new : (maps : Maps) (entry : Url) (c : ℕ) (h : List (MapEvent Posted G)) (taken : List Delivery) → taken ≡ [] → asks_by weight c h ≡ [] → IsLedShort maps entry c h taken
-  short_new maps entry c h taken none unasked = rw none (record {
-    cut = record { what = shown (opening maps entry); run = (opening maps entry, refl, refl); delivered = All-nil (WasPosted h) };
-    asks = subst (All (IsStandardAsk maps entry [])) (sym unasked) (All-nil (IsStandardAsk maps entry []));
+  pub short_new : (maps : Maps) (entry : Url) (trace : Bool) (c : ℕ) (h : List (MapEvent Posted G)) (taken : List Delivery) → taken ≡ [] → asks_by weight c h ≡ [] → IsLedShort maps entry trace c h taken
+  short_new maps entry trace c h taken none unasked = rw none (record {
+    cut = record { world = opening maps every_form entry trace; runs = refl; delivered = All-nil (WasPosted h) };
+    asks = subst (All (IsStandardAsk maps entry trace [])) (sym unasked) (All-nil (IsStandardAsk maps entry trace []));
   })
 
 -- ---- open asks
@@ -120,13 +122,13 @@ has_at (u ∷ us) zero d within = or_left (same_url u u) (has us u) (own_text u)
 has_at (u ∷ us) (suc k) d within = or_true (same_url (get_or us k d) u) (has us (get_or us k d)) (has_at us k d (omega arith))
 
 -- what the machine asks for is asked for by the standard run
-pub open_standard : OpenAsks → (maps : Maps) (entry : Url) (m : State) (taken : List Delivery) (url : Url) → Represents maps entry m taken → IsOpenAsk m url → IsStandardAsk maps entry taken url
-open_standard law maps entry m taken url represents is_open = λ what run. (law maps entry taken what url run (is_open maps entry taken what represents run)).0
+pub open_standard : OpenAsks → (maps : Maps) (entry : Url) (trace : Bool) (m : MachineParts) (taken : List Delivery) (url : Url) → Represents maps entry trace (state_of m) taken → IsOpenAsk m url → IsStandardAsk maps entry trace taken url
+open_standard law maps entry trace m taken url represents is_open = λ what run. (law maps every_form entry trace taken what url run (is_open maps entry trace taken what represents run)).0
 
 -- one of the asks is open
-pub open_at : (m : State) (asks : List Url) (k : ℕ) (d url : Url) → ShownBy m (λ what. asks ≡ what.asks) → k < length asks → url ≡ get_or asks k d → IsOpenAsk m url
-open_at m asks k d url shows within is = λ maps entry taken what represents run.
-    subst (λ l. has l url ≡ true) (shows maps entry taken what represents run) (subst (λ u. has asks u ≡ true) (sym is) (has_at asks k d within))
+pub open_at : (m : MachineParts) (asks : List Url) (k : ℕ) (d url : Url) → ShownBy (state_of m) (λ what. asks ≡ what.asks) → k < length asks → url ≡ get_or asks k d → IsOpenAsk m url
+open_at m asks k d url shows within is = λ maps entry trace taken what represents run.
+    subst (λ l. has l url ≡ true) (shows maps entry trace taken what represents run) (subst (λ u. has asks u ≡ true) (sym is) (has_at asks k d within))
 
 -- ---- one call behind another
 
@@ -147,9 +149,9 @@ module _ {G : Type 0} where
   served_by_end (Ok done) holds asked c h s = inl s
   served_by_end (Err want) holds asked c h s = s
 
-  pub leads_on_same : {T : Type 0} (r : Result T Memory) (maps : Maps) (entry : Url) (c : ℕ) (h : List (MapEvent Posted G)) (m : State) (taken : List Delivery) → IsLed maps entry c h m taken → LeadsOn maps entry r c h m taken
-  leads_on_same (Ok done) maps entry c h m taken led = led
-  leads_on_same (Err want) maps entry c h m taken led = short_of maps entry c h m taken led
+  pub leads_on_same : {T : Type 0} (r : Result T Memory) (maps : Maps) (entry : Url) (trace : Bool) (c : ℕ) (h : List (MapEvent Posted G)) (m : MachineParts) (taken : List Delivery) → IsLed maps entry trace c h m taken → LeadsOn maps entry trace r c h m taken
+  leads_on_same (Ok done) maps entry trace c h m taken led = led
+  leads_on_same (Err want) maps entry trace c h m taken led = short_of maps entry trace c h m taken led
 
   pub serves_next : (holds kept : Option Contents) (asked : List Asked) (c d : ℕ) (h : List (MapEvent Posted G)) → kept ≡ holds → d ≡ c → Serves holds asked c h → Serves kept asked d h
   serves_next holds kept asked c d h same number s = subst (λ k. Serves k asked d h) (sym same) (subst (λ n. Serves holds asked n h) (sym number) s)

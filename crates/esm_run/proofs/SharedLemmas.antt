@@ -24,9 +24,10 @@ use Rattle.esm_module_map.specs.Laws.{UrlsStay, PostsStay, PostsAreAnswers, Take
 use Rattle.esm_fetch.specs.declared.posted.Posted.{Posted}
 use Rattle.esm_fetch.specs.Answered.{Contents, kind_of, IsRead, IsToldOutcome}
 use Rattle.esm_fetch.specs.Serving.{weight, url_in, outcome_in, ask_for, IsTrueAnswer, IsServed, IsCut, Serves, Served, ServedIf}
-use Rattle.esm_turn.specs.Run.{Shown, shown, StandardRun}
+use Rattle.esm_world.specs.Run.{Shown, shown, StandardRun}
 use Rattle.esm_ast.specs.Deliveries.{Delivery}
-use Rattle.esm_turn.specs.Represents.{State}
+use Rattle.esm_machine.specs.Machine.{MachineParts, state_of}
+use Rattle.esm_machine.specs.Represents.{Represents}
 use Rattle.esm_run.specs.Taken.{ask_of, IsTold, WasDelivered}
 use Rattle.esm_run.specs.Inner.Leading.{WasPosted, IsDriven, IsCutShort, EndsDriven, IsStandardAsk, AreServed, IsShared, IsNew, Leads}
 
@@ -74,22 +75,22 @@ module _ {G : Type 0} where
   pub all_posted : UrlsStay Posted G weight → PostsStay Posted G → (old new : List (MapEvent Posted G)) (taken : List Delivery) → Begins old new → All (WasPosted old) taken → All (WasPosted new) taken
   all_posted urls posts old new taken b all = All-weaker (WasPosted old) (WasPosted new) (λ d w. posted_stays urls posts old new d b w) taken all
 
-  pub ends_on : UrlsStay Posted G weight → PostsStay Posted G → (old new : List (MapEvent Posted G)) (maps : Maps) (entry : Url) (machine : Option State) (taken : List Delivery) → Begins old new
-      → EndsDriven (WasPosted old) maps entry machine taken → EndsDriven (WasPosted new) maps entry machine taken
-  ends_on urls posts old new maps entry (Some machine) taken b (driven, none) =
+  pub ends_on : UrlsStay Posted G weight → PostsStay Posted G → (old new : List (MapEvent Posted G)) (maps : Maps) (entry : Url) (trace : Bool) (machine : Option MachineParts) (taken : List Delivery) → Begins old new
+      → EndsDriven (WasPosted old) maps entry trace machine taken → EndsDriven (WasPosted new) maps entry trace machine taken
+  ends_on urls posts old new maps entry trace (Some machine) taken b (driven, none) =
       (record { represents = driven.represents; delivered = all_posted urls posts old new taken b driven.delivered }, none)
-  ends_on urls posts old new maps entry None taken b cut = record { what = cut.what; run = cut.run; delivered = all_posted urls posts old new taken b cut.delivered }
+  ends_on urls posts old new maps entry trace None taken b cut = record { world = cut.world; runs = cut.runs; delivered = all_posted urls posts old new taken b cut.delivered }
 
-pub cut_of : (D : Delivery → Type 0) (maps : Maps) (entry : Url) (machine : State) (taken : List Delivery) → IsDriven D maps entry machine taken → IsCutShort D maps entry taken
-cut_of D maps entry machine taken d = record { what = shown d.represents.0; run = (d.represents.0, d.represents.1, refl); delivered = d.delivered }
+pub cut_of : (D : Delivery → Type 0) (maps : Maps) (entry : Url) (trace : Bool) (machine : MachineParts) (taken : List Delivery) → IsDriven D maps entry trace machine taken → IsCutShort D maps entry trace taken
+cut_of D maps entry trace machine taken d = record { world = d.represents.0; runs = d.represents.1; delivered = d.delivered }
 
-pub ends_short : (D : Delivery → Type 0) (maps : Maps) (entry : Url) (machine : Option State) (taken : List Delivery) → EndsDriven D maps entry machine taken → IsCutShort D maps entry taken
-ends_short D maps entry (Some machine) taken (driven, none) = cut_of D maps entry machine taken driven
-ends_short D maps entry None taken cut = cut
+pub ends_short : (D : Delivery → Type 0) (maps : Maps) (entry : Url) (trace : Bool) (machine : Option MachineParts) (taken : List Delivery) → EndsDriven D maps entry trace machine taken → IsCutShort D maps entry trace taken
+ends_short D maps entry trace (Some machine) taken (driven, none) = cut_of D maps entry trace machine taken driven
+ends_short D maps entry trace None taken cut = cut
 
-pub ends_if : (short : Bool) (D : Delivery → Type 0) (maps : Maps) (entry : Url) (machine : Option State) (taken : List Delivery) → EndsDriven D maps entry machine taken → EndsDriven D maps entry (cond short None machine) taken
-ends_if true D maps entry machine taken ends = ends_short D maps entry machine taken ends
-ends_if false D maps entry machine taken ends = ends
+pub ends_if : (short : Bool) (D : Delivery → Type 0) (maps : Maps) (entry : Url) (trace : Bool) (machine : Option MachineParts) (taken : List Delivery) → EndsDriven D maps entry trace machine taken → EndsDriven D maps entry trace (cond short None machine) taken
+ends_if true D maps entry trace machine taken ends = ends_short D maps entry trace machine taken ends
+ends_if false D maps entry trace machine taken ends = ends
 
 module _ {G S : Type 0} (holds_of : S → Option Contents) (asked_of : S → List Asked) (Q : Url → Type 0) where
   abbrev StaysFor : List ℕ → List (MapEvent Posted G) → List (MapEvent Posted G) → Type 0
@@ -125,37 +126,37 @@ module _ {G S : Type 0} (holds_of : S → Option Contents) (asked_of : S → Lis
       by_test true e n h' later = let same : d ≡ c = eqb-true d c e in (0, t, omega arith, refl, subst (λ (x : ℕ). Served (holds_of t) (asked_of t) x h × All Q (asks_by weight x h)) same first)
       by_test false e n h' later = source_later h c t ss (later (omega arith))
 
-module _ {G S : Type 0} (holds_of : S → Option Contents) (asked_of : S → List Asked) (urls : UrlsStay Posted G weight) (posts : PostsStay Posted G) (maps : Maps) (entry : Url) where
+module _ {G S : Type 0} (holds_of : S → Option Contents) (asked_of : S → List Asked) (urls : UrlsStay Posted G weight) (posts : PostsStay Posted G) (maps : Maps) (entry : Url) (trace : Bool) where
   -- a worker that has ended, put to the others
-  pub gathered : (v u w : View (MapEvent Posted G)) (machine after : Option State) (taken : List Delivery) (ss longer : List S) (c : ℕ) (s : S) (short : Bool) → Begins v.seen w.seen
+  pub gathered : (v u w : View (MapEvent Posted G)) (machine after : Option MachineParts) (taken : List Delivery) (ss longer : List S) (c : ℕ) (s : S) (short : Bool) → Begins v.seen w.seen
       → ((d : ℕ) → 0 < times d v.numbers → Stays weight d v.seen w.seen) → ((d : ℕ) → 0 < times d u.numbers → Stays weight d u.seen w.seen)
       → w.numbers ≡ v.numbers ++ u.numbers → u.numbers ≡ c ∷ [] → ServedIf short (holds_of s) (asked_of s) c u.seen → asks_by weight c u.seen ≡ [] → longer ≡ ss ++ s ∷ [] → after ≡ cond short None machine
-      → IsShared holds_of asked_of maps entry v machine taken ss → IsShared holds_of asked_of maps entry w after taken longer
+      → IsShared holds_of asked_of maps entry trace v machine taken ss → IsShared holds_of asked_of maps entry trace w after taken longer
   gathered v u w machine after taken ss longer c s short b one other numbers own served unasked more is shared =
-      let Q : Url → Type 0 = IsStandardAsk maps entry taken in
+      let Q : Url → Type 0 = IsStandardAsk maps entry trace taken in
       let stays = other c (subst (λ l. 0 < times c l) (sym own) (listed_self c [])) in
       let all = are_more holds_of asked_of Q w.seen v.numbers ss c s (are_still holds_of asked_of Q v.seen w.seen v.numbers ss one shared.served)
       (served_same (holds_of s) (asked_of s) c u.seen w.seen stays.1.0 stays.1.1 (served_any short (holds_of s) (asked_of s) c u.seen served), subst (All Q) (sym (stays.1.2 ∙ unasked)) (All-nil Q)) in
       record {
         served = subst (λ ns. AreServed holds_of asked_of Q w.seen ns longer) (sym (numbers ∙ ap (λ l. v.numbers ++ l) own)) (subst (λ l. AreServed holds_of asked_of Q w.seen (v.numbers ++ c ∷ []) l) (sym more) all);
-        ends = subst (λ m. EndsDriven (WasPosted w.seen) maps entry m taken) (sym is) (ends_if short (WasPosted w.seen) maps entry machine taken (ends_on urls posts v.seen w.seen maps entry machine taken b shared.ends));
+        ends = subst (λ m. EndsDriven (WasPosted w.seen) maps entry trace m taken) (sym is) (ends_if short (WasPosted w.seen) maps entry trace machine taken (ends_on urls posts v.seen w.seen maps entry trace machine taken b shared.ends));
       }
 
   -- the calling thread's part, with its source alone, once the map is shut
-  pub led_alone : (v w : View (MapEvent Posted G)) (r : Result State Memory) (machine : Option State) (taken : List Delivery) (c : ℕ) (given : List S) (first s : S) → w.numbers ≡ c ∷ [] → ShutSays weight c v.seen w.seen → length given ≡ 1 → first ≡ slice_index_or given 0 first
-      → Served (holds_of first) (asked_of s) c v.seen → holds_of s ≡ holds_of first → Leads maps entry r c v.seen taken → machine ≡ result_ok r → IsShared holds_of asked_of maps entry w machine taken (slice_set given 0 s)
+  pub led_alone : (v w : View (MapEvent Posted G)) (r : Result MachineParts Memory) (machine : Option MachineParts) (taken : List Delivery) (c : ℕ) (given : List S) (first s : S) → w.numbers ≡ c ∷ [] → ShutSays weight c v.seen w.seen → length given ≡ 1 → first ≡ slice_index_or given 0 first
+      → Served (holds_of first) (asked_of s) c v.seen → holds_of s ≡ holds_of first → Leads maps entry trace r c v.seen taken → machine ≡ result_ok r → IsShared holds_of asked_of maps entry trace w machine taken (slice_set given 0 s)
   led_alone v w r machine taken c [] first s own stays one is served same leads made = absurd (omega arith)
   led_alone v w r machine taken c (o ∷ t ∷ given) first s own stays one is served same leads made = absurd (omega arith)
   led_alone v w r machine taken c (o ∷ []) first s own stays one is served same leads made =
-      let Q : Url → Type 0 = IsStandardAsk maps entry taken in
+      let Q : Url → Type 0 = IsStandardAsk maps entry trace taken in
       let ends = leads_ends r leads in
       record {
         served = subst (λ ns. AreServed holds_of asked_of Q w.seen ns (s ∷ [])) (sym own)
             ((subst (λ h. Served h (asked_of s) c w.seen) (sym same) (served_same (holds_of first) (asked_of s) c v.seen w.seen stays.1.0 stays.1.1 served), subst (All Q) (sym stays.1.2) ends.1), tt);
-        ends = subst (λ m. EndsDriven (WasPosted w.seen) maps entry m taken) (sym made) (ends_on urls posts v.seen w.seen maps entry (result_ok r) taken stays.0 ends.0);
+        ends = subst (λ m. EndsDriven (WasPosted w.seen) maps entry trace m taken) (sym made) (ends_on urls posts v.seen w.seen maps entry trace (result_ok r) taken stays.0 ends.0);
       }
     where
-      leads_ends : (r : Result State Memory) → Leads maps entry r c v.seen taken → EndsDriven (WasPosted v.seen) maps entry (result_ok r) taken × All (IsStandardAsk maps entry taken) (asks_by weight c v.seen)
+      leads_ends : (r : Result MachineParts Memory) → Leads maps entry trace r c v.seen taken → EndsDriven (WasPosted v.seen) maps entry trace (result_ok r) taken × All (IsStandardAsk maps entry trace taken) (asks_by weight c v.seen)
       leads_ends (Ok machine) (led, none) = ((led.driven, none), led.asks)
       leads_ends (Err want) short = (short.cut, short.asks)
 

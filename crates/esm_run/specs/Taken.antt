@@ -4,7 +4,7 @@ use Rattle.esm_ports.specs.declared.asked.Asked.{Asked}
 use Rattle.esm_ast.specs.Outcome.{outcome_view}
 use Rattle.esm_base.specs.Urls.{has}
 use Rattle.esm_fetch.specs.Answered.{Contents, kind_of, IsToldOutcome}
-use Rattle.esm_turn.specs.Run.{Shown}
+use Rattle.esm_world.specs.Run.{Shown}
 use Rattle.esm_ast.specs.Deliveries.{Delivery, completed}
 use Rattle.esm_run.specs.declared.report.Delivery as report
 

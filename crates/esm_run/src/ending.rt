@@ -1,13 +1,14 @@
 // How a run ends: its status, its text, and writing it.
 ghost use Rattle.std.specs.Prelude.{◌≡◌, ◌≢◌, ◌<◌, ◌-◌, ◌^◌, ◌++◌, IfOk, IfSome, Some, is_some, true};
-ghost use Rattle.esm_turn.specs.Represents.{ShownBy, ending_of};
+ghost use Rattle.esm_machine.specs.Machine.{state_of};
+ghost use Rattle.esm_machine.specs.Represents.{ShownBy, ending_of};
 ghost use Rattle.esm_base.specs.declared.status.Status.TheVariants as statuses;
 ghost use Rattle.esm_run.specs.Written.{EndsAs, EndsWith, change_of, last_text};
 ghost use Rattle.esm_run.specs.Inner.Endings.{EndsRun, IsEndingOf};
 
 use esm_base::{Memory, Status, Text};
+use esm_machine::Machine;
 use esm_ports::{Sink, SinkEnd, put_all};
-use esm_turn::Machine;
 
 // How a run ends, and what it writes.
 #[derive(Drop)]
@@ -34,8 +35,8 @@ fn with_last_line(text: Vec<u8>, line: &Text) -> Result<Vec<u8>, Memory>
 // The status and the text of a machine's run that has ended. The text is the machine's own log, with the last line
 // behind it.
 fn ending_of_run(machine: Machine) -> Result<Ending, Memory>
-    requires { is_some (ending_of machine) ≡ true }
-    ensures what { ShownBy machine (λ what. IfOk result (IsEndingOf what)) }
+    requires { is_some (ending_of (state_of machine)) ≡ true }
+    ensures what { ShownBy (state_of machine) (λ what. IfOk result (IsEndingOf what)) }
     ensures not_write_fault { IfOk result (λ e. e.status ≢ statuses.WriteFault) }
     ensures not_memory { IfOk result (λ e. e.status ≢ statuses.Memory) }
 {
@@ -64,9 +65,10 @@ pub(crate) fn finish<K: Sink>(out: &mut K, wanted: Status, text: &[u8]) -> Statu
 
 // Writes the text of a machine's run that has ended, and gives the status that this comes to.
 fn write_ending<K: Sink>(machine: Machine, out: &mut K) -> Status
-    requires ended { is_some (ending_of machine) ≡ true }
+    requires ended { is_some (ending_of (state_of machine)) ≡ true }
     requires room { K.faults out.old < 2 ^ 64 - 1 }
-    ensures { ShownBy machine (EndsAs result (change_of K.written K.faults out.old out.new)) }
+    ensures { ShownBy (state_of machine)
+        (EndsAs result (change_of K.written K.faults out.old out.new)) }
 {
     let Ok(ending) = ending_of_run(machine) else {
         return Status::Memory;
@@ -76,7 +78,7 @@ fn write_ending<K: Sink>(machine: Machine, out: &mut K) -> Status
 
 /// Ends a run: the text of the machine's run is written; nothing is where memory ran out and there is none.
 pub(crate) fn end_run<K: Sink>(machine: Option<Machine>, out: &mut K) -> Status
-    requires ended { IfSome machine (λ m. is_some (ending_of m) ≡ true) }
+    requires ended { IfSome machine (λ m. is_some (ending_of (state_of m)) ≡ true) }
     requires room { K.faults out.old < 2 ^ 64 - 1 }
     ensures { EndsRun machine result (change_of K.written K.faults out.old out.new) }
 {

@@ -1,5 +1,5 @@
 // The calling thread's part of a run: it asks the module map for what the machine asks for, and delivers what is posted.
-ghost use Rattle.std.specs.Prelude.{◌≡◌, ◌≤◌, ℕ, [], List, length, map, All, IfOk, OnOk, true};
+ghost use Rattle.std.specs.Prelude.{◌≡◌, ◌≤◌, ℕ, [], List, length, map, All, IfOk, OnOk, true, Bool, false};
 ghost use Rattle.std.specs.Vec.{vec_capacity};
 ghost use Rattle.std.specs.Arc.{arc_value};
 ghost use Rattle.esm_hlock.specs.Views.{HasAllMakers};
@@ -11,7 +11,8 @@ ghost use Rattle.esm_module_map.specs.Saying.{Begins, Stays, IsShut};
 ghost use Rattle.esm_module_map.specs.Histories.{asks_by};
 ghost use Rattle.esm_fetch.specs.Serving.{weight, Serves, Served, ServedBy};
 ghost use Rattle.esm_ast.specs.Outcome.{outcome_view};
-ghost use Rattle.esm_turn.specs.Represents.{Represents, RepresentsOn, asks_of};
+ghost use Rattle.esm_machine.specs.Machine.{state_of};
+ghost use Rattle.esm_machine.specs.Represents.{Represents, RepresentsOn, asks_of};
 ghost use Rattle.esm_run.specs.Taken.{deliveries_of};
 ghost use Rattle.esm_run.specs.Inner.Leading.{HasTicket, IsLed, IsNew, IsShared, Leads, LeadsOn};
 
@@ -21,25 +22,26 @@ use esm_ast::Outcome;
 use esm_base::{Memory, Text};
 use esm_fetch::{Bell, Posted, Turned, fetch_one};
 use esm_import_map::ImportMap;
+use esm_machine::{Machine, TurnEnd};
 use esm_module_map::{Caller, ModuleMap, laws as map_laws};
 use esm_ports::Source;
-use esm_turn::{Machine, TurnEnd, laws};
+use esm_world::laws;
 use std::alloc::Global;
 use std::sync::{Arc, Wait};
 
 // A machine under this import map that has asked for the entry.
 fn start(alloc: Global, map: Arc<ImportMap, Global>, entry: &Text) -> Result<Machine, Memory>
     requires { is_usable entry.now ≡ true }
-    ensures { IfOk result (λ m. Represents (arc_value map) entry.now m []) }
+    ensures { IfOk result (λ m. Represents (arc_value map) entry.now false (state_of m) []) }
 {
-    Machine::new(alloc, map, entry.clone()?)
+    Machine::new(alloc, map, entry.clone()?, false)
 }
 
 // Delivers one completed fetch to the machine. A limit that is reached stops the machine and is no error here.
 fn hand_over(machine: &mut Machine, url: &Text, outcome: &Outcome) -> Result<(), Memory>
-    requires { has (asks_of machine.old) url.now ≡ true }
+    requires { has (asks_of (state_of machine.old)) url.now ≡ true }
     ensures { OnOk result
-        (RepresentsOn machine.old url.now (outcome_view outcome.now) machine.new) }
+        (RepresentsOn (state_of machine.old) url.now (outcome_view outcome.now) (state_of machine.new)) }
 {
     match machine.deliver(url, outcome) {
         Ok(()) => Ok(()),
@@ -50,7 +52,7 @@ fn hand_over(machine: &mut Machine, url: &Text, outcome: &Outcome) -> Result<(),
 
 // Whether the machine has no open ask.
 fn has_no_ask(machine: &Machine) -> bool
-    ensures { result ≡ true → asks_of machine.now ≡ [] }
+    ensures { result ≡ true → asks_of (state_of machine.now) ≡ [] }
 {
     match machine.asks() {
         [] => true,
@@ -60,7 +62,7 @@ fn has_no_ask(machine: &Machine) -> bool
 
 // Whether the machine has this open ask.
 fn is_open(machine: &Machine, url: &Text) -> bool
-    ensures { result ≡ has (asks_of machine.now) url.now }
+    ensures { result ≡ has (asks_of (state_of machine.now)) url.now }
 {
     machine.asks().iter().any(|ask| ask == url)
 }
@@ -83,15 +85,16 @@ fn deliver<R: Wait>(
         × (caller.new.number ≡ caller.old.number) }
     ensures says { Stays weight caller.old.number (view_in caller.old.pass).seen
         (view_in caller.new.pass).seen }
-    ensures led { (maps : Maps) (entry : List ℕ)
-        → IsLed maps entry caller.old.number (view_in caller.old.pass).seen machine.old
+    ensures led { (maps : Maps) (entry : List ℕ) (trace : Bool)
+        → IsLed maps entry trace caller.old.number (view_in caller.old.pass).seen machine.old
         (deliveries_of taken.old.items)
-        → LeadsOn maps entry result caller.old.number (view_in caller.new.pass).seen machine.new
+        → LeadsOn maps entry trace result caller.old.number (view_in caller.new.pass).seen machine.new
         (deliveries_of taken.new.items) }
 {
     map_laws::urls_stay::<Posted>();
     map_laws::posts_stay::<Posted>();
     laws::asks_stay();
+    laws::has_standard_run();
     let Ticket { url, number } = ticket;
     if !is_open(machine, &url) {
         return Ok(());
@@ -178,10 +181,10 @@ fn advance<R: Wait, S: Source>(
     ensures tickets { OnOk result (All (HasTicket (view_in caller.new.pass).seen)
         queue.new.tickets.items) }
     ensures window { length queue.old.tickets.items ≤ 32 → length queue.new.tickets.items ≤ 32 }
-    ensures led { (maps : Maps) (entry : List ℕ)
-        → IsLed maps entry caller.old.number (view_in caller.old.pass).seen machine.old
+    ensures led { (maps : Maps) (entry : List ℕ) (trace : Bool)
+        → IsLed maps entry trace caller.old.number (view_in caller.old.pass).seen machine.old
         (deliveries_of taken.old.items)
-        → LeadsOn maps entry result caller.old.number (view_in caller.new.pass).seen machine.new
+        → LeadsOn maps entry trace result caller.old.number (view_in caller.new.pass).seen machine.new
         (deliveries_of taken.new.items) }
 {
     map_laws::urls_stay::<Posted>();
@@ -225,7 +228,7 @@ fn drive<R: Wait, S: Source>(
     ensures holds { S.holds source.new ≡ S.holds source.old }
     ensures served { Served (S.holds source.old) (S.asked source.new) caller.old.number
         (view_in caller.new.pass).seen }
-    ensures ends { Leads (arc_value map) entry.now result caller.old.number
+    ensures ends { Leads (arc_value map) entry.now false result caller.old.number
         (view_in caller.new.pass).seen (deliveries_of taken.new.items) }
 {
     let Ok(mut machine) = start(alloc, map, entry) else {
@@ -286,7 +289,7 @@ pub(crate) fn lead<R: Wait, S: Source>(
     ensures makers { HasAllMakers maker_of (view_in result.caller.pass) }
     ensures kept { map S.holds result.sources.items ≡ map S.holds sources.items }
     ensures room { vec_capacity result.sources ≡ vec_capacity sources }
-    ensures led { IsShared S.holds S.asked (arc_value import_map) entry.now
+    ensures led { IsShared S.holds S.asked (arc_value import_map) entry.now false
         (view_in result.caller.pass) result.machine (deliveries_of result.taken.items) result.sources.items }
 {
     map_laws::urls_stay::<Posted>();

@@ -1,7 +1,8 @@
 // What the calling thread has asked of the module map and not delivered.
-ghost use Rattle.std.specs.Prelude.{◌≡◌, ◌≤◌, [], ◌+◌, ◌++◌, ℕ, List, length, All, IfOk, IfSome, OnErr, OnOk, Contains, position, true};
+ghost use Rattle.std.specs.Prelude.{◌≡◌, ◌≤◌, [], ◌+◌, ◌++◌, ℕ, List, length, All, IfOk, IfSome, OnErr, OnOk, Contains, position, true, Bool};
 ghost use Rattle.esm_base.specs.Urls.{IsUsable, is_usable};
-ghost use Rattle.esm_turn.specs.Represents.{Represents};
+ghost use Rattle.esm_machine.specs.Machine.{state_of};
+ghost use Rattle.esm_machine.specs.Represents.{Represents};
 ghost use Rattle.esm_import_map.specs.ImportMap.{Maps};
 ghost use Rattle.esm_module_map.specs.Views.{view_in, table_of, Same};
 ghost use Rattle.esm_module_map.specs.Saying.{Begins, Stays};
@@ -14,8 +15,9 @@ ghost use Rattle.esm_run.specs.Inner.Leading.{AsksOn, HasTicket, IsFirstPosted, 
 
 use esm_base::{Memory, Text};
 use esm_fetch::{Bell, Posted};
+use esm_machine::Machine;
 use esm_module_map::{Asked, Caller, ModuleMap, Why, laws as map_laws};
-use esm_turn::{Machine, laws};
+use esm_world::laws;
 use std::alloc::Global;
 use std::sync::Wait;
 
@@ -82,9 +84,9 @@ fn ask_one<R: Wait>(
     ensures begins { Begins (view_in caller.old.pass).seen (view_in caller.new.pass).seen }
     ensures kept { KeepsServing caller.old.number (view_in caller.old.pass).seen
         (view_in caller.new.pass).seen }
-    ensures asks { (maps : Maps) (entry : List ℕ) (taken : List Delivery)
-        → IsStandardAsk maps entry taken url
-        → AsksOn maps entry taken caller.old.number (view_in caller.old.pass).seen
+    ensures asks { (maps : Maps) (entry : List ℕ) (trace : Bool) (taken : List Delivery)
+        → IsStandardAsk maps entry trace taken url
+        → AsksOn maps entry trace taken caller.old.number (view_in caller.old.pass).seen
         (view_in caller.new.pass).seen }
     ensures tickets { All (HasTicket (view_in caller.old.pass).seen) tickets.old.items
         → OnOk result (All (HasTicket (view_in caller.new.pass).seen) tickets.new.items) }
@@ -137,9 +139,9 @@ fn ask_next<R: Wait>(
     ensures begins { Begins (view_in caller.old.pass).seen (view_in caller.new.pass).seen }
     ensures kept { KeepsServing caller.old.number (view_in caller.old.pass).seen
         (view_in caller.new.pass).seen }
-    ensures asks { (maps : Maps) (entry : List ℕ) (taken : List Delivery)
-        → Represents maps entry machine.now taken
-        → AsksOn maps entry taken caller.old.number (view_in caller.old.pass).seen
+    ensures asks { (maps : Maps) (entry : List ℕ) (trace : Bool) (taken : List Delivery)
+        → Represents maps entry trace (state_of machine.now) taken
+        → AsksOn maps entry trace taken caller.old.number (view_in caller.old.pass).seen
         (view_in caller.new.pass).seen }
     ensures tickets { OnOk result (All (HasTicket (view_in caller.new.pass).seen)
         tickets.new.items) }
@@ -180,9 +182,9 @@ pub(crate) fn ask_open<R: Wait>(
     ensures begins { Begins (view_in caller.old.pass).seen (view_in caller.new.pass).seen }
     ensures kept { KeepsServing caller.old.number (view_in caller.old.pass).seen
         (view_in caller.new.pass).seen }
-    ensures asks { (maps : Maps) (entry : List ℕ) (taken : List Delivery)
-        → Represents maps entry machine.now taken
-        → AsksOn maps entry taken caller.old.number (view_in caller.old.pass).seen
+    ensures asks { (maps : Maps) (entry : List ℕ) (trace : Bool) (taken : List Delivery)
+        → Represents maps entry trace (state_of machine.now) taken
+        → AsksOn maps entry trace taken caller.old.number (view_in caller.old.pass).seen
         (view_in caller.new.pass).seen }
     ensures tickets { OnOk result (All (HasTicket (view_in caller.new.pass).seen)
         tickets.new.items) }

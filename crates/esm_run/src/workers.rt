@@ -1,5 +1,5 @@
 // A run over the sources: the calling thread has the first, and each other is asked by a worker in a thread of its own.
-ghost use Rattle.std.specs.Prelude.{◌≡◌, ◌≤◌, ◌<◌, ◌+◌, ◌-◌, ◌∷◌, ◌++◌, ℕ, [], List, length, map, cond, All, IfOk, OnOk, None, true, vec_len};
+ghost use Rattle.std.specs.Prelude.{◌≡◌, ◌≤◌, ◌<◌, ◌+◌, ◌-◌, ◌∷◌, ◌++◌, ℕ, [], List, length, map, cond, All, IfOk, OnOk, None, true, vec_len, Bool, false};
 ghost use Rattle.std.specs.Arc.{arc_value};
 ghost use Rattle.std.specs.Vec.{vec_capacity};
 ghost use Rattle.std.specs.Thread.{IsSync};
@@ -21,9 +21,10 @@ use esm_base::{Memory, Text};
 use esm_fetch::{Bell, Posted, WorkerEnd, worker};
 use esm_hlock::Pass;
 use esm_import_map::ImportMap;
+use esm_machine::Machine;
 use esm_module_map::{Caller, MapState, ModuleMap, laws as map_laws};
 use esm_ports::Source;
-use esm_turn::{Machine, laws};
+use esm_world::laws;
 use std::alloc::Global;
 use std::marker::{Send, Sync};
 use std::sync::{Arc, Wait};
@@ -75,10 +76,10 @@ fn gather<S: Source>(modules: &ModuleMap<Posted>, led: Led<S>, end: WorkerEnd<S>
     ensures kept { map S.holds result.sources.items
         ≡ map S.holds led.sources.items ++ S.holds end.source ∷ [] }
     ensures room { vec_capacity result.sources ≡ vec_capacity led.sources }
-    ensures led { (maps : Maps) (entry : List ℕ)
-        → IsShared S.holds S.asked maps entry (view_in led.caller.pass) led.machine
+    ensures led { (maps : Maps) (entry : List ℕ) (trace : Bool)
+        → IsShared S.holds S.asked maps entry trace (view_in led.caller.pass) led.machine
         (deliveries_of led.taken.items) led.sources.items
-        → IsShared S.holds S.asked maps entry (view_in result.caller.pass) result.machine
+        → IsShared S.holds S.asked maps entry trace (view_in result.caller.pass) result.machine
         (deliveries_of result.taken.items) result.sources.items }
 {
     map_laws::urls_stay::<Posted>();
@@ -154,7 +155,7 @@ fn with_workers<R: Threads + Wait + Sync, S: Source + Send>(
     ensures makers { HasAllMakers maker_of (view_in result.caller.pass) }
     ensures kept { map S.holds result.sources.items ≡ map S.holds sources.items }
     ensures room { vec_capacity result.sources ≡ vec_capacity sources }
-    ensures led { IsShared S.holds S.asked (arc_value import_map) entry.now
+    ensures led { IsShared S.holds S.asked (arc_value import_map) entry.now false
         (view_in result.caller.pass) result.machine (deliveries_of result.taken.items) result.sources.items }
 {
     let mut workers = workers;
@@ -195,7 +196,7 @@ fn with_workers<R: Threads + Wait + Sync, S: Source + Send>(
                         × ((view_in result.caller.pass).shares ≡ (view_in caller.pass).shares + length workers.items)
                         × (map S.holds result.sources.items ≡ map S.holds sources.items)
                         × (vec_capacity result.sources ≡ vec_capacity sources)
-                        × IsShared S.holds S.asked (arc_value import_map) entry.entry.now (view_in result.caller.pass) result.machine (deliveries_of result.taken.items) result.sources.items }
+                        × IsShared S.holds S.asked (arc_value import_map) entry.entry.now false (view_in result.caller.pass) result.machine (deliveries_of result.taken.items) result.sources.items }
                 {
                     with_workers(
                         rt, alloc, modules, bell, import_map, entry, caller, workers, sources,
@@ -327,11 +328,12 @@ pub(crate) fn run_graph<R: Threads + Wait + Sync, S: Source + Send>(
     requires some { 0 < workers }
     requires few { (workers ≤ 16) × (workers ≤ vec_len sources) }
     requires fresh { All (λ s. S.asked s ≡ []) sources.items }
-    ensures { IsGraphRun S.asked S.holds map entry.now workers result.machine
+    ensures { IsGraphRun S.asked S.holds map entry.now false workers result.machine
         (deliveries_of result.taken.items) sources.items result.sources.items }
 {
     map_laws::callers::<Posted>();
     laws::deliveries();
+    laws::has_standard_run();
     let mut sources = sources;
     let Ok(ready) = prepare(rt, alloc, map, workers - 1) else {
         return unrun(alloc, sources);

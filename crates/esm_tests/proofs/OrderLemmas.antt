@@ -4,8 +4,8 @@ use Rattle.std.proofs.Common.{◌≡◌, ◌<◌, sym, subst, refl, ℕ, zero, s
 use Rattle.std.specs.Prelude.{Option, Some, None, ◌||◌, bytes_eq}
 use Rattle.std.proofs.lemmas.Slice.Eq.{bytes_eq-Decides}
 use Rattle.esm_base.specs.Urls.{Url, has}
-use Rattle.esm_load.specs.Loading.{Loading}
-use Rattle.esm_turn.specs.Represents.{TurnEnd, State, MayTake, MayTakeBy, asks_of, asks_by_stop}
+use Rattle.esm_loads.specs.Loading.{Loading}
+use Rattle.esm_machine.specs.Represents.{TurnEnd, State, MayTake, MayTakeBy, asks_of, asks_by_stop}
 
 or_left : (a b : Bool) → a ≡ true → (a || b) ≡ true
 or_left true b h = refl
@@ -26,4 +26,4 @@ may_take_by (Some end) l url there = tt
 
 pub may_take : (m : State) (asks : List Url) (place : ℕ) (url copy : Url) → asks ≡ asks_of m → place < length asks → url ≡ get_or asks place url → copy ≡ url → MayTake m copy
 may_take m asks place url copy same within is copied =
-    may_take_by m.stopped m.loading copy (subst (λ u. has (asks_of m) u ≡ true) (sym copied) (subst (λ us. has us url ≡ true) same (has_at asks place url within is)))
+    may_take_by m.stopped m.held.seen.loading copy (subst (λ u. has (asks_of m) u ≡ true) (sym copied) (subst (λ us. has us url ≡ true) same (has_at asks place url within is)))

@@ -1,8 +1,13 @@
 // Whole runs over graphs of modules.
 ghost use Rattle.std.specs.Prelude.{◌≡◌, ◌<◌, ◌-◌, ◌^◌, [], All, IfOk};
 
+use crate::awaits::AWAITS;
+use crate::calls::{CALLS, THROWS};
+use crate::dynamic::{DYNAMIC, RACES};
 use crate::helpers::{COMMAND, add_named, site, sure, words};
+use crate::names::{MEMBERS, NAMES};
 use crate::sites::{FAILING, SITES};
+use crate::values::VALUES;
 use esm_base::{Memory, Status, Text};
 use esm_ports::{SureSink, SureSource};
 use esm_run::{RunReport, run};
@@ -28,7 +33,9 @@ pub fn run_over<R: Threads + Wait + Sync>(
 #[test]
 fn sites_run_as_the_standard_says(rt: HostRuntime) -> Result<(), Memory> {
     let alloc = rt.alloc();
-    for table in [SITES, FAILING] {
+    for table in [
+        SITES, FAILING, VALUES, NAMES, MEMBERS, CALLS, THROWS, AWAITS, DYNAMIC,
+    ] {
         for row in table {
             let mut out = SureSink::new(alloc);
             let report = run_over(&rt, alloc, site(alloc, row.files)?, &mut out)?;
@@ -38,6 +45,23 @@ fn sites_run_as_the_standard_says(rt: HostRuntime) -> Result<(), Memory> {
     }
     assert_eq!(rt; SITES.len(), 9);
     assert_eq!(rt; FAILING.len(), 8);
+    let bodies = [VALUES, NAMES, MEMBERS, CALLS, THROWS];
+    assert_eq!(rt; bodies.iter().map(|table| table.len()).sum::<usize>(), 147);
+    assert_eq!(rt; AWAITS.len(), 58);
+    assert_eq!(rt; DYNAMIC.len(), 47);
+    Ok(())
+}
+
+#[test]
+fn one_worker_delivers_in_the_order_of_asking(rt: HostRuntime) -> Result<(), Memory> {
+    let alloc = rt.alloc();
+    for race in RACES {
+        let mut out = SureSink::new(alloc);
+        let report = run_over(&rt, alloc, site(alloc, race.files)?, &mut out)?;
+        assert_eq!(rt; report.status, Status::Fulfilled, "{}", race.name);
+        let (_, output) = &race.runs[0];
+        assert!(rt; out.written() == output.as_bytes(), "{}", race.name);
+    }
     Ok(())
 }
 
@@ -83,11 +107,9 @@ fn exactly_4096_urls_are_loaded(rt: HostRuntime) -> Result<(), Memory> {
     Ok(())
 }
 
-#[test]
-fn a_chain_of_4096_modules_runs_from_its_end(rt: HostRuntime) -> Result<(), Memory> {
-    let alloc = rt.alloc();
+// A chain of 4,096 modules, each of which imports the next and then prints its number; the last has this text.
+fn chain(alloc: Global, foot: &str) -> Result<Vec<(Text, Vec<u8>)>, Memory> {
     let mut files = Vec::new(alloc);
-    let mut wanted = String::new(alloc);
     add_named(
         alloc,
         &mut files,
@@ -100,14 +122,51 @@ fn a_chain_of_4096_modules_runs_from_its_end(rt: HostRuntime) -> Result<(), Memo
         let body = format!(in alloc; "import \"./m{next}.js\";print(\"{i}\")")?;
         add_named(alloc, &mut files, name.as_str(), body.as_str())?;
     }
-    add_named(alloc, &mut files, "m4095.js", "print(\"4095\")")?;
-    for i in (0..4096u64).rev() {
+    add_named(alloc, &mut files, "m4095.js", foot)?;
+    Ok(files)
+}
+
+// What the modules above the foot of the chain print.
+fn push_numbers(text: &mut String, alloc: Global) -> Result<(), Memory> {
+    for i in (0..4095u64).rev() {
         let line = format!(in alloc; "{i}\n")?;
-        wanted.push_str(line.as_str())?;
+        text.push_str(line.as_str())?;
     }
+    Ok(())
+}
+
+#[test]
+fn a_chain_of_4096_modules_runs_from_its_end(rt: HostRuntime) -> Result<(), Memory> {
+    let alloc = rt.alloc();
+    let mut wanted = String::from_str(alloc, "foot\n")?;
+    push_numbers(&mut wanted, alloc)?;
     let mut out = SureSink::new(alloc);
-    let report = run_over(&rt, alloc, files, &mut out)?;
+    let report = run_over(&rt, alloc, chain(alloc, "print(\"foot\")")?, &mut out)?;
     assert_eq!(rt; report.status, Status::Fulfilled);
     assert!(rt; out.written() == wanted.as_bytes());
+    Ok(())
+}
+
+#[test]
+fn a_chain_of_4096_modules_waits_for_its_foot(rt: HostRuntime) -> Result<(), Memory> {
+    let alloc = rt.alloc();
+    let mut wanted = String::from_str(alloc, "foot\nagain\n")?;
+    push_numbers(&mut wanted, alloc)?;
+    let foot = "print(\"foot\");await undefined;print(\"again\")";
+    let mut out = SureSink::new(alloc);
+    let report = run_over(&rt, alloc, chain(alloc, foot)?, &mut out)?;
+    assert_eq!(rt; report.status, Status::Fulfilled);
+    assert!(rt; out.written() == wanted.as_bytes());
+    Ok(())
+}
+
+#[test]
+fn a_chain_of_4096_modules_fails_with_its_foot(rt: HostRuntime) -> Result<(), Memory> {
+    let alloc = rt.alloc();
+    let foot = "print(\"foot\");await undefined;throw \"x\"";
+    let mut out = SureSink::new(alloc);
+    let report = run_over(&rt, alloc, chain(alloc, foot)?, &mut out)?;
+    assert_eq!(rt; report.status, Status::EntryFailed);
+    assert!(rt; out.written() == b"foot\nUncaught x\n".as_slice());
     Ok(())
 }

@@ -5,6 +5,12 @@ ghost use Rattle.std.specs.Prelude.{◌≡◌, ◌≢◌, ◌<◌, [], All, vec_
 ghost use Rattle.esm_base.specs.declared.status.Status.TheVariants.{WriteFault};
 
 #[cfg(test)]
+mod awaits;
+#[cfg(test)]
+mod calls;
+#[cfg(test)]
+mod dynamic;
+#[cfg(test)]
 mod gates;
 #[cfg(test)]
 mod graphs;
@@ -13,11 +19,17 @@ mod helpers;
 #[cfg(test)]
 mod maps;
 #[cfg(test)]
+mod names;
+#[cfg(test)]
 mod orders;
 #[cfg(test)]
 mod runs;
 #[cfg(test)]
 mod sites;
+#[cfg(test)]
+mod steps;
+#[cfg(test)]
+mod values;
 #[cfg(test)]
 mod workers;
 

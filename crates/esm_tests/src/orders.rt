@@ -1,23 +1,30 @@
 // The machine, driven in every order in which fetches may end.
 ghost use Rattle.std.specs.Prelude.{◌≡◌, IfOk, IfSome};
-ghost use Rattle.esm_turn.specs.Represents.{MayTake};
+ghost use Rattle.esm_machine.specs.Machine.{state_of};
+ghost use Rattle.esm_machine.specs.Represents.{MayTake};
 
+use crate::dynamic::RACES;
 use crate::graphs::run_over;
 use crate::helpers::site;
 use crate::sites::{Row, SITES};
 use esm_ast::Outcome;
 use esm_base::{Memory, Status, Text};
 use esm_import_map::ImportMap;
+use esm_machine::{Machine, TurnEnd};
 use esm_ports::SureSink;
 use esm_run::Delivery;
-use esm_turn::{Machine, TurnEnd};
 use std::alloc::Global;
 use std::sync::Arc;
 
 // A machine under the empty import map.
 fn new_machine(alloc: Global) -> Result<Machine, Memory> {
     let map = Arc::new(alloc, ImportMap::empty(alloc))?;
-    Machine::new(alloc, map, Text::copy(alloc, "https://a.test/main.js")?)
+    Machine::new(
+        alloc,
+        map,
+        Text::copy(alloc, "https://a.test/main.js")?,
+        false,
+    )
 }
 
 // Which of the open asks is delivered at a turn.
@@ -39,7 +46,7 @@ fn outcome_at(taken: &[Delivery], url: &Text) -> Result<Outcome, Memory> {
 
 // The open ask at a place, if there is one.
 fn ask_at(machine: &Machine, place: usize) -> Result<Option<Text>, Memory>
-    ensures { IfOk result (λ found. IfSome found (MayTake machine.now)) }
+    ensures { IfOk result (λ found. IfSome found (MayTake (state_of machine.now))) }
 {
     let asks = machine.asks();
     if place >= asks.len() {
@@ -147,6 +154,42 @@ fn sites_run_the_same_in_every_order(rt: HostRuntime) -> Result<(), Memory> {
         }
     }
     assert_eq!(rt; orders, 17);
+    Ok(())
+}
+
+// Delivers these files in this order, and gives what the run wrote; none where one wasn't asked for.
+fn written_in_order(
+    alloc: Global,
+    names: &[&str],
+    taken: &[Delivery],
+) -> Result<Option<Vec<u8>>, Memory> {
+    let mut machine = new_machine(alloc)?;
+    for name in names {
+        let url = format!(in alloc; "https://a.test/{name}")?;
+        let Some(place) = machine.asks().iter().position(|ask| ask.is(url.as_str())) else {
+            return Ok(None);
+        };
+        let _ = deliver_at(&mut machine, place, taken)?;
+    }
+    match ended(alloc, &machine)? {
+        Some((Status::Fulfilled, text)) => Ok(Some(text)),
+        _ => Ok(None),
+    }
+}
+
+#[test]
+fn a_race_runs_as_its_order_says(rt: HostRuntime) -> Result<(), Memory> {
+    let alloc = rt.alloc();
+    for race in RACES {
+        let mut out = SureSink::new(alloc);
+        let report = run_over(&rt, alloc, site(alloc, race.files)?, &mut out)?;
+        for (names, output) in race.runs {
+            match written_in_order(alloc, names, &report.taken)? {
+                Some(text) => assert!(rt; text.as_slice() == output.as_bytes(), "{}", race.name),
+                None => assert!(rt; false, "{}", race.name),
+            }
+        }
+    }
     Ok(())
 }
 

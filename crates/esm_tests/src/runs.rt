@@ -15,7 +15,8 @@ const NO_MODULE: &str = "Uncaught SyntaxError: https://a.test/main.js: P2 no mod
 
 const EARLY_ERROR: &str = "Uncaught SyntaxError: https://a.test/main.js: P3 early error\n";
 
-const NOT_BUILT: &str = "Uncaught SyntaxError: https://a.test/main.js: form not built yet\n";
+const NOT_MAPPED: &str =
+    "Uncaught TypeError: https://a.test/main.js: specifier react: S4 bare and not mapped\n";
 
 #[test]
 fn a_run_writes_what_its_file_prints(rt: HostRuntime) -> Result<(), Memory> {
@@ -60,16 +61,11 @@ fn a_run_writes_what_its_file_prints(rt: HostRuntime) -> Result<(), Memory> {
             EARLY_ERROR,
             Status::EntryFailed,
         ),
-        (
-            COMMAND,
-            Some("const a = \"x\";"),
-            NOT_BUILT,
-            Status::EntryFailed,
-        ),
+        (COMMAND, Some("const a = \"x\";"), "", Status::Fulfilled),
         (
             COMMAND,
             Some("import \"react\"; import {} from \"./a.js\";"),
-            NOT_BUILT,
+            NOT_MAPPED,
             Status::EntryFailed,
         ),
         ("", Some(""), USAGE, Status::Usage),

@@ -13,7 +13,7 @@ use Rattle.esm_values.specs.Plans.{Rewritten as comes}
 use Rattle.esm_values.specs.Operators.{values, text_of, is_true, look_of}
 use Rattle.esm_expr_eval.specs.Terms.{Term, fill}
 use Rattle.esm_expr_eval.specs.Terms.Term.{Val, Fails}
-use Rattle.esm_expr_eval.proofs.HasRewriting.{size}
+use Rattle.esm_expr_eval.specs.Sizes.{size}
 use Rattle.esm_promise.specs.Promises.{Promises}
 use Rattle.esm_promise.specs.Reactions.{Reaction}
 use Rattle.esm_env.specs.Modules.{Modules}
@@ -22,7 +22,7 @@ use Rattle.esm_env.specs.Cells.{Reading as reading}
 use Rattle.esm_env.specs.Writing.{Writing, writing_of}
 use Rattle.esm_env.specs.Writing.{Writing as writing}
 use Rattle.esm_body.specs.Scopes.{Scope, in_scopes}
-use Rattle.esm_body.specs.Rest.{Use, Part, Rest, end, more, whole, branch, fill_rest, fill_part}
+use Rattle.esm_body.specs.Rest.{Part, Rest, count, end, more, whole, branch, fill_rest, fill_part}
 use Rattle.esm_body.specs.Rest.{Part as part}
 use Rattle.esm_body.specs.Rest.{Use as use_of}
 use Rattle.esm_body.specs.State.{State, Standing, Importing, Answered, steps_by, line_by}
@@ -31,27 +31,11 @@ use Rattle.esm_body.specs.BodyRewriting.{RewrittenBody, On, Gives, Waits, Rewrit
 use Rattle.esm_body.specs.BodyRewriting.RewritesBody.{begins_at, does, drops, sets, writes, throws, returns, prints, chooses, awaits, inner, inner_end, tries, tries_end}
 use Rattle.esm_body.specs.Segment.{Active, Ended, Normal, Thrown, Awaiting, Stopped, Next, Goes, Over, Segment, next_by, call_by, called}
 use Rattle.esm_body.specs.Segment.{Segment as segment}
-use Rattle.esm_body.proofs.Grown.{count, same_rest}
+use Rattle.esm_body.proofs.Grown.{same_rest}
+use Rattle.esm_world.specs.Measure.{weight_part, weight_rest, weight_use}
 use Rattle.esm_world.proofs.ExprFalls.{Counts, Calm, Falls, IsOther, Light, follows_falls, inside_falls, rewrites_falls}
 
 -- ---- how much of a body remains
-
-abbrev pub weight_use : Use → ℕ
-weight_use (use_of.Chooses ss others) = suc (count ss + count others)
-weight_use (use_of.Awaits purpose) = suc (weight_use purpose)
-weight_use _ = 0
-
-abbrev mutual
-  pub weight_part : {V : Type 0} → Part V → ℕ
-  weight_part (part.Whole s) = 1
-  weight_part (part.Does u e) = weight_use u + size e
-  weight_part (part.Stands u) = weight_use u + 1
-  weight_part (part.In scope rest) = suc (weight_rest rest)
-  weight_part (part.Tries rest x handler) = suc (suc (weight_rest rest + count handler))
-
-  pub weight_rest : {V : Type 0} → Rest V → ℕ
-  weight_rest end = 0
-  weight_rest (more p rest) = weight_part p + weight_rest rest
 
 weight_whole : (V : Type 0) (ss : Stmts) → weight_rest {V = V} (whole ss) ≡ count ss
 weight_whole V Stmts.nothing = refl

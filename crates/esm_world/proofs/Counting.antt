@@ -3,39 +3,11 @@ use Rattle.std.proofs.Common.{◌≡◌, ℕ, zero, suc, ◌+◌, ◌≤◌, Boo
 use Rattle.std.specs.Prelude.{map, slice_get, slice_set}
 use Rattle.esm_base.specs.Urls.{Url, same_url}
 use Rattle.esm_values.specs.Value.{Value}
-use Rattle.esm_promise.specs.Promises.{Promise, Pending, Done, Promises, Settled, Job, job, settle, triggered, register, register_by, make, make_fulfilled, next_job, first_job}
-use Rattle.esm_promise.specs.Reactions.{Reaction, Loaded, EntryLoaded}
+use Rattle.esm_promise.specs.Promises.{Promise, Pending, Done, Settled, Job, job, settle, triggered, register, register_by, make, make_fulfilled, next_job, first_job}
+use Rattle.esm_promise.specs.Reactions.{Reaction}
 use Rattle.esm_body.specs.State.{Standing}
 use Rattle.esm_body.specs.Bodies.{Taken, take_by, take_standing}
-use Rattle.esm_world.proofs.BodyFalls.{weight_rest}
-
--- what follows a load has two reactions
-abbrev pub weight_of : Reaction Url → ℕ
-weight_of (Loaded s) = 2
-weight_of EntryLoaded = 2
-weight_of _ = 1
-
-abbrev pub reactions : List (Reaction Url) → ℕ
-reactions [] = 0
-reactions (r ∷ rs) = weight_of r + reactions rs
-
-abbrev pub of_promise : Promise (Reaction Url) (Value Url) → ℕ
-of_promise (Pending rs) = reactions rs
-of_promise (Done how) = 0
-
-abbrev pub of_all : List (Promise (Reaction Url) (Value Url)) → ℕ
-of_all [] = 0
-of_all (p ∷ ps) = of_promise p + of_all ps
-
-abbrev pub of_jobs : List (Job (Reaction Url)) → ℕ
-of_jobs [] = 0
-of_jobs (j ∷ js) = weight_of j.reaction + of_jobs js
-
-abbrev pub Queue : Type 0
-Queue = Promises (Reaction Url) (Value Url)
-
-abbrev pub queue : Queue → ℕ
-queue ps = of_jobs ps.jobs + of_all ps.all
+use Rattle.esm_world.specs.Measure.{Queue, of_all, of_jobs, of_promise, queue, reactions, standing_weight, weight_of, weight_rest}
 
 reactions_on : (rs ss : List (Reaction Url)) → reactions (rs ++ ss) ≡ reactions rs + reactions ss
 reactions_on [] ss = omega arith
@@ -114,10 +86,6 @@ next_queue ps left j e = by ps.jobs refl e
     by (k ∷ ks) d f = let h : weight_of k.reaction + (of_jobs ks + of_all ps.all) ≡ weight_of j.reaction + queue left = ap count f in let g = ap of_jobs d in omega (arith, h, g)
 
 -- ---- bodies that stand at an await
-
-abbrev pub standing_weight : List (Standing Url) → ℕ
-standing_weight [] = 0
-standing_weight (s ∷ ss) = weight_rest s.rest + standing_weight ss
 
 pub standing_on : (ss ts : List (Standing Url)) → standing_weight (ss ++ ts) ≡ standing_weight ss + standing_weight ts
 standing_on [] ts = omega arith

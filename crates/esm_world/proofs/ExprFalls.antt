@@ -18,7 +18,7 @@ use Rattle.esm_expr_eval.specs.Terms.Compared.{compared}
 use Rattle.esm_expr_eval.specs.Rewriting.{Rewrites, RewritesIn, or_on, and_on}
 use Rattle.esm_expr_eval.specs.Rewriting.Rewrites.{fails, name, or_in, or, and_in, and, equal_in, equal_right, equal, equal_end, sum_in, sum_right, joins, sum_end, not_in, not_of, post_in, member_of, arguments, call_of, post_end, print_in, print, error_in, error, import_in, begins, own_url}
 use Rattle.esm_expr_eval.specs.Rewriting.RewritesIn.{first, later}
-use Rattle.esm_expr_eval.proofs.HasRewriting.{size, size_all, size_compared, size_links}
+use Rattle.esm_expr_eval.specs.Sizes.{size, size_all, size_compared, size_links}
 
 -- acts beside steps and import()
 abbrev pub IsOther : {V : Type 0} → Act V → Type 0

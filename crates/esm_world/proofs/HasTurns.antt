@@ -9,7 +9,8 @@ use Rattle.esm_world.specs.Run.{Runs}
 use Rattle.esm_ast.specs.Deliveries.{Delivery}
 use Rattle.esm_world.specs.Outcomes.{StepsHaveOutcomes, TurnsEnd}
 use Rattle.esm_world.proofs.TurnsEnd.{CanTurn, has_turn, runs_fit}
-use Rattle.esm_world.proofs.ReactsLower.{steps_left, left, job_lowers, job_within}
+use Rattle.esm_world.specs.Measure.{left}
+use Rattle.esm_world.proofs.ReactsLower.{steps_left, job_lowers, job_within}
 
 module _ (Fits : World → Type 0) (k : StepsHaveOutcomes Fits) where
   abbrev FitsWithin : World → Type 0

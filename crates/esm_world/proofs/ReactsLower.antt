@@ -7,7 +7,7 @@ use Rattle.esm_base.specs.declared.limits.TheConstants.{MAX_STEPS, MAX_LOG_BYTES
 use Rattle.esm_base.specs.Urls.{Url, same_url}
 use Rattle.esm_values.specs.Value.{Value, Undefined, Truth, Text, Func, Error, Namespace, Promise}
 use Rattle.esm_values.specs.Ran.{Ran}
-use Rattle.esm_expr_eval.proofs.HasRewriting.{size}
+use Rattle.esm_expr_eval.specs.Sizes.{size}
 use Rattle.esm_promise.specs.Promises.{Settled, Fulfilled, Rejected, Job, settle, make_fulfilled, next_promise, next_job}
 use Rattle.esm_promise.specs.Reactions.{Reaction, Await, EntryDone, Evaluated}
 use Rattle.esm_env.specs.Declarations.{body_of}
@@ -24,14 +24,15 @@ use Rattle.esm_world.specs.World.{World, modules_in, state_of, with_state, stopp
 use Rattle.esm_world.specs.Layers.{Executes, evaluation, with_linked, with_promises}
 use Rattle.esm_world.specs.Jobs.{EvaluatesLoad, Reacts, when_evaluated}
 use Rattle.esm_world.specs.Jobs.Reacts.{entry_linked, entry_fault, entry_refused, entry_ended, entry_threw, linked, fault, refused, evaluated, threw, body_ended, body_threw, resumes}
-use Rattle.esm_world.proofs.BodyFalls.{Counted, Waiting, counted, waiting, weight_rest, same_weight, CalmState, FallsEnd, segment_falls}
+use Rattle.esm_world.specs.Measure.{JobsLower, Queue, left, queue, standing_weight, weight_of, weight_rest}
+use Rattle.esm_world.proofs.BodyFalls.{Counted, Waiting, counted, waiting, same_weight, CalmState, FallsEnd, segment_falls}
 use Rattle.esm_world.proofs.StepsWithin.{Within, within_same, segment_within}
 use Rattle.esm_world.proofs.StartsRise.{HasFirst, entries_first, Risen, whole_rises}
 use Rattle.esm_world.proofs.EvalFalls.{LastsLive, evaluates_live, fulfills_live, rejects_live}
 use Rattle.esm_world.proofs.EvalStops.{evaluates_stop, fulfills_stop}
 use Rattle.esm_world.proofs.BodyStops.{resumes_body_stop}
 use Rattle.esm_world.proofs.StartsOnce.{IsOk, ok_unit, ok_some, IsStopped, IsStoppedState, stops_call, stops_state, none_stopped}
-use Rattle.esm_world.proofs.Counting.{Queue, queue, weight_of, standing_weight, settle_queue, register_queue, make_queue, fulfilled_queue, next_queue, standing_on, taken_is}
+use Rattle.esm_world.proofs.Counting.{settle_queue, register_queue, make_queue, fulfilled_queue, next_queue, standing_on, taken_is}
 use Rattle.esm_world.proofs.TurnsEnd.{Lower}
 
 abbrev S : Type 0
@@ -235,9 +236,6 @@ runs_calm {v} {m = m} {w = w} (RunsBody.segment {mid = mid} {late = late} {how =
 
 -- ---- evaluation
 
-abbrev pub left : World → ℕ
-left w = queue w.promises + standing_weight w.engine.standing
-
 pub record CalmWorld (v w : World) : Type 0 where
   pub steps : v.engine.steps ≤ w.engine.steps
   pub within : Within v.engine.steps w.engine.steps
@@ -415,3 +413,11 @@ job_lowers w mid j rest how few e p live = by (nat_lt w.engine.steps mid.engine.
 -- and no more steps than may be
 pub job_within : (w mid : World) (r : Reaction Url) (rest : Queue) (how : Settled (Value Url)) → w.engine.steps ≤ MAX_STEPS → Reacts (with_promises w rest) r how mid → stopped mid ≡ None → mid.engine.steps ≤ MAX_STEPS
 job_within w mid r rest how few p live = (reacts_less p live).within few
+
+-- as a law
+pub jobs_lower : JobsLower
+jobs_lower = record {
+  steps = λ w after d. (reacts_less d.reacts d.live).steps;
+  within = λ w after d few. (reacts_less d.reacts d.live).within few;
+  less = λ w after d e. let q = (reacts_less d.reacts d.live).quiet e in let n = next_queue w.promises d.rest d.job d.first in omega (arith, q, n);
+}

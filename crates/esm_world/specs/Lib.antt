@@ -19,6 +19,7 @@ pub mod ImportCalls
 pub mod Direct
 pub mod Unproved
 pub mod Outcomes
+pub mod Measure
 pub mod Examples
 pub mod FailingRuns
 pub mod TracedRun

@@ -66,7 +66,7 @@ EvaluatedAreLinked w = LoadsAre (Own w) w.promises
 -- ---- worlds
 
 -- linking, evaluation and bodies can be called in it
-pub record IsReady (w : World) : Type 0 where
+pub record TakesCalls (w : World) : Type 0 where
   pub fit : IsFit w
   pub loading : FitsLoading w.loading
   pub unlinked : LinkedAreUnlinked w
@@ -74,7 +74,7 @@ pub record IsReady (w : World) : Type 0 where
 
 -- and each reaction finds what its job looks for
 pub record IsSound (w : World) : Type 0 where
-  pub ready : IsReady w
+  pub ready : TakesCalls w
   pub awaits : AwaitsHaveBodies w
   pub evaluated : EvaluatedAreLinked w
   pub told : AreTold w
@@ -87,7 +87,7 @@ Finds w _ = ⊤
 
 -- the job of the reaction, whose promise was settled so, can be done
 pub record MayReact (w : World) (r : Reaction Url) (how : Settled (Value Url)) : Type 0 where
-  pub ready : IsReady w
+  pub ready : TakesCalls w
   pub reaction : FitReaction w.linked w.loading.entries r
   pub how_fits : FitSettled w.linked w.loading.entries how
   pub told : IsTold w.loading r how
@@ -95,9 +95,9 @@ pub record MayReact (w : World) (r : Reaction Url) (how : Settled (Value Url)) :
 
 -- a load that is complete has an Unlinked root, linking keeps that a world is ready, and without a fault the root is linked then
 pub record LinkingStaysReady : Type 0 where
-  pub root : (w : World) (s : ℕ) (root : Url) → IsReady w → root_of_load w.loading s ≡ Some root → w.loading.unlinked root ≡ true
-  pub links : (w : World) (root : Url) (fault : Option (FaultAt Url)) (linked : List Url) → IsReady w
-      → w.loading.unlinked root ≡ true → LinksTo w root fault linked → IsReady (with_linked w linked)
+  pub root : (w : World) (s : ℕ) (root : Url) → TakesCalls w → root_of_load w.loading s ≡ Some root → w.loading.unlinked root ≡ true
+  pub links : (w : World) (root : Url) (fault : Option (FaultAt Url)) (linked : List Url) → TakesCalls w
+      → w.loading.unlinked root ≡ true → LinksTo w root fault linked → TakesCalls (with_linked w linked)
   pub linked : (w : World) (root : Url) (linked : List Url) → LinksTo w root None linked → has linked root ≡ true
 
 -- the opening world is sound; the end of a fetch that is allowed, the answer of a pending request and a job keep it, and each job can be

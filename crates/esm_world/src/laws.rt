@@ -1,6 +1,7 @@
 //! Laws of the definitions, each the contract of a function without effect.
 ghost use Rattle.esm_world.specs.Laws.{AsksOnce, AsksStay, BytesStopFirst, DeliversAll, DeliversOnce, DeliversOnlyAsked, FewDeliveries, HasStandardRun, HasTurn, KeepsMaps, OneStandardRun, OneTurn, OpenAsks, StartsOnce, StoppedAsksNothing, StopsAreTold, StopsAtOnce};
 ghost use Rattle.esm_world.specs.Limits.{LimitsAreExact};
+ghost use Rattle.esm_world.specs.Measure.{JobsLower};
 ghost use Rattle.esm_world.specs.Outcomes.{TurnsEnd};
 ghost use Rattle.esm_world.specs.Plain.{PlainEvaluation};
 ghost use Rattle.esm_world.specs.RunLaws.{LoadsHaveEnded, TurnsLeaveNothing};
@@ -85,6 +86,12 @@ pub trait FitWorlds {
 /// Tasks and jobs come to an end: where each job and each answer has an outcome, each allowed delivery has a turn.
 pub fn turns_end<F: FitWorlds>()
     ensures { TurnsEnd F.fits }
+{}
+
+/// A job that no limit stops takes a step, of which there are only so many, or leaves less by a measure (`left`): of
+/// reactions that are still to run, and of bodies at an await.
+pub fn jobs_lower()
+    ensures { JobsLower }
 {}
 
 /// Each allowed delivery has a turn.

@@ -14,7 +14,8 @@ use Rattle.esm_env.specs.Declarations.{FunctionCode, function_at}
 use Rattle.esm_body.specs.Scopes.{call_scope}
 use Rattle.esm_body.specs.Rest.{Rest, end, more, whole, block, branch}
 use Rattle.esm_body.specs.Rest.Part.{In}
-use Rattle.esm_body.specs.Inner.Stack.{levels_rest, AreLevels}
+use Rattle.esm_body.specs.Inner.Stack.{levels_rest}
+use Rattle.esm_body.specs.Code.{AreLevels}
 use Rattle.esm_body.specs.declared.work.Activation.{Activation}
 use Rattle.esm_body.specs.declared.work.Kind.TheVariants as k
 use Rattle.esm_body.specs.declared.work.Level.{Level}

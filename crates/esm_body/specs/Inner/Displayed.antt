@@ -13,7 +13,7 @@ use Rattle.esm_values.specs.Value as value
 use Rattle.esm_values.specs.Code.{CodeValue, value_of}
 use Rattle.esm_values.specs.Errors.{Errors, fault, make_error, next_error}
 use Rattle.esm_values.specs.Operators.{text_of}
-use Rattle.esm_values.specs.Completion.{Completion, Normal, Throw}
+use Rattle.esm_values.specs.Completion.{Normal, Throw}
 use Rattle.esm_values.specs.declared.errors.FaultKind.TheVariants as kinds
 use Rattle.esm_values.specs.declared.value.FuncId.{FuncId}
 use Rattle.esm_values.specs.declared.value.Value.{Value}

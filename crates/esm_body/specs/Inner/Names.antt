@@ -1,5 +1,5 @@
 -- Reading the names of code under way.
-use Rattle.std.specs.Prelude.{◌≡◌, ◌<◌, ◌≤◌, ℕ, suc, List, [], ◌∷◌, length, slice_get, map, Option, Some, None, Result, Ok, Err, if◌then◌else◌, option_map, codes}
+use Rattle.std.specs.Prelude.{◌≡◌, ◌≤◌, ℕ, suc, List, [], ◌∷◌, slice_get, Option, Some, None, Result, Ok, Err, if◌then◌else◌, option_map}
 use Rattle.std.specs.Str.{bytes_eq}
 use Rattle.esm_values.specs.Value.{Error}
 use Rattle.esm_values.specs.Code.{CodeValue, value_of}
@@ -11,7 +11,7 @@ use Rattle.esm_values.specs.declared.value.Value.{Value}
 use Rattle.esm_base.specs.declared.memory.Memory.{Memory}
 use Rattle.esm_expr_eval.specs.declared.world.Out.{Out}
 use Rattle.esm_expr_eval.specs.declared.world.Out.TheVariants as out
-use Rattle.esm_env.specs.Cells.{Cell, Reading, read_cell, read_value}
+use Rattle.esm_env.specs.Cells.{Reading, read_value}
 use Rattle.esm_env.specs.Cells.{Reading as reading}
 use Rattle.esm_env.specs.Slots.{valued_by}
 use Rattle.esm_env.specs.Scopes.{Scopes, read_or, read_in}

@@ -24,10 +24,11 @@ use Rattle.esm_body.specs.Segment.{Active, active, Next, Goes, Over, Segment, ca
 use Rattle.esm_body.specs.Segment.{Ended as ended}
 use Rattle.esm_body.specs.Fits.{FitsRun, IsKnown}
 use Rattle.esm_body.specs.Inner.Chains.{Turns, EndsSo, IsFitNext}
-use Rattle.esm_body.specs.Inner.Declared.{IsNameOf, SetsRest, SetsMove}
-use Rattle.esm_body.specs.Inner.Stack.{in_front_of, standing_rest, awaited_by, use_of, caller_of, IsUse}
-use Rattle.esm_body.specs.Inner.Turn.{IsCode, IsCalling, Keeps, code_rest, move_of}
-use Rattle.esm_body.specs.Inner.World.{state_in, HasScopes}
+use Rattle.esm_body.specs.Sets.{IsNameOf, SetsMove}
+use Rattle.esm_body.specs.Inner.Stack.{caller_of}
+use Rattle.esm_body.specs.Code.{in_front_of, standing_rest, awaited_by, use_of, Belongs, IsCode, IsUse}
+use Rattle.esm_body.specs.Inner.Turn.{IsCalling, Keeps, code_rest, move_of}
+use Rattle.esm_body.specs.Inner.World.{state_in, HasScopes, with_code}
 use Rattle.esm_body.specs.declared.inside.Inside.{Inside}
 use Rattle.esm_body.specs.declared.log.Stop.{Stop}
 use Rattle.esm_body.specs.declared.log.Stop.TheVariants as stops
@@ -95,20 +96,15 @@ body_at now (c ∷ cs) = c.body.at
 -- ---- over the modules that are there
 
 module _ {S : Type 0} (modules : S → Modules ℕ) where
-  -- its tree is its module's, which declares the names that it sets outside of all blocks
-  pub record Belongs (i : S) (a : Activation) (rest : Rest CodeValue) : Type 0 where
-    pub tree : (modules i).tree a.at.0 ≡ (arc_value a.tree).items
-    pub sets : SetsRest (IsNameOf (arc_value a.tree).items) rest
-
   abbrev pub CallersBelong : S → List Caller → Type 0
   CallersBelong i [] = ⊤
-  CallersBelong i (c ∷ cs) = Belongs i c.body (caller_of c).rest × CallersBelong i cs
+  CallersBelong i (c ∷ cs) = Belongs modules i c.body (caller_of c).rest × CallersBelong i cs
 
   -- a body that stands at an await is its module's
   abbrev pub EndBelongs : S → Ended → Activation → Type 0
   EndBelongs i e.Normal now = ⊤
   EndBelongs i (e.Thrown v) now = ⊤
-  EndBelongs i (e.Awaits v purpose) now = Belongs i now (standing_rest now purpose)
+  EndBelongs i (e.Awaits v purpose) now = Belongs modules i now (standing_rest now purpose)
 
 -- ---- calls
 
@@ -121,7 +117,7 @@ with_fault w = record w {
 -- this code runs, and what ran is its caller
 abbrev pub CallsIn : {I : Type 0} → Inside I → List Caller → Activation → Doing → Result CodeNext Stop → Inside I → List Caller → Type 0
 CallsIn w cs a d (Ok next) after late =
-    (next ≡ n.Goes p.Turn) × (after ≡ record w { now = a }) × (late ≡ cs ++ waiting w.now d ∷ [])
+    (next ≡ n.Goes p.Turn) × (after ≡ with_code w a) × (late ≡ cs ++ waiting w.code.now d ∷ [])
 CallsIn w cs a d (Err (stops.Limit limit)) after late = ⊥
 CallsIn w cs a d (Err stops.Memory) after late = Unit {0}
 
@@ -131,9 +127,9 @@ module _ {I S : Type 0} (seen : I → S) (modules : S → Modules ℕ) (linked :
     (begins : Importing ℕ S) where
   -- this runs, and these are its callers
   pub record Running (w : Inside I) (awaits : Bool) (rest : Rest CodeValue) (callers : List Caller) : Type 0 where
-    pub run : FitsRun modules linked fits (state_in seen w) w.now.at.0 awaits rest (callers_of callers)
+    pub run : FitsRun modules linked fits (state_in seen w) w.code.now.at.0 awaits rest (callers_of callers)
     pub made : HasScopes seen modules linked fits begins w
-    pub belongs : Belongs modules (seen w.imports.now) w.now rest
+    pub belongs : Belongs modules (seen w.imports.now) w.code.now rest
     pub before : CallersBelong modules (seen w.imports.now) callers
 
   abbrev pub MayRun : Inside I → Rest CodeValue → List Caller → Type 0
@@ -145,7 +141,7 @@ module _ {I S : Type 0} (seen : I → S) (modules : S → Modules ℕ) (linked :
   done_by (c ∷ cs) w = return_to nat_eq modules begins (Val Undefined) (c ∷ cs) w
 
   abbrev pub next_of : Inside I → List Caller → Outcome → Option (Next ℕ S)
-  next_of w callers out = next_by nat_eq modules begins w.now.at.0 (callers_of callers) (move_of out w.now) (state_in seen w)
+  next_of w callers out = next_by nat_eq modules begins w.code.now.at.0 (callers_of callers) (move_of out w.code.now) (state_in seen w)
 
   -- what follows an outcome
   abbrev pub next_after : Inside I → List Caller → Outcome → Option (Next ℕ S)
@@ -158,28 +154,28 @@ module _ {I S : Type 0} (seen : I → S) (modules : S → Modules ℕ) (linked :
 
   -- code that goes on, and code that has ended
   abbrev pub going : Place → Inside I → List Caller → Next ℕ S
-  going spot after late = Goes after.now.at.0 (place_rest after.now spot) (callers_of late) (state_in seen after)
+  going spot after late = Goes after.code.now.at.0 (place_rest after.code.now spot) (callers_of late) (state_in seen after)
 
   abbrev pub ending : Ended → Inside I → Next ℕ S
-  ending how after = Over (ended_of how after.now) (state_in seen after)
+  ending how after = Over (ended_of how after.code.now) (state_in seen after)
 
   -- code may go on here, and nothing outside has changed but errors
   pub record Continues (w : Inside I) (cs : List Caller) (spot : Place) (after : Inside I) (late : List Caller) : Type 0 where
-    pub code : IsCode after.now
-    pub place : IsPlace (length (arc_value after.now.tree).stmts) spot
+    pub code : IsCode after.code.now
+    pub place : IsPlace (length (arc_value after.code.now.tree).stmts) spot
     pub callers : AreCallers late
     pub keeps : Keeps seen modules linked fits begins w after
-    pub belongs : Belongs modules (seen after.imports.now) after.now (place_rest after.now spot)
+    pub belongs : Belongs modules (seen after.imports.now) after.code.now (place_rest after.code.now spot)
     pub before : CallersBelong modules (seen after.imports.now) late
     pub imports : after.imports ≡ w.imports
-    pub body : body_at after.now late ≡ body_at w.now cs
+    pub body : body_at after.code.now late ≡ body_at w.code.now cs
 
   -- nothing has changed, and what ran was the body
   pub record EndsHere (w : Inside I) (callers : List Caller) (how : Ended) (after : Inside I) : Type 0 where
     pub same : after ≡ w
-    pub ended : IsEnded (length (arc_value after.now.tree).stmts) how
+    pub ended : IsEnded (length (arc_value after.code.now.tree).stmts) how
     pub last : callers ≡ []
-    pub belongs : EndBelongs modules (seen after.imports.now) how after.now
+    pub belongs : EndBelongs modules (seen after.imports.now) how after.code.now
 
   -- what follows an outcome; where memory ran out, nothing is said
   abbrev pub Followed : Inside I → List Caller → Outcome → Result CodeNext Stop → Inside I → List Caller → Type 0
@@ -225,8 +221,8 @@ module _ {I S : Type 0} (seen : I → S) (modules : S → Modules ℕ) (linked :
   pub record FollowsFit (w : Inside I) (awaits : Bool) (callers : List Caller) (out : Outcome) : Type 0 where
     pub next : IsFitNext modules linked fits awaits (next_after w callers out)
     pub made : HasScopes seen modules linked fits begins w
-    pub tree : (modules (seen w.imports.now)).tree w.now.at.0 ≡ (arc_value w.now.tree).items
-    pub sets : SetsMove (IsNameOf (arc_value w.now.tree).items) (move_of out w.now)
+    pub tree : (modules (seen w.imports.now)).tree w.code.now.at.0 ≡ (arc_value w.code.now.tree).items
+    pub sets : SetsMove (IsNameOf (arc_value w.code.now.tree).items) (move_of out w.code.now)
     pub before : CallersBelong modules (seen w.imports.now) callers
 
   abbrev pub MayFollow : Inside I → List Caller → Outcome → Type 0
@@ -243,10 +239,10 @@ module _ {I S : Type 0} (seen : I → S) (modules : S → Modules ℕ) (linked :
 
   -- this follows, behind one turn
   abbrev pub Leads : Inside I → Rest CodeValue → List Caller → Next ℕ S → Type 0
-  Leads w rest callers next = LeadsTo (state_in seen w) w.now.at.0 rest (callers_of callers) next
+  Leads w rest callers next = LeadsTo (state_in seen w) w.code.now.at.0 rest (callers_of callers) next
 
   abbrev pub SegmentOf : Inside I → Rest CodeValue → List Caller → ended ℕ → State ℕ S → Type 0
-  SegmentOf w rest callers how after = Segment nat_eq modules begins (state_in seen w) w.now.at.0 rest (callers_of callers) how after
+  SegmentOf w rest callers how after = Segment nat_eq modules begins (state_in seen w) w.code.now.at.0 rest (callers_of callers) how after
 
   -- what was linked is linked still
   abbrev pub LinksStay : Inside I → Inside I → Type 0
@@ -254,21 +250,21 @@ module _ {I S : Type 0} (seen : I → S) (modules : S → Modules ℕ) (linked :
 
   -- code goes on here, behind the code before
   pub record GoesOn (w : Inside I) (cs : List Caller) (spot : Place) (after : Inside I) (late : List Caller) : Type 0 where
-    pub code : IsCode after.now
-    pub place : IsPlace (length (arc_value after.now.tree).stmts) spot
+    pub code : IsCode after.code.now
+    pub place : IsPlace (length (arc_value after.code.now.tree).stmts) spot
     pub callers : AreCallers late
-    pub run : MayRun after (place_rest after.now spot) late
+    pub run : MayRun after (place_rest after.code.now spot) late
     pub keeps : Keeps seen modules linked fits begins w after
     pub links : LinksStay w after
-    pub body : body_at after.now late ≡ body_at w.now cs
+    pub body : body_at after.code.now late ≡ body_at w.code.now cs
 
   -- code has ended, and is the body again
   pub record IsOver (w : Inside I) (callers : List Caller) (end : Ended) (after : Inside I) : Type 0 where
-    pub code : IsCode after.now
-    pub ended : IsEnded (length (arc_value after.now.tree).stmts) end
-    pub belongs : EndBelongs modules (seen after.imports.now) end after.now
+    pub code : IsCode after.code.now
+    pub ended : IsEnded (length (arc_value after.code.now.tree).stmts) end
+    pub belongs : EndBelongs modules (seen after.imports.now) end after.code.now
     pub keeps : Keeps seen modules linked fits begins w after
-    pub body : after.now.at ≡ body_at w.now callers
+    pub body : after.code.now.at ≡ body_at w.code.now callers
 
   -- one turn, and what follows it; where memory ran out, nothing is said
   abbrev pub Went : Inside I → Rest CodeValue → List Caller → Result CodeNext Stop → Inside I → List Caller → Type 0
@@ -281,7 +277,7 @@ module _ {I S : Type 0} (seen : I → S) (modules : S → Modules ℕ) (linked :
   -- a segment of what there is now is one of what there was
   abbrev pub LeadsOn : Inside I → Rest CodeValue → List Caller → Place → Inside I → List Caller → Type 0
   LeadsOn w rest callers spot after late =
-      (how : ended ℕ) (end : State ℕ S) → SegmentOf after (place_rest after.now spot) late how end → SegmentOf w rest callers how end
+      (how : ended ℕ) (end : State ℕ S) → SegmentOf after (place_rest after.code.now spot) late how end → SegmentOf w rest callers how end
 
   -- a step was taken, and no more than may be
   abbrev pub TookStep : Inside I → Inside I → Type 0
@@ -292,7 +288,7 @@ module _ {I S : Type 0} (seen : I → S) (modules : S → Modules ℕ) (linked :
   Stepped w rest callers (Ok (n.Goes spot)) after late =
       LeadsOn w rest callers spot after late × GoesOn w callers spot after late × TookStep w after
   Stepped w rest callers (Ok (n.Over end)) after late =
-      SegmentOf w rest callers (ended_of end after.now) (state_in seen after) × IsOver w callers end after
+      SegmentOf w rest callers (ended_of end after.code.now) (state_in seen after) × IsOver w callers end after
   Stepped w rest callers (Err (stops.Limit limit)) after late =
       SegmentOf w rest callers (ended.Stopped limit) (state_in seen after) × Keeps seen modules linked fits begins w after
   Stepped w rest callers (Err stops.Memory) after late = Unit {0}
@@ -300,7 +296,7 @@ module _ {I S : Type 0} (seen : I → S) (modules : S → Modules ℕ) (linked :
   -- a segment: turns up to the end
   abbrev pub Ran : Inside I → Rest CodeValue → List Caller → Result Ended Stop → Inside I → Type 0
   Ran w rest callers (Ok end) after =
-      SegmentOf w rest callers (ended_of end after.now) (state_in seen after) × IsOver w callers end after
+      SegmentOf w rest callers (ended_of end after.code.now) (state_in seen after) × IsOver w callers end after
   Ran w rest callers (Err (stops.Limit limit)) after =
       SegmentOf w rest callers (ended.Stopped limit) (state_in seen after) × Keeps seen modules linked fits begins w after
   Ran w rest callers (Err stops.Memory) after = Unit {0}
@@ -311,7 +307,7 @@ module _ {I S : Type 0} (seen : I → S) (modules : S → Modules ℕ) (linked :
 
   -- a segment of a body, from an outcome on
   abbrev pub RanBehind : Inside I → Outcome → Result Ended Stop → Inside I → Type 0
-  RanBehind w out (Ok end) after = EndsBehind w out (ended_of end after.now) (state_in seen after) × IsOver w [] end after
+  RanBehind w out (Ok end) after = EndsBehind w out (ended_of end after.code.now) (state_in seen after) × IsOver w [] end after
   RanBehind w out (Err (stops.Limit limit)) after =
       EndsBehind w out (ended.Stopped limit) (state_in seen after) × Keeps seen modules linked fits begins w after
   RanBehind w out (Err stops.Memory) after = Unit {0}

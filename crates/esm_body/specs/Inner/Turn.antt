@@ -1,5 +1,5 @@
 -- What a turn of code under way comes to: one or more rewritings of what remains.
-use Rattle.std.specs.Prelude.{◌≡◌, ◌<◌, ℕ, nat_eq, Bool, true, List, length, Option, None, Result, Ok, Err, ⊤}
+use Rattle.std.specs.Prelude.{◌≡◌, ℕ, nat_eq, Bool, true, List, length, Option, None, Result, Ok, Err, ⊤}
 use Rattle.std.specs.Arc.{arc_value}
 use Rattle.esm_base.specs.declared.limits.Limit.{Limit}
 use Rattle.esm_tree.specs.declared.node.StmtId.{StmtId}
@@ -10,6 +10,7 @@ use Rattle.esm_values.specs.Plans.{Rewritten as comes}
 use Rattle.esm_expr_eval.specs.Terms.Term.{Val}
 use Rattle.esm_expr_eval.specs.Machine.{rest_of, IsSound, with_given}
 use Rattle.esm_promise.specs.Outer.{Outer}
+use Rattle.esm_env.specs.Calls.{scopes_of}
 use Rattle.esm_env.specs.Modules.{Modules}
 use Rattle.esm_body.specs.Rest.{Rest, end}
 use Rattle.esm_body.specs.Rest.{Part as parts}
@@ -17,10 +18,12 @@ use Rattle.esm_body.specs.State.{Importing}
 use Rattle.esm_body.specs.BodyRewriting.{RewrittenBody, On, Gives, Waits}
 use Rattle.esm_body.specs.Fits.{Kind, HoldsRest, FitsState, Knows}
 use Rattle.esm_body.specs.Inner.Chains.{Turns}
-use Rattle.esm_body.specs.Inner.Contexts.{Context, caught_in}
-use Rattle.esm_body.specs.Inner.Declared.{IsNameOf, SetsRest}
-use Rattle.esm_body.specs.Inner.Stack.{levels_rest, contexts_of, in_front_of, standing_rest, doing_part, use_of, awaited_by, AreLevels, IsUse}
-use Rattle.esm_body.specs.Inner.World.{state_in, HasScopes}
+use Rattle.esm_body.specs.Contexts.{Context, caught_in}
+use Rattle.esm_body.specs.SameScopes.{HaveSameScopes}
+use Rattle.esm_body.specs.Sets.{IsNameOf, SetsRest}
+use Rattle.esm_body.specs.Inner.Stack.{levels_rest, doing_part}
+use Rattle.esm_body.specs.Code.{contexts_of, in_front_of, standing_rest, use_of, awaited_by, IsCode, IsUse}
+use Rattle.esm_body.specs.Inner.World.{state_in, HasScopes, with_code}
 use Rattle.esm_body.specs.declared.log.Stop.{Stop}
 use Rattle.esm_body.specs.declared.log.Stop.TheVariants as stops
 use Rattle.esm_body.specs.declared.inside.Inside.{Inside}
@@ -31,11 +34,6 @@ use Rattle.esm_body.specs.declared.work.Doing.{Doing}
 use Rattle.esm_body.specs.declared.work.Use.{Use}
 
 -- ---- what remains
-
--- its numbers name parts of its tree, and it has a level
-pub record IsCode (a : Activation) : Type 0 where
-  pub levels : AreLevels (length (arc_value a.tree).stmts) a.levels.items
-  pub some : 0 < length a.levels.items
 
 abbrev pub code_rest : Activation → Rest CodeValue
 code_rest a = levels_rest (arc_value a.tree).stmts a.levels.items
@@ -87,6 +85,7 @@ IsOutcome n (o.Waits v purpose) = IsUse n purpose
 -- it reads and writes through the same loans, and the same bodies stand at their awaits
 pub record SameLoans {I : Type 0} (w after : Inside I) : Type 0 where
   pub alloc : after.alloc ≡ w.alloc
+  pub code : after.code.ghost_name ≡ w.code.ghost_name
   pub engine : after.engine.ghost_name ≡ w.engine.ghost_name
   pub standing : after.engine.now.standing ≡ w.engine.now.standing
   pub errors : after.errors.ghost_name ≡ w.errors.ghost_name
@@ -114,9 +113,9 @@ LeadsOut cs v (o.Waits u purpose) now = ⊥
 
 -- nothing but its levels has changed
 pub record ThrewTo {I : Type 0} (w : Inside I) (v : Value) (out : Outcome) (after : Inside I) : Type 0 where
-  pub rest : after ≡ record w { now = after.now }
-  pub same : SameCode w.now after.now out
-  pub leads : LeadsOut (code_contexts w.now) v out after.now
+  pub rest : after ≡ with_code w after.code.now
+  pub same : SameCode w.code.now after.code.now out
+  pub leads : LeadsOut (code_contexts w.code.now) v out after.code.now
 
 abbrev pub Threw : {I : Type 0} → Inside I → Value → Result Outcome Stop → Inside I → Type 0
 Threw w v (Ok out) after = ThrewTo w v out after
@@ -135,35 +134,36 @@ module _ {I S : Type 0} (seen : I → S) (modules : S → Modules ℕ) (linked :
   -- this may be rewritten, in a body or in a function
   pub record IsReadyFor (w : Inside I) (kind : Kind) (rest : Rest CodeValue) : Type 0 where
     pub state : FitsState modules linked fits (state_in seen w)
-    pub home : linked (seen w.imports.now) w.now.at.0 ≡ true
+    pub home : linked (seen w.imports.now) w.code.now.at.0 ≡ true
     pub holds : HoldsRest (Knows modules linked (seen w.imports.now)) ⊥ kind rest
     pub made : HasScopes seen modules linked fits begins w
-    pub tree : (modules (seen w.imports.now)).tree w.now.at.0 ≡ (arc_value w.now.tree).items
-    pub sets : SetsRest (IsNameOf (arc_value w.now.tree).items) rest
+    pub tree : (modules (seen w.imports.now)).tree w.code.now.at.0 ≡ (arc_value w.code.now.tree).items
+    pub sets : SetsRest (IsNameOf (arc_value w.code.now.tree).items) rest
 
   abbrev pub MayTurn : Inside I → Rest CodeValue → Type 0
   MayTurn w rest = (kind : Kind) × IsReadyFor w kind rest
 
   abbrev pub TurnsTo : Inside I → Rest CodeValue → RewrittenBody CodeValue Limit → Inside I → Type 0
-  TurnsTo w rest move after = Turns nat_eq modules begins w.now.at.0 (state_in seen w) rest move (state_in seen after)
+  TurnsTo w rest move after = Turns nat_eq modules begins w.code.now.at.0 (state_in seen w) rest move (state_in seen after)
 
   -- what remains comes to this outcome, or nothing remains
   abbrev pub Moved : Inside I → Rest CodeValue → Outcome → Inside I → Type 0
-  Moved w rest o.On after = TurnsTo w rest (move_of o.On after.now) after
+  Moved w rest o.On after = TurnsTo w rest (move_of o.On after.code.now) after
   Moved w rest o.Done after = (rest ≡ end) × (state_in seen after ≡ state_in seen w)
-  Moved w rest (o.Returns v) after = TurnsTo w rest (move_of (o.Returns v) after.now) after
-  Moved w rest (o.Thrown v) after = TurnsTo w rest (move_of (o.Thrown v) after.now) after
-  Moved w rest (o.Calls f vs d) after = TurnsTo w rest (move_of (o.Calls f vs d) after.now) after
-  Moved w rest (o.Waits v purpose) after = TurnsTo w rest (move_of (o.Waits v purpose) after.now) after
+  Moved w rest (o.Returns v) after = TurnsTo w rest (move_of (o.Returns v) after.code.now) after
+  Moved w rest (o.Thrown v) after = TurnsTo w rest (move_of (o.Thrown v) after.code.now) after
+  Moved w rest (o.Calls f vs d) after = TurnsTo w rest (move_of (o.Calls f vs d) after.code.now) after
+  Moved w rest (o.Waits v purpose) after = TurnsTo w rest (move_of (o.Waits v purpose) after.code.now) after
 
   pub record Keeps (w after : Inside I) : Type 0 where
     pub made : HasScopes seen modules linked fits begins after
     pub trees : TreesStay w after
+    pub scopes : HaveSameScopes (scopes_of w.envs.now) (scopes_of after.envs.now)
     pub loans : SameLoans w after
 
   pub record Came (w : Inside I) (rest : Rest CodeValue) (out : Outcome) (after : Inside I) : Type 0 where
     pub moved : Moved w rest out after
-    pub same : SameCode w.now after.now out
+    pub same : SameCode w.code.now after.code.now out
     pub keeps : Keeps w after
 
   pub record Halted (w : Inside I) (rest : Rest CodeValue) (limit : Limit) (after : Inside I) : Type 0 where

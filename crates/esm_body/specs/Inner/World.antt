@@ -16,21 +16,27 @@ use Rattle.esm_body.specs.Inner.Stack.{scopes_round}
 use Rattle.esm_body.specs.declared.log.Stop.{Stop}
 use Rattle.esm_body.specs.declared.log.Stop.TheVariants as stops
 use Rattle.esm_body.specs.declared.inside.Inside.{Inside}
+use Rattle.esm_body.specs.declared.work.Activation.{Activation}
 
 -- what code under way reads and writes
 abbrev pub state_in : {I S : Type 0} → (I → S) → Inside I → State ℕ S
 state_in seen w = state_of w.engine.now (scopes_of w.envs.now) w.promises.now w.errors.now (seen w.imports.now)
 
 abbrev pub inner_of : {I S : Type 0} → (I → S) → Inside I → Inner ℕ S
-inner_of seen w = record { scopes = scopes_round w.now.levels.items; state = state_in seen w }
+inner_of seen w = record { scopes = scopes_round w.code.now.levels.items; state = state_in seen w }
+
+-- it holds this code
+abbrev pub with_code : {I : Type 0} → Inside I → Activation → Inside I
+with_code w a = record w { code = record w.code { now = a } }
 
 -- the URL that is given of the module in which the code stands written
 abbrev pub url_inside : {I : Type 0} → (I → ℕ → List ℕ) → Inside I → List ℕ
-url_inside urls w = urls w.imports.now w.now.at.0
+url_inside urls w = urls w.imports.now w.code.now.at.0
 
 -- it holds the same code still, the same cells of modules and bodies at their awaits, and the same loans
 pub record IsSame {I : Type 0} (w after : Inside I) : Type 0 where
-  pub now : after.now ≡ w.now
+  pub now : after.code.now ≡ w.code.now
+  pub code : after.code.ghost_name ≡ w.code.ghost_name
   pub alloc : after.alloc ≡ w.alloc
   pub engine : after.engine.ghost_name ≡ w.engine.ghost_name
   pub standing : after.engine.now.standing ≡ w.engine.now.standing
@@ -60,15 +66,15 @@ module _ {I S : Type 0} (seen : I → S) (modules : S → Modules ℕ) (linked :
   HasScopes w = AreScopesOf (modules (seen w.imports.now)) (linked (seen w.imports.now)) (scopes_of w.envs.now)
 
   -- its state fits, and what it reads was made
-  pub record IsReady (w : Inside I) : Type 0 where
+  pub record CodeIsWhole (w : Inside I) : Type 0 where
     pub state : FitsState modules linked fits (state_in seen w)
-    pub scopes : HoldScopes (Knows modules linked (seen w.imports.now)) (scopes_round w.now.levels.items)
-    pub home : linked (seen w.imports.now) w.now.at.0 ≡ true
+    pub scopes : HoldScopes (Knows modules linked (seen w.imports.now)) (scopes_round w.code.now.levels.items)
+    pub home : linked (seen w.imports.now) w.code.now.at.0 ≡ true
     pub made : HasScopes w
 
   abbrev pub Answers : (w : Inside I) → (a : Act (Value ℕ)) → Result (AnswerTo a) Limit → Inside I → Type 0
-  Answers w a r after = IsSame w after × (IsReady w → KnowsAct (Knows modules linked (seen w.imports.now)) a
-      → Performs nat_eq modules begins w.now.at.0 (inner_of seen w) a r (inner_of seen after) × HasScopes after)
+  Answers w a r after = IsSame w after × (CodeIsWhole w → KnowsAct (Knows modules linked (seen w.imports.now)) a
+      → Performs nat_eq modules begins w.code.now.at.0 (inner_of seen w) a r (inner_of seen after) × HasScopes after)
 
   -- each call is one of the definitions, but where memory ran out
   abbrev pub ActsInside : Inside I → (a : Act (Value ℕ)) → Result (AnswerTo a) Stop → Inside I → Type 0

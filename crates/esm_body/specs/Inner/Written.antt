@@ -1,5 +1,5 @@
 -- Setting and writing the names of code under way.
-use Rattle.std.specs.Prelude.{◌≡◌, ℕ, nat_eq, zero, suc, Bool, true, List, [], ◌∷◌, slice_index_or, Option, Some, None, Result, Ok, Err, ⊤, codes}
+use Rattle.std.specs.Prelude.{◌≡◌, ℕ, nat_eq, zero, suc, Bool, true, List, [], ◌∷◌, slice_index_or, Option, Some, None, Result, Ok, Err, ⊤}
 use Rattle.esm_base.specs.declared.memory.Memory.{Memory}
 use Rattle.esm_values.specs.Value.{Error}
 use Rattle.esm_values.specs.Code.{CodeValue, value_of}
@@ -15,9 +15,10 @@ use Rattle.esm_env.specs.Slots.{valued_by}
 use Rattle.esm_env.specs.Scopes.{Scopes, own_cell, wrote_set}
 use Rattle.esm_env.specs.declared.scope.Wrote.{Wrote}
 use Rattle.esm_env.specs.declared.scope.Wrote.TheVariants as wrote
+use Rattle.esm_body.specs.SameScopes.{HaveSameScopes}
 use Rattle.esm_body.specs.Scopes.{Scope, in_scopes, set_in, set_in_scopes}
 use Rattle.esm_body.specs.State.{Importing}
-use Rattle.esm_body.specs.Acts.{Inner, set_name, write_name, not_initialized, not_defined, is_constant}
+use Rattle.esm_body.specs.Acts.{set_name, write_name, not_initialized, not_defined, is_constant}
 use Rattle.esm_body.specs.Inner.Stack.{scopes_round}
 use Rattle.esm_body.specs.Inner.Names.{place_at}
 use Rattle.esm_body.specs.Inner.World.{inner_of, HasScopes}
@@ -126,36 +127,38 @@ Throws x result old (Err end) new = Unit {0}
 
 -- it is the same code, in the same loans; levels changed in their slots alone
 pub record IsLike {I : Type 0} (w after : Inside I) : Type 0 where
-  pub at : after.now.at ≡ w.now.at
-  pub tree : after.now.tree ≡ w.now.tree
-  pub levels : OnlySlots w.now.levels.items after.now.levels.items
+  pub at : after.code.now.at ≡ w.code.now.at
+  pub tree : after.code.now.tree ≡ w.code.now.tree
+  pub levels : OnlySlots w.code.now.levels.items after.code.now.levels.items
   pub alloc : after.alloc ≡ w.alloc
+  pub code : after.code.ghost_name ≡ w.code.ghost_name
   pub engine : after.engine ≡ w.engine
   pub errors : after.errors.ghost_name ≡ w.errors.ghost_name
   pub envs : after.envs.ghost_name ≡ w.envs.ghost_name
   pub promises : after.promises ≡ w.promises
   pub imports : after.imports ≡ w.imports
+  pub scopes : HaveSameScopes (scopes_of w.envs.now) (scopes_of after.envs.now)
 
 module _ {I S : Type 0} (seen : I → S) (modules : S → Modules ℕ) (linked : S → ℕ → Bool) (fits : Outer ℕ S → Type 0)
     (begins : Importing ℕ S) where
   -- the module in which the code stands written is linked
   abbrev pub HasHome : Inside I → Type 0
-  HasHome w = linked (seen w.imports.now) w.now.at.0 ≡ true
+  HasHome w = linked (seen w.imports.now) w.code.now.at.0 ≡ true
 
   -- a write of a name is the definitions', where memory didn't run out
   abbrev pub WritesName : Inside I → List ℕ → Value → Result (Option Value) Memory → Inside I → Type 0
   WritesName w x v (Ok told) after = IsLike w after × (HasScopes seen modules linked fits begins w → HasHome w
-      → ((thrown told, inner_of seen after) ≡ write_name nat_eq modules begins w.now.at.0 (inner_of seen w) x (value_of v))
+      → ((thrown told, inner_of seen after) ≡ write_name nat_eq modules begins w.code.now.at.0 (inner_of seen w) x (value_of v))
       × HasScopes seen modules linked fits begins after)
   WritesName w x v (Err end) after = Unit {0}
 
   -- outside of all blocks the module declares the name
   abbrev pub IsDeclared : Inside I → List ℕ → Type 0
-  IsDeclared w x = scopes_round w.now.levels.items ≡ []
-      → (c : Cell CodeValue) × (own_cell (scopes_of w.envs.now) w.now.at.0 x ≡ Some c)
+  IsDeclared w x = scopes_round w.code.now.levels.items ≡ []
+      → (c : Cell CodeValue) × (own_cell (scopes_of w.envs.now) w.code.now.at.0 x ≡ Some c)
 
   -- a declaration sets its name in the innermost block, or in the module
   abbrev pub SetsName : Inside I → List ℕ → Value → Inside I → Type 0
   SetsName w x v after = IsLike w after × (HasScopes seen modules linked fits begins w → HasHome w → IsDeclared w x
-      → (inner_of seen after ≡ set_name nat_eq modules begins w.now.at.0 (inner_of seen w) x (value_of v))
+      → (inner_of seen after ≡ set_name nat_eq modules begins w.code.now.at.0 (inner_of seen w) x (value_of v))
       × HasScopes seen modules linked fits begins after)

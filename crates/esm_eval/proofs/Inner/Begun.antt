@@ -7,7 +7,8 @@ use Rattle.esm_eval.specs.Evaluation.{IsLawful, IsSteady, add_wait, wait_on}
 use Rattle.esm_eval.specs.Evaluate.{WalkEnd, Ends, Leaves, enter, close, keep}
 use Rattle.esm_eval.specs.Begins.{BeginsOne, HaveBegunOnce}
 use Rattle.esm_eval.specs.Calls.{CodeEvaluation, CodeCalls, numbered}
-use Rattle.esm_eval.specs.Inner.Visit.{is_entered, Unbegun, BeginsNew, Keeps, Opens}
+use Rattle.esm_eval.specs.Inner.Visit.{Unbegun, BeginsNew}
+use Rattle.esm_eval.specs.WalkSteps.{is_entered, Keeps, Opens}
 use Rattle.esm_eval.proofs.Amid.{not_entered}
 use Rattle.esm_eval.proofs.Once.{run_of, start_of, quiet_wait, quiet_close}
 

@@ -13,8 +13,9 @@ use Rattle.esm_eval.specs.Evaluate.{Executes, ExecutesAsync, Leaves}
 use Rattle.esm_eval.specs.BodyEnd.{finish, refuse}
 use Rattle.esm_eval.specs.Calls.{CodeEvaluation, CodeCalls, numbered}
 use Rattle.esm_eval.specs.Host.{Outside, HostFits, LeavesBodies, LeavesModules, StaysFit, StartsAs, RunsAs, calls, evaluation, knows_in, outside, outside_with}
-use Rattle.esm_eval.specs.Inner.Ends.{Begins, RanKnown, RunFits, Runs, Stays}
-use Rattle.esm_eval.specs.Inner.Visit.{Keeps, LeavesAsync}
+use Rattle.esm_eval.specs.EndSteps.{Begins, RanKnown, RunFits, Runs, Stays}
+use Rattle.esm_eval.specs.Inner.Visit.{LeavesAsync}
+use Rattle.esm_eval.specs.WalkSteps.{Keeps}
 use Rattle.esm_eval.specs.declared.host.EvalHost.{EvalHost}
 use Rattle.esm_eval.specs.declared.walk.EvalEnd.{EvalEnd}
 use Rattle.esm_eval.specs.declared.walk.EvalEnd.TheVariants as ends

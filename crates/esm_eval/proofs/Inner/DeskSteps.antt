@@ -18,8 +18,9 @@ use Rattle.esm_eval.specs.Evaluate.{Ends, Throws, Executes, Leaves, closed_phase
 use Rattle.esm_eval.specs.Calls.{CodeEvaluation, CodeCalls, numbered}
 use Rattle.esm_eval.specs.Host.{Outside, HostFits, LeavesBodies, evaluation, knows_in}
 use Rattle.esm_eval.specs.Table.{Table, node_at, with_node, with_stamp}
-use Rattle.esm_eval.specs.Inner.Ends.{Runs, Says}
-use Rattle.esm_eval.specs.Inner.Visit.{Keeps, KnowsError, LeavesAsync, LeavesBy, LeavesFit, PassesBy, ThrowsBy, cut_of}
+use Rattle.esm_eval.specs.EndSteps.{Runs, Says}
+use Rattle.esm_eval.specs.Inner.Visit.{LeavesAsync, ThrowsBy, cut_of}
+use Rattle.esm_eval.specs.WalkSteps.{Keeps, KnowsError, LeavesBy, LeavesFit, PassesBy}
 use Rattle.esm_eval.specs.declared.host.EvalHost.{EvalHost}
 use Rattle.esm_eval.specs.declared.walk.EvalEnd.{EvalEnd}
 use Rattle.esm_eval.specs.declared.walk.EvalEnd.TheVariants as ends
@@ -138,7 +139,7 @@ module _ {B : Type 0} (targets : B → ℕ → List ℕ) (awaits begun : B → �
   keep_world w m t ps p a b c =
       ap (λ s. record w { nodes = s; promises = ps }) (c ∙ ap (λ q. with_node w.nodes m (record (node_at w.nodes m) { promise = Some q })) b) ∙ ap (λ q. record w { nodes = with_node w.nodes m (record (node_at w.nodes m) { promise = Some (promise.next_promise w.promises) }); promises = q }) a
 
-  pub keeps_keep : (fits : Outside B → Type 0) (w : EvalHost B) (m : ℕ) → HostFits fits linked knows w → linked w.bodies m ≡ true → Keeps E (λ u. linked u.bodies) (λ u. Rattle.esm_eval.specs.Inner.Counts.unentered u.nodes) w (keep E w m)
+  pub keeps_keep : (fits : Outside B → Type 0) (w : EvalHost B) (m : ℕ) → HostFits fits linked knows w → linked w.bodies m ≡ true → Keeps E (λ u. linked u.bodies) (λ u. Rattle.esm_eval.specs.Counts.unentered u.nodes) w (keep E w m)
   keeps_keep fits w m f l = steps.keeps_on targets awaits begun linked knows w (E.make_promise w) (keep E w m) (steps.keeps_like targets awaits begun linked knows w (E.make_promise w) refl (steps.same_bodies targets awaits begun linked knows w.bodies))
       (steps.keeps_put targets awaits begun linked knows (E.make_promise w) m _ (f.have m l) refl)
 
@@ -159,7 +160,7 @@ module _ {B : Type 0} (targets : B → ℕ → List ℕ) (awaits begun : B → �
       by false = refl
 
   pub async_keeps : {X Y : Type 0} (w v : EvalHost B) (x : ℕ) (t : Table) (res : Result X Y) → t ≡ with_stamp w.nodes x → OnOk res (v.nodes ≡ t) → OnOk res (LeavesBodies linked targets knows w.bodies v.bodies)
-      → OnOk res (Keeps E (λ u. linked u.bodies) (λ u. Rattle.esm_eval.specs.Inner.Counts.unentered u.nodes) w v)
+      → OnOk res (Keeps E (λ u. linked u.bodies) (λ u. Rattle.esm_eval.specs.Counts.unentered u.nodes) w v)
   async_keeps w v x t (Ok a) e n l = steps.keeps_like targets awaits begun linked knows w v (ap (λ s. s.nodes) (n ∙ e)) l
   async_keeps w v x t (Err a) e n l = tt
 
@@ -168,7 +169,7 @@ module _ {B : Type 0} (targets : B → ℕ → List ℕ) (awaits begun : B → �
     links w = linked w.bodies
 
     abbrev left : EvalHost B → ℕ
-    left w = Rattle.esm_eval.specs.Inner.Counts.unentered w.nodes
+    left w = Rattle.esm_eval.specs.Counts.unentered w.nodes
 
     pub passes_throw : (w v : EvalHost B) (opened : List ℕ) (x t : ℕ) (u : CodeValue) (res : Result (Unit {0}) (Cut S)) → error_of (numbered E) w t ≡ Some u → ThrowsBy E w opened u res v → PassesBy E links left acts w opened x t res v
     passes_throw w v opened x t u (Ok a) e h = absurd h

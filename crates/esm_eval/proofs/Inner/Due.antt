@@ -13,7 +13,8 @@ use Rattle.esm_eval.specs.BodyEnd.{ReadyAmong, finish}
 use Rattle.esm_eval.specs.Begins.{BeginsOne, HaveBegunOnce}
 use Rattle.esm_eval.specs.Calls.{CodeEvaluation, CodeCalls, numbered}
 use Rattle.esm_eval.specs.declared.walk.EvalEnd.{EvalEnd}
-use Rattle.esm_eval.specs.Inner.Ends.{AreLinked, Begins, BeginsOnly, IsEndOf, Runs, Stays}
+use Rattle.esm_eval.specs.Inner.Ends.{BeginsOnly, IsEndOf}
+use Rattle.esm_eval.specs.EndSteps.{AreLinked, Begins, Runs, Stays}
 use Rattle.esm_eval.proofs.Once.{run_of, start_of}
 use Rattle.esm_eval.proofs.OnceEnds.{quiet_finish, quiet_rejects, ready_each}
 use Rattle.esm_eval.proofs.Inner.Steps.{drop_at}

@@ -9,8 +9,8 @@ use Rattle.esm_eval.specs.Nodes.{EvaluatingAsync, Evaluated}
 use Rattle.esm_eval.specs.Evaluation.{Evaluation, IsLawful, phase, waits, waiters, is_done, is_stamped, root_of}
 use Rattle.esm_eval.specs.BodyEnd.{IsReady, finish}
 use Rattle.esm_eval.specs.Begins.{HaveBegunOnce}
-use Rattle.esm_eval.specs.Inner.Counts.{unless}
-use Rattle.esm_eval.specs.Inner.Ready.{is_async, no_error, one_over, over, ready_by, AreReady, IsJoined, Shut, Closed, Gathered, AreAllReady}
+use Rattle.esm_eval.specs.Counts.{unless}
+use Rattle.esm_eval.specs.Inner.Ready.{RepeatsAt, is_async, no_error, one_over, over, ready_by, AreReady, IsJoined, Shut, Closed, Gathered, AreAllReady}
 use Rattle.esm_eval.proofs.EndsKeep.{finished}
 use Rattle.esm_eval.proofs.HasReady.{async_is, error_is, both, and_true, or_either, not_is, is_ready, ready_in}
 
@@ -160,6 +160,19 @@ module _ {N V W : Type 0} (E : Evaluation N V W) (L : IsLawful E) (w : W) where
       → (ready_by E w now x ≡ true → now x ≡ true) → Gathering y known (i + 1) now
   gathering_same joins y known now i x g at k =
       gathering_on joins y known now now i x g at (λ z h. h) g.sound (λ z j o a. absurd (not_both (now z) j o)) k
+
+  -- a waiter that stands before it too, and was tried there
+  pub gathering_again : (y : N) (known now : N → Bool) (i : ℕ) → Gathering y known i now → RepeatsAt (waiters E w y) i → Gathering y known (i + 1) now
+  gathering_again y known now i g r = record {
+    grows = g.grows;
+    sound = g.sound;
+    closed = g.closed;
+    seen = λ j z lt e h. by j z lt e h (less_or_is j i lt);
+  }
+    where
+      by : (j : ℕ) (z : N) → j < i + 1 → slice_get (waiters E w y) j ≡ Some z → ready_by E w now z ≡ true → (j < i) ⊎ (j ≡ i) → now z ≡ true
+      by j z lt e h (inl less) = g.seen j z less e h
+      by j z lt e h (inr same) = g.seen r.0 z r.1 (r.2 ∙ ap (slice_get (waiters E w y)) (sym same) ∙ e) h
 
   -- x was added
   abbrev pub IsWith : (N → Bool) → N → (N → Bool) → Type 0

@@ -4,14 +4,14 @@ use Rattle.std.specs.Prelude.{◌⊎◌, ◌||◌, Bool}
 use Rattle.std.proofs.lemmas.List.{map-append}
 use Rattle.std.proofs.lemmas.Option.{slice_get_within}
 use Rattle.esm_base.specs.Lists.{is_in}
-use Rattle.esm_realm.proofs.Numbers.{in_append, get_left, get_snoc}
+use Rattle.esm_realm.proofs.Numbers.{in_append, get_back, get_left, get_snoc}
 use Rattle.esm_realm.proofs.Urls.{not_true}
 use Rattle.esm_realm.proofs.Lists.{either}
 use Rattle.esm_values.specs.Code.{CodeValue}
 use Rattle.esm_eval.specs.Nodes as nodes
 use Rattle.esm_eval.specs.declared.nodes.Node.{Node}
-use Rattle.esm_eval.specs.Table.{AreKept, IsBounded, IsOrderOf, node_of, put_at, table_of, with_one, with_stamp}
-use Rattle.esm_eval.proofs.Inner.Tables.{put_there, unstamped_past}
+use Rattle.esm_eval.specs.Table.{AreKept, HasPassed, IsBounded, is_done_in, IsOrderOf, node_of, put_at, table_of, with_one, with_stamp}
+use Rattle.esm_eval.proofs.Inner.Tables.{IsLater, later_passed, passed_on, put_there, unstamped_past}
 
 last_or : (ns : List Node) (n : Node) (x : ℕ) (m : Node) → slice_get (ns ++ n ∷ []) x ≡ Some m → (slice_get ns x ≡ Some m) ⊎ ((x ≡ length ns) × (m ≡ n))
 last_or [] n zero m e = inr (refl, cc)
@@ -29,17 +29,33 @@ wider a b n le h = record {
 pub adds : (ns : List Node) (stamps : List ℕ) (n : Node) → node_of n ≡ nodes.untouched → table_of (ns ++ n ∷ []) stamps ≡ with_one (table_of ns stamps)
 adds ns stamps n e = ap (λ l. record { nodes = l; stamps = stamps }) (map-append node_of ns (n ∷ []) ∙ ap (λ k. map node_of ns ++ k ∷ []) e)
 
+done_more : (ns : List Node) (n : Node) (y : ℕ) → is_done_in ns y ≡ true → is_done_in (ns ++ n ∷ []) y ≡ true
+done_more [] n y h = let e : false ≡ true = none y ∙ h in absurd cc
+  where
+    none : (y : ℕ) → false ≡ is_done_in [] y
+    none zero = refl
+    none (suc y) = refl
+done_more (m ∷ ns) n zero h = h
+done_more (m ∷ ns) n (suc y) h = done_more ns n y h
+
+nothing_passed : (ns : List Node) (n : Node) → n.passed ≡ 0 → HasPassed ns n
+nothing_passed ns n z = record { within = omega (arith, z); passed = λ k y lt at. absurd (omega (arith, lt, z)) }
+
 pub keeps_add : (ns : List Node) (stamps : List ℕ) (n : Node) → AreKept ns stamps → IsBounded (length ns) n → n.order ≡ None
-    → AreKept (ns ++ n ∷ []) stamps
-keeps_add ns stamps n k b s = record {
+    → n.passed ≡ 0 → AreKept (ns ++ n ∷ []) stamps
+keeps_add ns stamps n k b s z = record {
   bounded = λ x o e. wider (length ns) (length (ns ++ n ∷ [])) o longer (either (last_or ns n x o e) (λ h. k.bounded x o h) (λ h. subst (IsBounded (length ns)) (sym h.1) b));
   ordered = λ x o e. either (last_or ns n x o e) (λ h. k.ordered x o h)
       (λ h. subst (λ q. IsOrderOf stamps x q) (sym (ap (λ z. z.order) h.1 ∙ s)) (unstamped_past ns stamps x k (let p = h.0 in omega (arith, p))));
   below = λ i x e. let lt = k.below i x e in let le = longer in omega (arith, lt, le);
+  gone = λ x o e. more o (either (last_or ns n x o e) (λ h. k.gone x o h) (λ h. subst (HasPassed ns) (sym h.1) (nothing_passed ns n z)));
 }
   where
     longer : length ns ≤ length (ns ++ n ∷ [])
     longer = let c : length (ns ++ n ∷ []) ≡ length ns + 1 = length-append ns (n ∷ []) in omega (arith, c)
+
+    more : (o : Node) → HasPassed ns o → HasPassed (ns ++ n ∷ []) o
+    more o p = record { within = p.within; passed = λ i y lt at. done_more ns n y (p.passed i y lt at) }
 
 put_same : (ns : List Node) (x : ℕ) (old : Node) → slice_get ns x ≡ Some old → put_at (map node_of ns) x (node_of old) ≡ map node_of ns
 put_same [] x old e = cc
@@ -78,14 +94,26 @@ order_more stamps x z ne None h = in_others stamps x z ne ∙ h
 order_more stamps x z ne (Some k) h = get_left stamps (x ∷ []) k z h
 
 pub keeps_stamp : (ns : List Node) (stamps : List ℕ) (x : ℕ) (old new : Node) → AreKept ns stamps → slice_get ns x ≡ Some old
-    → IsBounded (length ns) new → new.order ≡ Some (length stamps) → AreKept (slice_set ns x new) (stamps ++ x ∷ [])
-keeps_stamp ns stamps x old new k e b s = record {
+    → IsBounded (length ns) new → new.order ≡ Some (length stamps) → IsLater old new → AreKept (slice_set ns x new) (stamps ++ x ∷ [])
+keeps_stamp ns stamps x old new k e b s l = record {
   bounded = λ y n h. subst (λ len. IsBounded len n) (sym (length-set ns x new)) (apart (λ z m. IsBounded (length ns) m) ns x new y n h b (λ z m ne. k.bounded z m));
   ordered = λ y n h. apart (λ z m. IsOrderOf (stamps ++ x ∷ []) z m.order) ns x new y n h
       (subst (λ o. IsOrderOf (stamps ++ x ∷ []) x o) (sym s) (last_at stamps x))
       (λ z m ne at. order_more stamps x z ne m.order (k.ordered z m at));
   below = λ i y h. subst (λ len. y < len) (sym (length-set ns x new)) (either (get_snoc stamps x i y h) (λ at. k.below i y at) (λ at. subst (λ z. z < length ns) (sym at.1) (slice_get_within ns x old e)));
+  gone = λ y n h. passed_on ns x old new e l.stays n (apart (λ z m. HasPassed ns m) ns x new y n h (later_passed ns old new l (k.gone x old e)) (λ z m ne. k.gone z m));
 }
+
+-- a wait more leaves what was passed
+pub more_passed : (ns : List Node) (old new : Node) (y : ℕ) → new.passed ≡ old.passed → new.waits.items ≡ old.waits.items ++ y ∷ [] → HasPassed ns old → HasPassed ns new
+more_passed ns old new y g w p =
+    let c : length (old.waits.items ++ y ∷ []) ≡ length old.waits.items + 1 = length-append old.waits.items (y ∷ []) in
+    record {
+      within = let h = p.within in let l = ap length w in omega (arith, g, h, l, c);
+      passed = λ k z lt at.
+          let short : k < old.passed = omega (arith, lt, g) in
+          p.passed k z short (get_back old.waits.items (y ∷ []) k z (let h = p.within in omega (arith, short, h)) (subst (λ ws. slice_get ws k ≡ Some z) w at));
+    }
 
 pub one_more : (len : ℕ) (xs : List ℕ) (y : ℕ) → ((k z : ℕ) → slice_get xs k ≡ Some z → z < len) → y < len → (ys : List ℕ) → ys ≡ xs ++ y ∷ []
     → (k z : ℕ) → slice_get ys k ≡ Some z → z < len

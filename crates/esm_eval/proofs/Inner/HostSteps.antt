@@ -13,9 +13,9 @@ use Rattle.esm_eval.specs.Calls.{CodeEvaluation}
 use Rattle.esm_eval.specs.Keeping.{IsNodeOf}
 use Rattle.esm_eval.specs.Host.{Outside, HostFits, LeavesBodies, evaluation, outside}
 use Rattle.esm_eval.specs.Table.{Table, node_at, node_by, put_at, size, with_node}
-use Rattle.esm_eval.specs.Inner.Counts.{unless, failing, unentered}
+use Rattle.esm_eval.specs.Counts.{unless, failing, unentered}
 use Rattle.esm_eval.specs.Inner.Hosts.{own, reads}
-use Rattle.esm_eval.specs.Inner.Visit.{is_entered, AllEntered, Keeps, Opens}
+use Rattle.esm_eval.specs.WalkSteps.{is_entered, AllEntered, Keeps, Opens}
 use Rattle.esm_eval.specs.declared.host.EvalHost.{EvalHost}
 use Rattle.esm_eval.proofs.Inner.Steps.{drop_at}
 
@@ -28,6 +28,9 @@ pub length_put : (ns : Nodes) (x : ℕ) (n : Node ℕ CodeValue) → x < length 
 length_put [] x n h = absurd (omega (arith, h))
 length_put (m ∷ ms) zero n h = refl
 length_put (m ∷ ms) (suc x) n h = ap suc (length_put ms x n (omega (arith, h)))
+
+pub size_put : (t : Table) (x : ℕ) (n : Node ℕ CodeValue) → x < size t → size (with_node t x n) ≡ size t
+size_put t x n h = length_put t.nodes x n h
 
 pub same_left : (test : Phase → Bool) (ns : Nodes) (x : ℕ) (n : Node ℕ CodeValue) → x < length ns → test n.phase ≡ test (node_by (slice_get ns x)).phase
     → failing test (put_at ns x n) ≡ failing test ns
@@ -207,12 +210,13 @@ module _ {B : Type 0} (targets : B → ℕ → List ℕ) (awaits begun : B → �
 
     pub record Failing (w0 : EvalHost B) (opened : List ℕ) (v : CodeValue) (i : ℕ) (w : EvalHost B) : Type 0 where
       pub leads : fail E w0 v opened ≡ fail E w v (drop i opened)
+      pub long : size w.nodes ≡ size w0.nodes
       pub stack : AllEntered E w opened
       pub fit : Fits w
       pub known : knows w.bodies v
 
     pub failing_first : (w : EvalHost B) (opened : List ℕ) (v : CodeValue) → AllEntered E w opened → Fits w → knows w.bodies v → Failing w opened v 0 w
-    failing_first w opened v a f k = record { leads = ap (fail E w v) (sym (drop_none opened)); stack = a; fit = f; known = k }
+    failing_first w opened v a f k = record { leads = ap (fail E w v) (sym (drop_none opened)); long = refl; stack = a; fit = f; known = k }
 
     pub failing_on : (w0 w : EvalHost B) (opened : List ℕ) (v : CodeValue) (i x : ℕ) → Failing w0 opened v i w → slice_get opened i ≡ Some x → Failing w0 opened v (i + 1) (E.put w x (failed_node w x v))
     failing_on w0 w opened v i x f at =
@@ -221,6 +225,7 @@ module _ {B : Type 0} (targets : B → ℕ → List ℕ) (awaits begun : B → �
         let g = f.fit.nodes_fit x in
         record {
           leads = f.leads ∙ ap (fail E w v) (drop_at opened i x at);
+          long = size_put w.nodes x (failed_node w x v) (has_entered w x f.fit in_x) ∙ f.long;
           stack = λ y h. k.phases y ∙ f.stack y h;
           fit = fits_put w x (failed_node w x v) f.fit (f.fit.entered x in_x) (record { error = f.known; root = g.root; waits = g.waits; waiters = g.waiters });
           known = f.known;
@@ -242,13 +247,14 @@ module _ {B : Type 0} (targets : B → ℕ → List ℕ) (awaits begun : B → �
 
     pub record Closing (w0 : EvalHost B) (root : ℕ) (opened : List ℕ) (place i : ℕ) (w : EvalHost B) : Type 0 where
       pub leads : close E w0 root (drop place opened) ≡ close E w root (drop i opened)
+      pub long : size w.nodes ≡ size w0.nodes
       pub keeps : KeepsHost w0 w
       pub stack : AllEntered E w opened
       pub fit : Fits w
       pub root_in : is_entered E w root ≡ true
 
     pub closing_first : (w : EvalHost B) (root : ℕ) (opened : List ℕ) (place : ℕ) → AllEntered E w opened → Fits w → is_entered E w root ≡ true → Closing w root opened place place w
-    closing_first w root opened place a f r = record { leads = refl; keeps = keeps_like w w refl (same_bodies w.bodies); stack = a; fit = f; root_in = r }
+    closing_first w root opened place a f r = record { leads = refl; long = refl; keeps = keeps_like w w refl (same_bodies w.bodies); stack = a; fit = f; root_in = r }
 
     closed_entered : (b : Bool) → was_entered (closed_phase E b) ≡ true
     closed_entered true = refl
@@ -261,6 +267,7 @@ module _ {B : Type 0} (targets : B → ℕ → List ℕ) (awaits begun : B → �
         let g = c.fit.nodes_fit x in
         record {
           leads = c.leads ∙ ap (close E w root) (drop_at opened i x at);
+          long = size_put w.nodes x (closed_node w root x) (has_entered w x c.fit in_x) ∙ c.long;
           keeps = keeps_on w0 w _ c.keeps k;
           stack = λ y h. k.phases y ∙ c.stack y h;
           fit = fits_put w x (closed_node w root x) c.fit (c.fit.entered x in_x) (record { error = g.error; root = c.fit.entered root c.root_in; waits = g.waits; waiters = g.waiters });

@@ -1,5 +1,5 @@
 -- The end of a body over nodes, promises and bodies.
-use Rattle.std.proofs.Common.{◌≡◌, ℕ, ◌+◌, ◌<◌, ◌≤◌, Bool, true, false, List, [], ◌∷◌, drop, length, Option, Some, None, Result, refl, ap, subst, sym, ◌∙◌, slice_get, inl, inr, nat_eq}
+use Rattle.std.proofs.Common.{◌≡◌, ℕ, zero, suc, arith, ◌+◌, ◌<◌, ◌≤◌, Bool, true, false, List, [], ◌∷◌, drop, length, Option, Some, None, Result, refl, ap, subst, sym, ◌∙◌, slice_get, inl, inr, nat_eq}
 use Rattle.std.specs.Prelude.{◌⊎◌, ◌||◌, ◌&&◌, not, All, IfOk, OnOk, Ok, Err}
 use Rattle.std.proofs.Math.ListN.{drop_of_length-le}
 use Rattle.esm_base.specs.Lists.{is_in}
@@ -16,8 +16,8 @@ use Rattle.esm_eval.specs.BodyEnd.{ReadyAmong, finish, refuse}
 use Rattle.esm_eval.specs.Calls.{CodeEvaluation, numbered}
 use Rattle.esm_eval.specs.Host.{Outside, HostFits, evaluation, knows_in}
 use Rattle.esm_eval.specs.Table.{Table, node_at, with_node, size}
-use Rattle.esm_eval.specs.Inner.Counts.{is_over, unfinished}
-use Rattle.esm_eval.specs.Inner.Ends.{AreLinked, IsEvaluated, IsFinished, SameWaiters, Stays}
+use Rattle.esm_eval.specs.Counts.{is_over, unfinished}
+use Rattle.esm_eval.specs.EndSteps.{AreLinked, IsEvaluated, IsFinished, SameWaiters, Stays}
 use Rattle.esm_eval.specs.Inner.Hosts.{lawful}
 use Rattle.esm_eval.specs.Inner.Orders.{has_one_of, Joins}
 use Rattle.esm_eval.specs.Inner.Ready as ready
@@ -124,6 +124,11 @@ module _ {B : Type 0} (targets : B → ℕ → List ℕ) (awaits begun : B → �
       → t ≡ with_node w.nodes x (record (node_at w.nodes x) { phase = Evaluated; done = true }) → after ≡ fulfill_kept E (record w { nodes = t }) o → after ≡ finish (numbered E) w x
   finish_world w x t o after k e h =
       h ∙ ap (λ s. fulfill_kept E (record w { nodes = s }) o) e ∙ ap (λ q. fulfill_kept E (E.put w x (done_node w x)) q) k
+
+  pub finish_size : (w : EvalHost B) (x : ℕ) (t : Table) (o : Option ℕ) (after : EvalHost B) → x < size w.nodes
+      → t ≡ with_node w.nodes x (record (node_at w.nodes x) { phase = Evaluated; done = true }) → after ≡ fulfill_kept E (record w { nodes = t }) o → size after.nodes ≡ size w.nodes
+  finish_size w x t o after lt e h =
+      ap (λ u. size u) (ap (λ u. u.nodes) h ∙ fulfill_nodes (record w { nodes = t }) o ∙ e) ∙ steps.size_put w.nodes x (done_node w x) lt
 
   pub finish_stays : (w : EvalHost B) (x : ℕ) (after : EvalHost B) → after ≡ finish (numbered E) w x → Stays links (knows_in knows) w after
   finish_stays w x after e = stays_by w after (ap (λ u. u.bodies) e ∙ fulfill_bodies (E.put w x (done_node w x)) (E.node w x).promise)
@@ -237,6 +242,15 @@ module _ {B : Type 0} (targets : B → ℕ → List ℕ) (awaits begun : B → �
 
     pub over_fails : (ws : List ℕ) (k y : ℕ) (r all : Bool) → slice_get ws k ≡ Some y → r ≡ ready.one_over E w known y → r ≡ false → ready.over E w known (drop k ws) ≡ all → false ≡ all
     over_fails ws k y r all at h t i = sym (over_at ws k y at ∙ ap (λ b. b && ready.over E w known (drop (k + 1) ws)) (sym h ∙ t)) ∙ i
+
+    -- where those before a place are done, those from there on tell of all
+    pub over_passed : (ws : List ℕ) (p : ℕ) → ((k y : ℕ) → k < p → slice_get ws k ≡ Some y → is_done E w y ≡ true) → ready.over E w known (drop p ws) ≡ ready.over E w known ws
+    over_passed [] zero d = refl
+    over_passed [] (suc p) d = refl
+    over_passed (y ∷ ws) zero d = refl
+    over_passed (y ∷ ws) (suc p) d =
+        let first : true ≡ ready.one_over E w known y = over_done w known y (d zero y (omega arith) refl) in
+        over_passed ws p (λ k z lt at. d (suc k) z (omega (arith, lt)) at) ∙ ap (λ b. b && ready.over E w known ws) first
 
     pub over_ends : (ws : List ℕ) (k : ℕ) (all : Bool) → length ws ≤ k → ready.over E w known (drop k ws) ≡ all → true ≡ all
     over_ends ws k all le i = sym (ap (λ l. ready.over E w known l) (drop_of_length-le ws le)) ∙ i

@@ -7,7 +7,8 @@ use Rattle.esm_values.specs.Code.{CodeValue}
 use Rattle.esm_eval.specs.Evaluation.{waiters}
 use Rattle.esm_eval.specs.BodyEnd.{Rejects, RejectsAll, ReadyAmong, Fulfills, GoOn, finish, refuse}
 use Rattle.esm_eval.specs.Calls.{CodeEvaluation, CodeCalls, FulfillsAs, numbered}
-use Rattle.esm_eval.specs.Inner.Ends.{Says, IsEvaluated, GoesOn, Begins, Runs, IsEndOf}
+use Rattle.esm_eval.specs.Inner.Ends.{GoesOn, IsEndOf}
+use Rattle.esm_eval.specs.EndSteps.{Says, IsEvaluated, Begins, Runs}
 use Rattle.esm_values.specs.Code.{value_of}
 use Rattle.esm_values.specs.declared.value.Ran.{Ran}
 use Rattle.esm_values.specs.declared.value.Ran.TheVariants as r

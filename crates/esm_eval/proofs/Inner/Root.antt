@@ -13,7 +13,8 @@ use Rattle.esm_eval.specs.Evaluate.WalkEnd.{Ends, Throws, Stops}
 use Rattle.esm_eval.specs.declared.walk.Cut.{Cut}
 use Rattle.esm_eval.specs.declared.walk.Cut.TheVariants as cuts
 use Rattle.esm_eval.specs.Calls.{CodeEvaluation, CodeCalls, numbered}
-use Rattle.esm_eval.specs.Inner.Visit.{is_entered, Keeps, Within, Walking, Amid, VisitingBy, Visiting}
+use Rattle.esm_eval.specs.Inner.Visit.{Walking, Amid, VisitingBy, Visiting}
+use Rattle.esm_eval.specs.WalkSteps.{is_entered, Keeps, Within}
 
 module _ {W S : Type 0} (E : CodeEvaluation W) (linked : W → ℕ → Bool) (left : W → ℕ) (acts : CodeCalls W S) (w : W) (r : ℕ) where
   module _ (p : ℕ) (number : p ≡ E.next_promise w) (none : (E.node w r).promise ≡ None) (v : W) (ve : v ≡ keep (numbered E) w r) where

@@ -21,7 +21,8 @@ use Rattle.esm_eval.specs.Evaluate.WalkEnd.{Ends, Throws, Stops}
 use Rattle.esm_eval.specs.declared.walk.Cut.{Cut}
 use Rattle.esm_eval.specs.declared.walk.Cut.TheVariants as cuts
 use Rattle.esm_eval.specs.Calls.{CodeEvaluation, CodeCalls, numbered}
-use Rattle.esm_eval.specs.Inner.Visit.{is_entered, IsPlace, AllEntered, IsSteadyStep, Keeps, Opens, Within, PassesBy, LeavesBy, Walking, Amid, Visiting, Passed, Passing}
+use Rattle.esm_eval.specs.Inner.Visit.{IsPlace, Walking, Amid, Visiting, Passed, Passing}
+use Rattle.esm_eval.specs.WalkSteps.{is_entered, AllEntered, IsSteadyStep, Keeps, Opens, Within, PassesBy, LeavesBy}
 
 plain : (b : Bool) → (b || false) ≡ true → b ≡ true
 plain true h = refl

@@ -1,5 +1,5 @@
 -- Which modules are ready, as a test, and what gathering them comes to.
-use Rattle.std.specs.Prelude.{◌≡◌, ◌||◌, ◌&&◌, not, Bool, true, false, List, [], ◌∷◌, Option, Some, None}
+use Rattle.std.specs.Prelude.{◌≡◌, ◌<◌, ◌||◌, ◌&&◌, ℕ, not, Bool, true, false, List, [], ◌∷◌, slice_get, Option, Some, None}
 use Rattle.esm_base.specs.Lists.{EachOnce, is_in}
 use Rattle.esm_eval.specs.Nodes.{Phase, NotEntered, Evaluating, EvaluatingAsync, Evaluated}
 use Rattle.esm_eval.specs.Evaluation.{Evaluation, phase, waits, waiters, is_done, is_stamped, root_of}
@@ -14,6 +14,10 @@ is_async Evaluated = false
 abbrev pub no_error : {V : Type 0} → Option V → Bool
 no_error None = true
 no_error (Some v) = false
+
+-- what stands at this place of the list stands before it too
+abbrev pub RepeatsAt : {N : Type 0} → List N → ℕ → Type 0
+RepeatsAt xs i = (j : ℕ) × (j < i) × (slice_get xs j ≡ slice_get xs i)
 
 -- a set of modules is a test
 module _ {N V W : Type 0} (E : Evaluation N V W) (w : W) where

@@ -1,9 +1,9 @@
 -- How far a machine was driven over files.
-use Rattle.std.specs.Prelude.{◌≡◌, [], List, true, Option, Some, None}
+use Rattle.std.specs.Prelude.{◌≡◌, [], List, true, false, Option, Some, None}
 use Rattle.esm_base.specs.Urls.{Url, has}
 use Rattle.esm_import_map.specs.ImportMap.{Maps}
 use Rattle.esm_ast.specs.Deliveries.{Delivery}
-use Rattle.esm_turn.specs.Represents.{Represents, ShownBy, State, asks_of}
+use Rattle.esm_machine.specs.Represents.{Represents, ShownBy, State, asks_of}
 use Rattle.esm_examples.specs.Fetches.{Files, AreFetches}
 
 -- the URL is an open ask of the machine, and of whatever standard run it represents
@@ -19,5 +19,5 @@ IsNext machine (Some url) = IsOpen machine url
 -- the machine represents fetches of these URLs from the files
 pub record IsDriven (maps : Maps) (entry : Url) (files : Files) (machine : State) (urls : List Url) : Type 0 where
   pub deliveries : List Delivery
-  pub represents : Represents maps entry machine deliveries
+  pub represents : Represents maps entry false machine deliveries
   pub fetches : AreFetches files deliveries urls

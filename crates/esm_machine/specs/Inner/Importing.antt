@@ -13,7 +13,7 @@ use Rattle.esm_link.specs.Realm.{is_linked}
 use Rattle.esm_body.specs.Fits.{AreLinked}
 use Rattle.esm_body.specs.Importers.{HasLinked}
 use Rattle.esm_machine.specs.Seen.{names, modules, linked}
-use Rattle.esm_machine.specs.Imports.{Imported, linked_urls, linked_by, seen_of, size_by, loaded_or, or_itself, target_of, graph_of, urls_of, ImportsAreThere}
+use Rattle.esm_machine.specs.ModuleStore.{Imported, linked_urls, linked_by, seen_of, size_by, loaded_or, or_itself, target_of, graph_of, urls_of, ImportsAreThere}
 use Rattle.esm_machine.specs.declared.condition.Condition.{Condition}
 use Rattle.esm_machine.specs.declared.condition.Condition.TheVariants as conditions
 use Rattle.esm_machine.specs.Inner.Below.{below}
@@ -74,10 +74,10 @@ module _ (i : Imported) where
   abbrev Size : ℕ
   Size = size_by i.condition (length i.records)
 
-  there : (m : ℕ) → linked (seen_of i) m ≡ true → m < Size
+  pub there : (m : ℕ) → linked (seen_of i) m ≡ true → m < Size
   there m h = short_by i.condition i.records m h
 
-  there_too : (m : ℕ) → linked (seen_of i) m ≡ true → m < length i.records
+  pub there_too : (m : ℕ) → linked (seen_of i) m ≡ true → m < length i.records
   there_too m h = let l = there m h in let k = size_below i.condition (length i.records) in omega (arith, l, k)
 
   -- ---- laws of an importer

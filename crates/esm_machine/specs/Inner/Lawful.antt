@@ -88,7 +88,7 @@ module _ (s : Seen) where
 -- ---- scopes, where more URLs are asked for
 
 -- the modules of this table, where these URLs were asked
-abbrev by_url : Entries → List Url → Modules Url
+abbrev pub by_url : Entries → List Url → Modules Url
 by_url entries asked = record {
   url = λ u. u;
   tree = λ u. body_in (entries u);
@@ -98,13 +98,13 @@ by_url entries asked = record {
   named = url_at asked;
 }
 
-abbrev by_number : List Url → Entries → List Url → Modules ℕ
+abbrev pub by_number : List Url → Entries → List Url → Modules ℕ
 by_number urls entries asked = pulled (numbering urls) (is_total urls) (by_url entries asked)
 
 longer : (asked more : List Url) → length asked ≤ length (asked ++ more)
 longer asked more = omega (arith, length-append asked more)
 
-scopes_grow : (urls : List Url) (entries : Entries) (asked more : List Url) (linked : ℕ → Bool) (e : Scopes)
+pub scopes_grow : (urls : List Url) (entries : Entries) (asked more : List Url) (linked : ℕ → Bool) (e : Scopes)
     → AreScopesOf (by_number urls entries asked) linked e → AreScopesOf (by_number urls entries (asked ++ more)) linked e
 scopes_grow urls entries asked more linked e a =
     scopes_stay (by_number urls entries asked) (length (asked ++ more)) (λ m. place_of (asked ++ more) (url urls m))

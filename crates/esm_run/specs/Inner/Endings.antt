@@ -2,8 +2,9 @@
 use Rattle.std.specs.Prelude.{◌≡◌, true, Option, Some, None}
 use Rattle.esm_base.specs.declared.status.Status.{Status}
 use Rattle.esm_base.specs.declared.status.Status.TheVariants.{Memory}
-use Rattle.esm_turn.specs.Run.{Shown}
-use Rattle.esm_turn.specs.Represents.{State, ShownBy}
+use Rattle.esm_world.specs.Run.{Shown}
+use Rattle.esm_machine.specs.Machine.{MachineParts, state_of}
+use Rattle.esm_machine.specs.Represents.{ShownBy}
 use Rattle.esm_run.specs.declared.ending.Ending.{Ending}
 use Rattle.esm_run.specs.Written.{SinkChange, IsUnwritten, EndsAs, written_text}
 
@@ -14,6 +15,6 @@ pub record IsEndingOf (what : Shown) (ending : Ending) : Type 0 where
   pub text : ending.text.items ≡ written_text what
 
 -- the text of the machine's run was written; nothing, where there is no machine, since memory ran out
-abbrev pub EndsRun : Option State → Status → SinkChange → Type 0
+abbrev pub EndsRun : Option MachineParts → Status → SinkChange → Type 0
 EndsRun None status sink = (status ≡ Memory) × IsUnwritten sink
-EndsRun (Some machine) status sink = ShownBy machine (EndsAs status sink)
+EndsRun (Some machine) status sink = ShownBy (state_of machine) (EndsAs status sink)

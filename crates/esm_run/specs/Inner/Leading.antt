@@ -15,9 +15,12 @@ use Rattle.esm_module_map.specs.Views.{view_in, table_of}
 use Rattle.esm_fetch.specs.declared.posted.Posted.{Posted}
 use Rattle.esm_fetch.specs.Answered.{Contents}
 use Rattle.esm_fetch.specs.Serving.{weight, Served}
-use Rattle.esm_turn.specs.Run.{Shown, StandardRun}
+use Rattle.esm_loads.specs.LoadsView.{every_form}
+use Rattle.esm_world.specs.World.{World, opening}
+use Rattle.esm_world.specs.Run.{Runs, Shown, StandardRun}
 use Rattle.esm_ast.specs.Deliveries.{Delivery}
-use Rattle.esm_turn.specs.Represents.{Represents, ShownBy, State, asks_of}
+use Rattle.esm_machine.specs.Machine.{MachineParts, state_of}
+use Rattle.esm_machine.specs.Represents.{Represents, ShownBy, asks_of}
 use Rattle.esm_run.specs.declared.tickets.Ticket.{Ticket}
 
 -- ---- tickets
@@ -40,28 +43,30 @@ IsFirstPosted tickets posted (Some ticket) left =
 -- ---- what is taken
 
 -- own: the machine represents what was taken, and each delivery came about so
-pub record IsDriven (Delivered : Delivery → Type 0) (maps : Maps) (entry : Url) (machine : State) (taken : List Delivery) : Type 0 where
-  pub represents : Represents maps entry machine taken
+pub record IsDriven (Delivered : Delivery → Type 0) (maps : Maps) (entry : Url) (trace : Bool) (machine : MachineParts)
+    (taken : List Delivery) : Type 0 where
+  pub represents : Represents maps entry trace (state_of machine) taken
   pub delivered : All Delivered taken
 
--- own: what was taken has a standard run, and each delivery came about so
-pub record IsCutShort (Delivered : Delivery → Type 0) (maps : Maps) (entry : Url) (taken : List Delivery) : Type 0 where
-  pub what : Shown
-  pub run : StandardRun maps entry taken what
+-- own: what was taken is allowed and leads to a world, and each delivery came about so
+pub record IsCutShort (Delivered : Delivery → Type 0) (maps : Maps) (entry : Url) (trace : Bool) (taken : List Delivery) : Type 0 where
+  pub world : World
+  pub runs : Runs (opening maps every_form entry trace) taken world
   pub delivered : All Delivered taken
 
 -- own: a machine that has no open ask, or none, since memory ran out
-abbrev pub EndsDriven : (Delivery → Type 0) → Maps → Url → Option State → List Delivery → Type 0
-EndsDriven Delivered maps entry (Some machine) taken = IsDriven Delivered maps entry machine taken × (asks_of machine ≡ [])
-EndsDriven Delivered maps entry None taken = IsCutShort Delivered maps entry taken
+abbrev pub EndsDriven : (Delivery → Type 0) → Maps → Url → Bool → Option MachineParts → List Delivery → Type 0
+EndsDriven Delivered maps entry trace (Some machine) taken =
+    IsDriven Delivered maps entry trace machine taken × (asks_of (state_of machine) ≡ [])
+EndsDriven Delivered maps entry trace None taken = IsCutShort Delivered maps entry trace taken
 
 -- the URL is an open ask of whatever standard run the machine represents
-abbrev pub IsOpenAsk : State → Url → Type 0
-IsOpenAsk m url = ShownBy m (λ what. has what.asks url ≡ true)
+abbrev pub IsOpenAsk : MachineParts → Url → Type 0
+IsOpenAsk m url = ShownBy (state_of m) (λ what. has what.asks url ≡ true)
 
 -- the standard run of what was taken has asked for the URL
-abbrev pub IsStandardAsk : Maps → Url → List Delivery → Url → Type 0
-IsStandardAsk maps entry taken url = (what : Shown) → StandardRun maps entry taken what → has what.asked url ≡ true
+abbrev pub IsStandardAsk : Maps → Url → Bool → List Delivery → Url → Type 0
+IsStandardAsk maps entry trace taken url = (what : Shown) → StandardRun maps every_form entry trace taken what → has what.asked url ≡ true
 
 module _ {G : Type 0} where
   -- the ticket's number has its URL
@@ -77,36 +82,38 @@ module _ {G : Type 0} where
     pub outcome : outcome_view payload.outcome ≡ delivery.outcome
 
   -- each URL that the caller has asked for is one that the standard run asks for
-  abbrev pub AsksStandard : Maps → Url → List Delivery → ℕ → List (MapEvent Posted G) → Type 0
-  AsksStandard maps entry taken c h = All (IsStandardAsk maps entry taken) (asks_by weight c h)
+  abbrev pub AsksStandard : Maps → Url → Bool → List Delivery → ℕ → List (MapEvent Posted G) → Type 0
+  AsksStandard maps entry trace taken c h = All (IsStandardAsk maps entry trace taken) (asks_by weight c h)
 
   -- so it stays as the history grows
-  abbrev pub AsksOn : Maps → Url → List Delivery → ℕ → List (MapEvent Posted G) → List (MapEvent Posted G) → Type 0
-  AsksOn maps entry taken c old new = AsksStandard maps entry taken c old → AsksStandard maps entry taken c new
+  abbrev pub AsksOn : Maps → Url → Bool → List Delivery → ℕ → List (MapEvent Posted G) → List (MapEvent Posted G) → Type 0
+  AsksOn maps entry trace taken c old new = AsksStandard maps entry trace taken c old → AsksStandard maps entry trace taken c new
 
   -- the caller has taken and posted what it had
   abbrev pub KeepsServing : ℕ → List (MapEvent Posted G) → List (MapEvent Posted G) → Type 0
   KeepsServing c old new = (takes_by weight c new ≡ takes_by weight c old) × (answers_by weight c new ≡ answers_by weight c old)
 
   -- the machine represents what was taken, all of it was posted, and the caller asks as the standard run
-  pub record IsLed (maps : Maps) (entry : Url) (c : ℕ) (h : List (MapEvent Posted G)) (machine : State)
+  pub record IsLed (maps : Maps) (entry : Url) (trace : Bool) (c : ℕ) (h : List (MapEvent Posted G)) (machine : MachineParts)
       (taken : List Delivery) : Type 0 where
-    pub driven : IsDriven (WasPosted h) maps entry machine taken
-    pub asks : AsksStandard maps entry taken c h
+    pub driven : IsDriven (WasPosted h) maps entry trace machine taken
+    pub asks : AsksStandard maps entry trace taken c h
 
   -- the same where memory ran out: what was taken has a standard run
-  pub record IsLedShort (maps : Maps) (entry : Url) (c : ℕ) (h : List (MapEvent Posted G)) (taken : List Delivery) : Type 0 where
-    pub cut : IsCutShort (WasPosted h) maps entry taken
-    pub asks : AsksStandard maps entry taken c h
+  pub record IsLedShort (maps : Maps) (entry : Url) (trace : Bool) (c : ℕ) (h : List (MapEvent Posted G))
+      (taken : List Delivery) : Type 0 where
+    pub cut : IsCutShort (WasPosted h) maps entry trace taken
+    pub asks : AsksStandard maps entry trace taken c h
 
-  abbrev pub LeadsOn : {T : Type 0} → Maps → Url → Result T Memory → ℕ → List (MapEvent Posted G) → State → List Delivery → Type 0
-  LeadsOn maps entry (Ok done) c h machine taken = IsLed maps entry c h machine taken
-  LeadsOn maps entry (Err want) c h machine taken = IsLedShort maps entry c h taken
+  abbrev pub LeadsOn : {T : Type 0} → Maps → Url → Bool → Result T Memory → ℕ → List (MapEvent Posted G) → MachineParts
+      → List Delivery → Type 0
+  LeadsOn maps entry trace (Ok done) c h machine taken = IsLed maps entry trace c h machine taken
+  LeadsOn maps entry trace (Err want) c h machine taken = IsLedShort maps entry trace c h taken
 
   -- the run went to its end, or memory ran out
-  abbrev pub Leads : Maps → Url → Result State Memory → ℕ → List (MapEvent Posted G) → List Delivery → Type 0
-  Leads maps entry (Ok machine) c h taken = IsLed maps entry c h machine taken × (asks_of machine ≡ [])
-  Leads maps entry (Err want) c h taken = IsLedShort maps entry c h taken
+  abbrev pub Leads : Maps → Url → Bool → Result MachineParts Memory → ℕ → List (MapEvent Posted G) → List Delivery → Type 0
+  Leads maps entry trace (Ok machine) c h taken = IsLed maps entry trace c h machine taken × (asks_of (state_of machine) ≡ [])
+  Leads maps entry trace (Err want) c h taken = IsLedShort maps entry trace c h taken
 
   -- ---- the sources and their callers
 
@@ -127,7 +134,7 @@ module _ {G : Type 0} where
   AreServed holds_of asked_of Q h (c ∷ cs) [] = ⊥
 
   -- the callers of a view, and their sources, behind a run that has ended
-  pub record IsShared {S : Type 0} (holds_of : S → Option Contents) (asked_of : S → List Asked) (maps : Maps) (entry : Url)
-      (v : View (MapEvent Posted G)) (machine : Option State) (taken : List Delivery) (sources : List S) : Type 0 where
-    pub served : AreServed holds_of asked_of (IsStandardAsk maps entry taken) v.seen v.numbers sources
-    pub ends : EndsDriven (WasPosted v.seen) maps entry machine taken
+  pub record IsShared {S : Type 0} (holds_of : S → Option Contents) (asked_of : S → List Asked) (maps : Maps) (entry : Url) (trace : Bool)
+      (v : View (MapEvent Posted G)) (machine : Option MachineParts) (taken : List Delivery) (sources : List S) : Type 0 where
+    pub served : AreServed holds_of asked_of (IsStandardAsk maps entry trace taken) v.seen v.numbers sources
+    pub ends : EndsDriven (WasPosted v.seen) maps entry trace machine taken

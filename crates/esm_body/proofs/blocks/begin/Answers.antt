@@ -1,6 +1,6 @@
 use Rattle.std.proofs.Common.{length, ap}
 use Rattle.std.specs.Arc.{arc_value}
-use Rattle.esm_body.specs.Inner.Stack.{bound_name}
+use Rattle.esm_body.specs.Code.{bound_name}
 use Rattle.esm_body.proofs.Levels.{begins_ok, sound_ok, below_up, becomes_same, block_ok, try_ok, catch_ok}
 use Rattle.esm_body.proofs.blocks.begin.Goals as goal
 

@@ -1,9 +1,9 @@
 use Rattle.std.proofs.Common.{refl, ap, ◌∙◌, length}
 use Rattle.esm_tree.specs.Flat.{stmt_parts}
 use Rattle.std.specs.Arc.{arc_value}
-use Rattle.esm_body.specs.Inner.Slots.{scope_of_slots}
-use Rattle.esm_body.specs.Inner.Contexts.{placed, surrounded}
-use Rattle.esm_body.specs.Inner.Stack.{contexts_of, context_by, innermost}
+use Rattle.esm_body.specs.Slots.{scope_of_slots}
+use Rattle.esm_body.specs.Contexts.{placed, surrounded}
+use Rattle.esm_body.specs.Code.{contexts_of, context_by, innermost}
 use Rattle.esm_body.specs.declared.work.Level.{Level}
 use Rattle.esm_body.proofs.Levels.{begun, levels_push, slots_scope, push_some}
 use Rattle.esm_body.proofs.blocks.begin_block.Goals as goal

@@ -4,8 +4,8 @@ use Rattle.esm_tree.specs.Flat.{stmt_parts}
 use Rattle.esm_body.specs.Scopes.{scope_of}
 use Rattle.std.specs.Prelude.{◌++◌}
 use Rattle.esm_body.specs.Rest.{whole}
-use Rattle.esm_body.specs.Inner.Slots.{scope_of_slots}
-use Rattle.esm_body.specs.Inner.Contexts.{Block, placed, surrounded}
+use Rattle.esm_body.specs.Slots.{scope_of_slots}
+use Rattle.esm_body.specs.Contexts.{Block, placed, surrounded}
 use Rattle.esm_body.proofs.CallLemmas.{outer_contexts, outer_innermost, outer_sound, outer_some}
 use Rattle.esm_body.proofs.calls.call_with.Goals as goal
 

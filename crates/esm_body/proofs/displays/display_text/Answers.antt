@@ -1,9 +1,8 @@
-use Rattle.std.proofs.Common.{ap, ◌∙◌}
-use Rattle.esm_values.specs.Display.{namespace_text}
+use Rattle.esm_values.specs.Code.{value_of}
+use Rattle.esm_body.proofs.Asked.{displays_there}
 use Rattle.esm_body.proofs.Shown.{weaker}
 use Rattle.esm_body.proofs.displays.display_text.Goals as goal
 
-pub returns-in_ok-keys-in-Namespace : goal.returns-in_ok-keys-in-Namespace
-returns-in_ok-keys-in-Namespace g c =
-    let keys = c.in_ok-keys-in-Namespace.keys.items in
-    rw c.in-Namespace.is (weaker _ _ (λ text h. λ a l k. let are = c.in_ok-keys-in-Namespace.ensures l k in (keys, are.0, are.1, h ∙ ap namespace_text c.as_slice.ensures.value)) c.namespace_text.result c.namespace_text.ensures)
+pub returns : goal.returns
+returns g c =
+    weaker _ _ (λ text h. λ a l k. displays_there g.I.Importer.modules (g.I.Importer.seen c.args.imports.now) c.args.errors.now (value_of c.args.of.now) text (h a l k)) c.shown_text.result c.shown_text.ensures

@@ -2,7 +2,7 @@ use Rattle.std.proofs.Common.{◌≡◌, ◌++◌, List, drop}
 use Rattle.esm_tree.specs.Syntax.{Expr}
 use Rattle.esm_tree.specs.Flat.{bindings_of}
 use Rattle.esm_env.specs.Declarations.{declared_by}
-use Rattle.esm_body.specs.Inner.Slots.{unset_slots}
+use Rattle.esm_body.specs.Slots.{unset_slots}
 use Rattle.esm_body.proofs.scopes.add_bindings.Given as goal
 
 -- what is there and what is left are the whole

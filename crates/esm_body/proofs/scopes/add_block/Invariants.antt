@@ -1,7 +1,7 @@
 use Rattle.std.proofs.Common.{◌≡◌, ◌++◌, drop}
 use Rattle.esm_tree.specs.Flat.{stmt_parts}
 use Rattle.esm_env.specs.Declarations.{declared_in}
-use Rattle.esm_body.specs.Inner.Slots.{unset_slots}
+use Rattle.esm_body.specs.Slots.{unset_slots}
 use Rattle.esm_body.proofs.scopes.add_block.Given as goal
 
 -- what is there and what is left are the whole

@@ -14,7 +14,7 @@ begin-requires-clause-id g c = id_there g.I.Importer.seen g.I.Importer.modules g
 
 pub begin-requires-clause-node : goal.begin-requires-clause-node
 begin-requires-clause-node g c =
-    node_there (arc_value c.step.new.self.now.tree) c.deref.result.now c.args.id c.stmt-node.result.now c.deref.ensures c.stmt-node.ensures.node c.stmt-node.ensures.exprs_there c.stmt-node.ensures.below
+    node_there (arc_value c.step.new.self.code.now.tree) c.deref.result.now c.args.id c.stmt-node.result.now c.deref.ensures c.stmt-node.ensures.node c.stmt-node.ensures.exprs_there c.stmt-node.ensures.below
 
 pub returns-in-Ok-begin : goal.returns-in-Ok-begin
 returns-in-Ok-begin g c =

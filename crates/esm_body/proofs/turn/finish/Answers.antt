@@ -14,7 +14,7 @@ returns-in-Drops g c =
     turned_as g.I.Importer.seen g.I.Importer.modules g.I.Importer.linked g.I.Importer.fits g.I.Importer.begins c.args.inside.now c.args.inside.now c.args.value c.args.purpose u.Drops (Ok o.On) c.in-Drops.is (drops_came g.I.Importer.seen g.I.Importer.modules g.I.Importer.linked g.I.Importer.fits g.I.Importer.begins c.args.inside.now m.0 c.args.value c.requires.code m.1)
 
 pub set-requires-clause-id : goal.set-requires-clause-id
-set-requires-clause-id g c = is_as (length (arc_value c.args.inside.now.now.tree).stmts) c.args.purpose (u.Sets c.in-Sets.id c.in-Sets.place) c.in-Sets.is c.requires.purpose
+set-requires-clause-id g c = is_as (length (arc_value c.args.inside.now.code.now.tree).stmts) c.args.purpose (u.Sets c.in-Sets.id c.in-Sets.place) c.in-Sets.is c.requires.purpose
 
 pub set-requires-clause-fits : goal.set-requires-clause-fits
 set-requires-clause-fits g c = may_as g.I.Importer.seen g.I.Importer.modules g.I.Importer.linked g.I.Importer.fits g.I.Importer.begins c.args.inside.now c.args.value c.args.purpose (u.Sets c.in-Sets.id c.in-Sets.place) c.in-Sets.is c.requires.fits
@@ -30,7 +30,7 @@ returns-in-Defaults g c =
     (sets_came g.I.Importer.seen g.I.Importer.modules g.I.Importer.linked g.I.Importer.fits g.I.Importer.begins c.args.inside.now c.set_name.new.inside m.0 u.Defaults (codes "*default*") c.args.value refl c.requires.code m.1 c.set_name.ensures)
 
 pub write-requires-clause-id : goal.write-requires-clause-id
-write-requires-clause-id g c = is_as (length (arc_value c.args.inside.now.now.tree).stmts) c.args.purpose (u.Writes c.in-Writes.id) c.in-Writes.is c.requires.purpose
+write-requires-clause-id g c = is_as (length (arc_value c.args.inside.now.code.now.tree).stmts) c.args.purpose (u.Writes c.in-Writes.id) c.in-Writes.is c.requires.purpose
 
 pub write-requires-clause-fits : goal.write-requires-clause-fits
 write-requires-clause-fits g c = may_as g.I.Importer.seen g.I.Importer.modules g.I.Importer.linked g.I.Importer.fits g.I.Importer.begins c.args.inside.now c.args.value c.args.purpose (u.Writes c.in-Writes.id) c.in-Writes.is c.requires.fits
@@ -56,7 +56,7 @@ pub returns-in-Prints : goal.returns-in-Prints
 returns-in-Prints g c = turned_as g.I.Importer.seen g.I.Importer.modules g.I.Importer.linked g.I.Importer.fits g.I.Importer.begins c.args.inside.now c.print_awaited.new.inside c.args.value c.args.purpose u.Prints c.print_awaited.result c.in-Prints.is c.print_awaited.ensures
 
 pub branch-inside-requires-clause-id : goal.branch-inside-requires-clause-id
-branch-inside-requires-clause-id g c = is_as (length (arc_value c.args.inside.now.now.tree).stmts) c.args.purpose (u.Chooses c.in-Chooses.id) c.in-Chooses.is c.requires.purpose
+branch-inside-requires-clause-id g c = is_as (length (arc_value c.args.inside.now.code.now.tree).stmts) c.args.purpose (u.Chooses c.in-Chooses.id) c.in-Chooses.is c.requires.purpose
 
 pub branch-inside-requires-clause-fits : goal.branch-inside-requires-clause-fits
 branch-inside-requires-clause-fits g c = may_as g.I.Importer.seen g.I.Importer.modules g.I.Importer.linked g.I.Importer.fits g.I.Importer.begins c.args.inside.now c.args.value c.args.purpose (u.Chooses c.in-Chooses.id) c.in-Chooses.is c.requires.fits

@@ -18,6 +18,7 @@ loop-i-init g t c =
     let world = c.in_ok-refuse.ensures.world in
     record {
       fewer = c.in_ok-refuse.ensures.fewer;
+      long = c.in_ok-refuse.ensures.size;
       fits = c.in_ok-refuse.ensures.fits;
       stays = c.in_ok-refuse.ensures.stays;
       same = c.in_ok-refuse.ensures.waiters;
@@ -34,6 +35,7 @@ waiter-y-requires g t c = record {
 pub loop-i-preserved : goal.loop-i-preserved
 loop-i-preserved g t c = record {
   fewer = let a = c.in_ok-reject_by.ensures.fewer in let b = c.loop-i.invariant.fewer in omega arith;
+  long = c.in_ok-reject_by.ensures.size ∙ c.loop-i.invariant.long;
   fits = c.in_ok-reject_by.ensures.fits;
   stays = due.stays_on g.D.Late.linked g.D.Late.knows c.args.desk.now c.loop-i.desk c.reject_by.new.desk c.loop-i.invariant.stays c.in_ok-reject_by.ensures.stays;
   same = λ y. c.in_ok-reject_by.ensures.waiters y ∙ c.loop-i.invariant.same y;

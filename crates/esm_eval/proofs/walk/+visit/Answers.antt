@@ -2,7 +2,8 @@ use Rattle.std.proofs.Common.{◌≡◌, ◌<◌, ◌≤◌, Some, Ok, Err, leng
 use Rattle.esm_realm.proofs.Numbers.{has_at}
 use Rattle.esm_eval.specs.Calls.{numbered}
 use Rattle.esm_eval.specs.Evaluate.{close}
-use Rattle.esm_eval.specs.Inner.Visit.{AllEntered, Passing, PassesBy, LeavesBy}
+use Rattle.esm_eval.specs.Inner.Visit.{Passing}
+use Rattle.esm_eval.specs.WalkSteps.{AllEntered, PassesBy, LeavesBy}
 use Rattle.esm_eval.proofs.Inner.Steps as steps
 use Rattle.esm_eval.proofs.Inner.Begun as begun
 use Rattle.esm_eval.proofs.walk.+visit.Goals as goal
@@ -20,6 +21,7 @@ loop-i-init g t c =
     record {
       steady = o.steady;
       fewer = o.fewer;
+      long = c.enter.ensures.size;
       fits = c.enter.ensures.fits;
       going = begun.going_enter g.D.Desk.lens g.D.Desk.lawful g.D.Desk.linked g.D.Desk.left c.args.desk.now c.enter.new.self c.args.x c.requires.unbegun (sym c.was_entered.ensures ∙ c.if-was_entered.false) c.enter.ensures.world o;
       entered = steps.opened_now g.D.Desk.lens g.D.Desk.linked g.D.Desk.left g.D.Desk.acts c.args.desk.now c.args.x c.enter.new.self o;
@@ -69,6 +71,7 @@ loop-i-preserved g t c =
     record {
       steady = steps.same_on g.D.Desk.lens g.D.Desk.linked g.D.Desk.left g.D.Desk.acts c.args.desk.now c.visit.new.desk c.pass.new.self to_here keeps.steady;
       fewer = let a = c.loop-i.invariant.fewer in let b = c.in-Ok-visit.ensures.steady.less in let d = keeps.steady.less in omega arith;
+      long = c.in-Ok-pass.ensures.size ∙ (c.in-Ok-visit.ensures.size ∙ c.loop-i.invariant.long);
       fits = c.in-Ok-pass.ensures.fits;
       going = begun.going_pass g.D.Desk.lens g.D.Desk.lawful g.D.Desk.linked g.D.Desk.left c.args.desk.now c.visit.new.desk c.pass.new.self c.args.x c.target-t.result (begun.going_visit g.D.Desk.lens c.args.desk.now c.loop-i.desk c.visit.new.desk c.args.x c.loop-i.invariant.going c.loop-i.invariant.entered c.loop-i.invariant.steady.stays c.in-Ok-visit.ensures.begins) done.1 keeps;
       entered = keeps.steady.stays c.args.x (c.in-Ok-visit.ensures.steady.stays c.args.x c.loop-i.invariant.entered);
@@ -143,3 +146,18 @@ pub returns-clause-begins : goal.returns-clause-begins
 returns-clause-begins g t c =
     let left : LeavesBy g.D.Desk.lens g.D.Desk.linked g.D.Desk.left g.D.Desk.acts c.loop-i.desk c.loop-i.opened c.args.x (Ok tt) c.leave.new.self = subst (λ xs. LeavesBy g.D.Desk.lens g.D.Desk.linked g.D.Desk.left g.D.Desk.acts c.loop-i.desk xs c.args.x (Ok tt) c.leave.new.self) c.as_slice-2.ensures c.in-Ok-leave.ensures.leaves in
     begun.begins_close g.D.Desk.lens g.D.Desk.lawful g.D.Desk.linked g.D.Desk.left c.args.desk.now c.leave.new.self c.close.new.self c.args.x (drop c.len-place.result c.loop-i.opened) (begun.begins_leave g.D.Desk.lens g.D.Desk.acts g.D.Desk.lawful g.D.Desk.steady g.D.Desk.begins_one g.D.Desk.linked g.D.Desk.left c.args.desk.now c.loop-i.desk c.leave.new.self c.args.x c.loop-i.invariant.going left.0 left.1 (sym c.was_entered.ensures ∙ c.if-was_entered.false) c.loop-i.invariant.entered) (c.close.ensures.world ∙ ap (λ o. close (numbered g.D.Desk.lens) c.leave.new.self c.args.x (drop c.len-place.result o)) c.as_slice-3.ensures) c.close.ensures.keeps
+
+pub returns-in-Err-visit-clause-size : goal.returns-in-Err-visit-clause-size
+returns-in-Err-visit-clause-size g t c = c.in-Err-visit.ensures.size ∙ c.loop-i.invariant.long
+
+pub returns-in-Err-pass-clause-size : goal.returns-in-Err-pass-clause-size
+returns-in-Err-pass-clause-size g t c = c.in-Err-pass.ensures.size ∙ (c.in-Ok-visit.ensures.size ∙ c.loop-i.invariant.long)
+
+pub returns-in-Err-leave-clause-size : goal.returns-in-Err-leave-clause-size
+returns-in-Err-leave-clause-size g t c = c.in-Err-leave.ensures.size ∙ c.loop-i.invariant.long
+
+pub returns-then-low-place-clause-size : goal.returns-then-low-place-clause-size
+returns-then-low-place-clause-size g t c = c.in-Ok-leave.ensures.size ∙ c.loop-i.invariant.long
+
+pub returns-clause-size : goal.returns-clause-size
+returns-clause-size g t c = c.close.ensures.size ∙ (c.in-Ok-leave.ensures.size ∙ c.loop-i.invariant.long)

@@ -1,5 +1,6 @@
 use Rattle.std.proofs.Common.{◌≡◌, ◌<◌, true, length}
-use Rattle.esm_eval.specs.Inner.Visit.{AllEntered, IsSteadyStep, Passing, is_entered}
+use Rattle.esm_eval.specs.Inner.Visit.{Passing}
+use Rattle.esm_eval.specs.WalkSteps.{AllEntered, IsSteadyStep, is_entered}
 use Rattle.esm_eval.proofs.Inner.Begun.{Going}
 use Rattle.esm_eval.proofs.walk.+visit.Given as goal
 
@@ -12,6 +13,7 @@ abbrev pub invariant-loop-i : goal.invariant-loop-i
 invariant-loop-i g l = record {
   steady : IsSteadyStep g.D.Desk.lens g.D.Desk.linked g.D.Desk.left l.fn.desk l.desk;
   fewer : g.D.Desk.left l.desk < g.D.Desk.left l.fn.desk;
+  long : g.D.Desk.size l.desk ≡ g.D.Desk.size l.fn.desk;
   fits : g.D.Desk.fits l.desk;
   going : Going g.D.Desk.lens l.fn.desk l.x l.desk;
   entered : is_entered g.D.Desk.lens l.desk l.x ≡ true;

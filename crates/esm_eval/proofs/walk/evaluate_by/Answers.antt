@@ -6,7 +6,8 @@ use Rattle.esm_values.specs.declared.value.Value.{Value}
 use Rattle.esm_eval.specs.Calls.{numbered}
 use Rattle.esm_eval.specs.Evaluate.{EvaluatesRoot}
 use Rattle.esm_eval.specs.declared.walk.Cut.TheVariants as cuts
-use Rattle.esm_eval.specs.Inner.Visit.{AllEntered, KnowsError, Visiting, Within}
+use Rattle.esm_eval.specs.Inner.Visit.{Visiting}
+use Rattle.esm_eval.specs.WalkSteps.{AllEntered, KnowsError, Within}
 use Rattle.esm_eval.proofs.Inner.Root as root
 use Rattle.esm_eval.proofs.Inner.Begun as begun
 use Rattle.esm_eval.proofs.walk.evaluate_by.Goals as goal
@@ -60,3 +61,15 @@ pub reject-requires-in-Err-Thrown : goal.reject-requires-in-Err-Thrown
 reject-requires-in-Err-Thrown g c =
     let met = rw c.in-Err-Thrown.field-0-is at c.in-Err-Thrown.ensures in
     record { known = met.fits.1; fits = met.fits.0 }
+
+pub returns-in-Some-error-clause-size : goal.returns-in-Some-error-clause-size
+returns-in-Some-error-clause-size g c = c.reject.ensures.size ∙ c.in-Ok-keep.ensures.size
+
+pub returns-in-Ok-visit-clause-size : goal.returns-in-Ok-visit-clause-size
+returns-in-Ok-visit-clause-size g c = c.fulfill_by.ensures.size ∙ (c.in-Ok-visit.ensures.size ∙ c.in-Ok-keep.ensures.size)
+
+pub returns-in-Err-Thrown-clause-size : goal.returns-in-Err-Thrown-clause-size
+returns-in-Err-Thrown-clause-size g c = c.reject-in-Err-Thrown.ensures.size ∙ (c.in-Err-Thrown.ensures.size ∙ c.in-Ok-keep.ensures.size)
+
+pub returns-in-Err-Stopped-clause-size : goal.returns-in-Err-Stopped-clause-size
+returns-in-Err-Stopped-clause-size g c = c.in-Err-Stopped.ensures.size ∙ c.in-Ok-keep.ensures.size

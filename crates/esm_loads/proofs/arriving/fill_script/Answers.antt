@@ -4,8 +4,8 @@ use Rattle.std.proofs.lemmas.List.{map-append}
 use Rattle.esm_tree.specs.Syntax.{Parts}
 use Rattle.std.proofs.lemmas.List.Elements.{All-push}
 use Rattle.esm_tree.specs.Syntax.{Item}
-use Rattle.esm_grammar.specs.ModuleText.{Spells}
 use Rattle.esm_ast.specs.Entries.{EntryLists}
+use Rattle.esm_ast.specs.Spelled.{AreSpelled}
 use Rattle.esm_ast.specs.Script.{spelled_text}
 use Rattle.esm_realm.specs.Sound.{records_of, new_record}
 use Rattle.esm_values.specs.Errors.{make_error, fault}
@@ -42,4 +42,4 @@ returns-in_ok-id-in-Ok-clause-spelled c before =
     let old = map tree_items c.args.trees.now.items in
     let items = c.args.script.now.tree.items in
     let is = ap (map tree_items) c.in_ok-push-in-Ok.ensures.items ∙ map-append tree_items c.args.trees.now.items _ ∙ ap (λ (t : Parts). old ++ t.items ∷ []) c.in_ok-share_tree-in-Ok.ensures in
-    subst HaveTexts (sym is) (All-push (λ (items : List Item). (bytes : List ℕ) × Spells bytes items) old items before (c.args.script.now.bytes, c.tree-spelled.ensures.spelled))
+    subst HaveTexts (sym is) (All-push AreSpelled old items before (c.args.script.now.bytes, c.tree-spelled.ensures.spelled))

@@ -41,11 +41,11 @@ returns-in_default-clause-served g c =
     inl (serves_same _ _ n0 h0 h1 c.ask_open.ensures.kept.0 c.ask_open.ensures.kept.1 c.requires.served)
 
 pub returns-in_default-clause-led : goal.returns-in_default-clause-led
-returns-in_default-clause-led g c = λ maps entry led0.
+returns-in_default-clause-led g c = λ maps entry trace led0.
     let n0 = c.args.caller.now.number in let n1 = c.ask_open.new.caller.number in
     let h0 = (view_in c.args.caller.now.pass).seen in let h1 = (view_in c.ask_open.new.caller.pass).seen in
-    let led1 = led_stays c.urls_stay.ensures c.posts_stay.ensures maps entry n0 h0 h1 c.args.machine.now (deliveries_of c.args.taken.now.items) c.ask_open.ensures.begins (c.ask_open.ensures.asks maps entry (deliveries_of c.args.taken.now.items) led0.driven.represents) led0 in
-    short_of maps entry n0 h1 c.args.machine.now (deliveries_of c.args.taken.now.items) led1
+    let led1 = led_stays c.urls_stay.ensures c.posts_stay.ensures maps entry trace n0 h0 h1 c.args.machine.now (deliveries_of c.args.taken.now.items) c.ask_open.ensures.begins (c.ask_open.ensures.asks maps entry trace (deliveries_of c.args.taken.now.items) led0.driven.represents) led0 in
+    short_of maps entry trace n0 h1 c.args.machine.now (deliveries_of c.args.taken.now.items) led1
 
 pub returns-in_default-hear-clause-same : goal.returns-in_default-hear-clause-same
 returns-in_default-hear-clause-same g c = ((c.hear.ensures.same.0.0 ∙ c.ask_open.ensures.same.0.0, c.hear.ensures.same.0.1 ∙ c.ask_open.ensures.same.0.1, c.hear.ensures.same.0.2 ∙ c.ask_open.ensures.same.0.2), c.hear.ensures.same.1 ∙ c.ask_open.ensures.same.1)
@@ -65,14 +65,14 @@ returns-in_default-hear-clause-served g c =
     inl s2
 
 pub returns-in_default-hear-clause-led : goal.returns-in_default-hear-clause-led
-returns-in_default-hear-clause-led g c = λ maps entry led0.
+returns-in_default-hear-clause-led g c = λ maps entry trace led0.
     let n0 = c.args.caller.now.number in let n1 = c.ask_open.new.caller.number in
     let h0 = (view_in c.args.caller.now.pass).seen in let h1 = (view_in c.ask_open.new.caller.pass).seen in
     let h2 = (view_in c.hear.new.caller.pass).seen in let e1 : n1 ≡ n0 = c.ask_open.ensures.same.1 in
     let says : Stays weight n0 h1 h2 = subst (λ m. Stays weight m h1 h2) e1 c.hear.ensures.says in
-    let led1 = led_stays c.urls_stay.ensures c.posts_stay.ensures maps entry n0 h0 h1 c.args.machine.now (deliveries_of c.args.taken.now.items) c.ask_open.ensures.begins (c.ask_open.ensures.asks maps entry (deliveries_of c.args.taken.now.items) led0.driven.represents) led0 in
-    let led2 = led_stays c.urls_stay.ensures c.posts_stay.ensures maps entry n0 h1 h2 c.args.machine.now (deliveries_of c.args.taken.now.items) says.0 (asks_same maps entry (deliveries_of c.args.taken.now.items) n0 h1 h2 says.1.2) led1 in
-    short_of maps entry n0 h2 c.args.machine.now (deliveries_of c.args.taken.now.items) led2
+    let led1 = led_stays c.urls_stay.ensures c.posts_stay.ensures maps entry trace n0 h0 h1 c.args.machine.now (deliveries_of c.args.taken.now.items) c.ask_open.ensures.begins (c.ask_open.ensures.asks maps entry trace (deliveries_of c.args.taken.now.items) led0.driven.represents) led0 in
+    let led2 = led_stays c.urls_stay.ensures c.posts_stay.ensures maps entry trace n0 h1 h2 c.args.machine.now (deliveries_of c.args.taken.now.items) says.0 (asks_same maps entry trace (deliveries_of c.args.taken.now.items) n0 h1 h2 says.1.2) led1 in
+    short_of maps entry trace n0 h2 c.args.machine.now (deliveries_of c.args.taken.now.items) led2
 
 pub returns-in-Some-clause-same : goal.returns-in-Some-clause-same
 returns-in-Some-clause-same g c = ((c.deliver.ensures.same.0.0 ∙ c.hear.ensures.same.0.0 ∙ c.ask_open.ensures.same.0.0, c.deliver.ensures.same.0.1 ∙ c.hear.ensures.same.0.1 ∙ c.ask_open.ensures.same.0.1, c.deliver.ensures.same.0.2 ∙ c.hear.ensures.same.0.2 ∙ c.ask_open.ensures.same.0.2), c.deliver.ensures.same.1 ∙ c.hear.ensures.same.1 ∙ c.ask_open.ensures.same.1)
@@ -106,16 +106,16 @@ returns-in-Some-clause-tickets g c =
     on_ok c.deliver.result _ (tickets_left c.urls_stay.ensures h2 (view_in c.deliver.new.caller.pass).seen c.hear.new.queue.tickets.items c.choose.new.queue.tickets.items c.deliver.ensures.says.0 t3 c.choose.ensures.left)
 
 pub returns-in-Some-clause-led : goal.returns-in-Some-clause-led
-returns-in-Some-clause-led g c = λ maps entry led0.
+returns-in-Some-clause-led g c = λ maps entry trace led0.
     let n0 = c.args.caller.now.number in let n1 = c.ask_open.new.caller.number in
     let h0 = (view_in c.args.caller.now.pass).seen in let h1 = (view_in c.ask_open.new.caller.pass).seen in
     let h2 = (view_in c.hear.new.caller.pass).seen in let e1 : n1 ≡ n0 = c.ask_open.ensures.same.1 in
     let says : Stays weight n0 h1 h2 = subst (λ m. Stays weight m h1 h2) e1 c.hear.ensures.says in
-    let led1 = led_stays c.urls_stay.ensures c.posts_stay.ensures maps entry n0 h0 h1 c.args.machine.now (deliveries_of c.args.taken.now.items) c.ask_open.ensures.begins (c.ask_open.ensures.asks maps entry (deliveries_of c.args.taken.now.items) led0.driven.represents) led0 in
-    let led2 = led_stays c.urls_stay.ensures c.posts_stay.ensures maps entry n0 h1 h2 c.args.machine.now (deliveries_of c.args.taken.now.items) says.0 (asks_same maps entry (deliveries_of c.args.taken.now.items) n0 h1 h2 says.1.2) led1 in
+    let led1 = led_stays c.urls_stay.ensures c.posts_stay.ensures maps entry trace n0 h0 h1 c.args.machine.now (deliveries_of c.args.taken.now.items) c.ask_open.ensures.begins (c.ask_open.ensures.asks maps entry trace (deliveries_of c.args.taken.now.items) led0.driven.represents) led0 in
+    let led2 = led_stays c.urls_stay.ensures c.posts_stay.ensures maps entry trace n0 h1 h2 c.args.machine.now (deliveries_of c.args.taken.now.items) says.0 (asks_same maps entry trace (deliveries_of c.args.taken.now.items) n0 h1 h2 says.1.2) led1 in
     let h3 = (view_in c.deliver.new.caller.pass).seen in let e2 = c.hear.ensures.same.1 ∙ e1 in
-    subst (λ m. LeadsOn maps entry c.deliver.result m h3 c.deliver.new.machine (deliveries_of c.deliver.new.taken.items)) e2
-    (c.deliver.ensures.led maps entry (subst (λ m. IsLed maps entry m h2 c.args.machine.now (deliveries_of c.args.taken.now.items)) (sym e2) led2))
+    subst (λ m. LeadsOn maps entry trace c.deliver.result m h3 c.deliver.new.machine (deliveries_of c.deliver.new.taken.items)) e2
+    (c.deliver.ensures.led maps entry trace (subst (λ m. IsLed maps entry trace m h2 c.args.machine.now (deliveries_of c.args.taken.now.items)) (sym e2) led2))
 
 pub returns-in-None-clause-same : goal.returns-in-None-clause-same
 returns-in-None-clause-same g c = ((c.fetch_or_wait.ensures.same.0.0 ∙ c.hear.ensures.same.0.0 ∙ c.ask_open.ensures.same.0.0, c.fetch_or_wait.ensures.same.0.1 ∙ c.hear.ensures.same.0.1 ∙ c.ask_open.ensures.same.0.1, c.fetch_or_wait.ensures.same.0.2 ∙ c.hear.ensures.same.0.2 ∙ c.ask_open.ensures.same.0.2), c.fetch_or_wait.ensures.same.1 ∙ c.hear.ensures.same.1 ∙ c.ask_open.ensures.same.1)
@@ -141,14 +141,14 @@ returns-in-None-clause-tickets g c =
     on_ok c.fetch_or_wait.result _ (subst (λ q. All (HasTicket h3) q.items) (sym c.fetch_or_wait.ensures.tickets) left)
 
 pub returns-in-None-clause-led : goal.returns-in-None-clause-led
-returns-in-None-clause-led g c = λ maps entry led0.
+returns-in-None-clause-led g c = λ maps entry trace led0.
     let n0 = c.args.caller.now.number in let n1 = c.ask_open.new.caller.number in
     let h0 = (view_in c.args.caller.now.pass).seen in let h1 = (view_in c.ask_open.new.caller.pass).seen in
     let h2 = (view_in c.hear.new.caller.pass).seen in let e1 : n1 ≡ n0 = c.ask_open.ensures.same.1 in
     let says : Stays weight n0 h1 h2 = subst (λ m. Stays weight m h1 h2) e1 c.hear.ensures.says in
-    let led1 = led_stays c.urls_stay.ensures c.posts_stay.ensures maps entry n0 h0 h1 c.args.machine.now (deliveries_of c.args.taken.now.items) c.ask_open.ensures.begins (c.ask_open.ensures.asks maps entry (deliveries_of c.args.taken.now.items) led0.driven.represents) led0 in
-    let led2 = led_stays c.urls_stay.ensures c.posts_stay.ensures maps entry n0 h1 h2 c.args.machine.now (deliveries_of c.args.taken.now.items) says.0 (asks_same maps entry (deliveries_of c.args.taken.now.items) n0 h1 h2 says.1.2) led1 in
+    let led1 = led_stays c.urls_stay.ensures c.posts_stay.ensures maps entry trace n0 h0 h1 c.args.machine.now (deliveries_of c.args.taken.now.items) c.ask_open.ensures.begins (c.ask_open.ensures.asks maps entry trace (deliveries_of c.args.taken.now.items) led0.driven.represents) led0 in
+    let led2 = led_stays c.urls_stay.ensures c.posts_stay.ensures maps entry trace n0 h1 h2 c.args.machine.now (deliveries_of c.args.taken.now.items) says.0 (asks_same maps entry trace (deliveries_of c.args.taken.now.items) n0 h1 h2 says.1.2) led1 in
     let h3 = (view_in c.fetch_or_wait.new.caller.pass).seen in let e2 = c.hear.ensures.same.1 ∙ e1 in
     let asks = subst (λ m. asks_by weight m h3 ≡ asks_by weight m h2) e2 c.fetch_or_wait.ensures.asks in
-    leads_on_same c.fetch_or_wait.result maps entry n0 h3 c.args.machine.now (deliveries_of c.args.taken.now.items)
-    (led_stays c.urls_stay.ensures c.posts_stay.ensures maps entry n0 h2 h3 c.args.machine.now (deliveries_of c.args.taken.now.items) c.fetch_or_wait.ensures.begins (asks_same maps entry (deliveries_of c.args.taken.now.items) n0 h2 h3 asks) led2)
+    leads_on_same c.fetch_or_wait.result maps entry trace n0 h3 c.args.machine.now (deliveries_of c.args.taken.now.items)
+    (led_stays c.urls_stay.ensures c.posts_stay.ensures maps entry trace n0 h2 h3 c.args.machine.now (deliveries_of c.args.taken.now.items) c.fetch_or_wait.ensures.begins (asks_same maps entry trace (deliveries_of c.args.taken.now.items) n0 h2 h3 asks) led2)

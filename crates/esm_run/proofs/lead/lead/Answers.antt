@@ -21,7 +21,7 @@ pub returns-clause-led : goal.returns-clause-led
 returns-clause-led g c =
     let n = c.args.caller.number in
     let says = subst (λ m. ShutSays weight m (view_in c.drive-driven.new.caller.pass).seen (view_in c.shut.new.caller.pass).seen) c.drive-driven.ensures.same.1 c.shut.ensures.says in
-    led_alone g.S.Source.holds g.S.Source.asked c.urls_stay.ensures c.posts_stay.ensures _ _ (view_in c.drive-driven.new.caller.pass) (view_in c.shut.new.caller.pass) c.drive-driven.result c.ok.result _ n c.args.sources.items c.index_mut.result.now c.drive-driven.new.source
+    led_alone g.S.Source.holds g.S.Source.asked c.urls_stay.ensures c.posts_stay.ensures _ _ _ (view_in c.drive-driven.new.caller.pass) (view_in c.shut.new.caller.pass) c.drive-driven.result c.ok.result _ n c.args.sources.items c.index_mut.result.now c.drive-driven.new.source
     (c.shut.ensures.same.0.2 ∙ c.drive-driven.ensures.same.0.2 ∙ c.requires.new.own) says c.requires.one c.index_mut.ensures.value c.drive-driven.ensures.served c.drive-driven.ensures.holds c.drive-driven.ensures.ends c.ok.ensures.value
 
 pub index_mut-requires : goal.index_mut-requires

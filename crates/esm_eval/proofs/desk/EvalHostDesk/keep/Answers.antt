@@ -1,7 +1,8 @@
-use Rattle.std.proofs.Common.{refl, sym, subst}
+use Rattle.std.proofs.Common.{refl, ap, sym, subst, ◌∙◌}
+use Rattle.esm_eval.specs.Table.{size}
 use Rattle.esm_eval.specs.Host.{HostFits, evaluation}
-use Rattle.esm_eval.specs.Inner.Counts.{unentered}
-use Rattle.esm_eval.specs.Inner.Visit.{Keeps}
+use Rattle.esm_eval.specs.Counts.{unentered}
+use Rattle.esm_eval.specs.WalkSteps.{Keeps}
 use Rattle.esm_eval.proofs.Inner.HostSteps as steps
 use Rattle.esm_eval.proofs.Inner.BodySteps as body
 use Rattle.esm_eval.proofs.Inner.DeskSteps as desk
@@ -21,3 +22,6 @@ returns-in-Ok-clause-fits g c = subst (λ s. HostFits g.B.Bodies.fits g.B.Bodies
 
 pub returns-in-Ok-clause-knows : goal.returns-in-Ok-clause-knows
 returns-in-Ok-clause-knows g c = λ u k. k
+
+pub returns-in-Ok-clause-size : goal.returns-in-Ok-clause-size
+returns-in-Ok-clause-size g c = ap (λ t. size t) c.set_promise.ensures ∙ steps.size_put c.args.self.now.nodes c.args.m _ (c.requires.fits.have c.args.m c.requires.linked)

@@ -11,7 +11,7 @@ pub leave_free-requires-clause-free : goal.leave_free-requires-clause-free
 leave_free-requires-clause-free g c = desk.says c.waits_for_none.result c.waits_for_none.ensures c.if-waits_for_none.true
 
 pub returns-in-Ok-clause-leaves : goal.returns-in-Ok-clause-leaves
-returns-in-Ok-clause-leaves g c = desk.leaves_waiting g.B.Bodies.targets g.B.Bodies.awaits g.B.Bodies.begun g.B.Bodies.linked g.B.Bodies.knows (calls g.B.Bodies.acts) c.args.self.now c.args.x c.args.opened.now c.add_stamp.new.self (desk.denies c.waits_for_none.result c.waits_for_none.ensures c.if-waits_for_none.false) c.in-Ok.ensures
+returns-in-Ok-clause-leaves g c = desk.leaves_waiting g.B.Bodies.targets g.B.Bodies.awaits g.B.Bodies.begun g.B.Bodies.linked g.B.Bodies.knows (calls g.B.Bodies.acts) c.args.self.now c.args.x c.args.opened.now c.add_stamp.new.self (desk.denies c.waits_for_none.result c.waits_for_none.ensures c.if-waits_for_none.false) c.in-Ok.ensures.ok
 
 pub returns-in-Ok-clause-fits : goal.returns-in-Ok-clause-fits
-returns-in-Ok-clause-fits g c = subst (λ t. HostFits g.B.Bodies.fits g.B.Bodies.linked g.B.Bodies.knows (record c.args.self.now { nodes = t })) (sym c.in-Ok.ensures) (steps.fits_stamp g.B.Bodies.targets g.B.Bodies.awaits g.B.Bodies.begun g.B.Bodies.linked g.B.Bodies.knows g.B.Bodies.fits c.args.self.now c.args.x c.requires.fits c.requires.linked)
+returns-in-Ok-clause-fits g c = subst (λ t. HostFits g.B.Bodies.fits g.B.Bodies.linked g.B.Bodies.knows (record c.args.self.now { nodes = t })) (sym c.in-Ok.ensures.ok) (steps.fits_stamp g.B.Bodies.targets g.B.Bodies.awaits g.B.Bodies.begun g.B.Bodies.linked g.B.Bodies.knows g.B.Bodies.fits c.args.self.now c.args.x c.requires.fits c.requires.linked)

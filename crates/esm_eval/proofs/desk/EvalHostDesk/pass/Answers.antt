@@ -4,7 +4,7 @@ use Rattle.std.specs.Option.{option_map}
 use Rattle.esm_values.specs.Code.{value_of}
 use Rattle.esm_eval.specs.Host.{HostFits, calls, evaluation, outside_with}
 use Rattle.esm_eval.specs.Evaluation as parts
-use Rattle.esm_eval.specs.Inner.Visit.{KnowsError}
+use Rattle.esm_eval.specs.WalkSteps.{KnowsError}
 use Rattle.esm_eval.proofs.Inner.HostSteps as steps
 use Rattle.esm_eval.proofs.Inner.DeskSteps as desk
 use Rattle.esm_eval.proofs.desk.EvalHostDesk.pass.Goals as goal

@@ -40,3 +40,12 @@ returns-clause-gathered g t c = gathering.gathered (evaluation g.B.Bodies.target
 
 pub gather-requires : goal.gather-requires
 gather-requires g t c κs within = (let less = (gathering.fewer_missing (evaluation g.B.Bodies.targets g.B.Bodies.awaits g.B.Bodies.begun) (lawful g.B.Bodies.targets g.B.Bodies.awaits g.B.Bodies.begun) c.args.self.now c.args.self.now.nodes.stamps (has_one_of c.args.self.now.nodes.stamps c.args.known.now.keys) (has_one_of c.args.self.now.nodes.stamps c.loop-i.known.keys) (has_one_of c.args.self.now.nodes.stamps c.put.new.known.keys) c.waiter-x.result c.loop-i.invariant.gathering.grows (orders.with_order c.args.self.now.nodes.stamps c.loop-i.known.keys c.put.new.known.keys c.in-Some.order c.waiter-x.result c.in_ok-put.ensures (subst (λ o. Joins (evaluation g.B.Bodies.targets g.B.Bodies.awaits g.B.Bodies.begun) c.args.self.now c.loop-i.known.keys c.waiter-x.result o) c.in-Some.is c.joining.ensures).0) (has_at c.args.self.now.nodes.stamps c.in-Some.order c.waiter-x.result (subst (λ o. Joins (evaluation g.B.Bodies.targets g.B.Bodies.awaits g.B.Bodies.begun) c.args.self.now c.loop-i.known.keys c.waiter-x.result o) c.in-Some.is c.joining.ensures).0) (subst (λ o. Joins (evaluation g.B.Bodies.targets g.B.Bodies.awaits g.B.Bodies.begun) c.args.self.now c.loop-i.known.keys c.waiter-x.result o) c.in-Some.is c.joining.ensures).1) in omega (arith, c.decreases, less), (within.0, (within.1, ((late.waiter_linked g.B.Bodies.targets g.B.Bodies.awaits g.B.Bodies.begun g.B.Bodies.linked g.B.Bodies.knows g.B.Bodies.fits c.args.self.now c.requires.fits c.args.y c.loop-i.i c.waiter-x.result c.waiter-x.ensures), (c.requires.joined, (gathering.sound_with (evaluation g.B.Bodies.targets g.B.Bodies.awaits g.B.Bodies.begun) (lawful g.B.Bodies.targets g.B.Bodies.awaits g.B.Bodies.begun) c.args.self.now (has_one_of c.args.self.now.nodes.stamps c.loop-i.known.keys) c.waiter-x.result (has_one_of c.args.self.now.nodes.stamps c.put.new.known.keys) (orders.with_order c.args.self.now.nodes.stamps c.loop-i.known.keys c.put.new.known.keys c.in-Some.order c.waiter-x.result c.in_ok-put.ensures (subst (λ o. Joins (evaluation g.B.Bodies.targets g.B.Bodies.awaits g.B.Bodies.begun) c.args.self.now c.loop-i.known.keys c.waiter-x.result o) c.in-Some.is c.joining.ensures).0) c.loop-i.invariant.gathering.sound (subst (λ o. Joins (evaluation g.B.Bodies.targets g.B.Bodies.awaits g.B.Bodies.begun) c.args.self.now c.loop-i.known.keys c.waiter-x.result o) c.in-Some.is c.joining.ensures).2, ((orders.orders_with c.args.self.now.nodes.stamps c.loop-i.known.keys c.put.new.known.keys c.in-Some.order c.waiter-x.result c.in_ok-put.ensures (subst (λ o. Joins (evaluation g.B.Bodies.targets g.B.Bodies.awaits g.B.Bodies.begun) c.args.self.now c.loop-i.known.keys c.waiter-x.result o) c.in-Some.is c.joining.ensures).0 c.loop-i.invariant.orders), c.requires.fits)))))))
+
+pub repeats-requires-clause-has : goal.repeats-requires-clause-has
+repeats-requires-clause-has g t c = c.requires.fits.have c.args.y c.requires.linked
+
+pub repeats-requires-clause-within : goal.repeats-requires-clause-within
+repeats-requires-clause-within g t c = subst (λ n. c.loop-i.i < n) c.waiter_count-i-end.ensures c.loop-i-test.true
+
+pub loop-i-preserved-then-repeats : goal.loop-i-preserved-then-repeats
+loop-i-preserved-then-repeats g t c = record { gathering = gathering.gathering_again (evaluation g.B.Bodies.targets g.B.Bodies.awaits g.B.Bodies.begun) (lawful g.B.Bodies.targets g.B.Bodies.awaits g.B.Bodies.begun) c.args.self.now c.args.y (has_one_of c.args.self.now.nodes.stamps c.args.known.now.keys) (has_one_of c.args.self.now.nodes.stamps c.loop-i.known.keys) c.loop-i.i c.loop-i.invariant.gathering (c.repeats.ensures c.if-repeats.true); orders = c.loop-i.invariant.orders }

@@ -1,5 +1,4 @@
-use Rattle.std.proofs.Common.{◌<◌, ◌≤◌, ap, subst}
-use Rattle.esm_realm.proofs.Numbers.{drop_none}
+use Rattle.std.proofs.Common.{◌<◌, ◌≤◌, subst}
 use Rattle.esm_eval.specs.Evaluation.{waits}
 use Rattle.esm_eval.specs.Host.{evaluation}
 use Rattle.esm_eval.specs.Inner.Orders.{has_one_of}
@@ -8,7 +7,7 @@ use Rattle.esm_eval.proofs.Inner.LateHost as late
 use Rattle.esm_eval.proofs.host.EvalHost.are_over.Goals as goal
 
 pub loop-k-init : goal.loop-k-init
-loop-k-init g c = ap (λ l. over (evaluation g.B.Bodies.targets g.B.Bodies.awaits g.B.Bodies.begun) c.args.self.now (has_one_of c.args.self.now.nodes.stamps c.args.known.now.keys) l) (drop_none (waits (evaluation g.B.Bodies.targets g.B.Bodies.awaits g.B.Bodies.begun) c.args.self.now c.args.x))
+loop-k-init g c = late.over_passed g.B.Bodies.targets g.B.Bodies.awaits g.B.Bodies.begun g.B.Bodies.linked g.B.Bodies.knows c.args.self.now (has_one_of c.args.self.now.nodes.stamps c.args.known.now.keys) (waits (evaluation g.B.Bodies.targets g.B.Bodies.awaits g.B.Bodies.begun) c.args.self.now c.args.x) c.passed-from.result c.passed-from.ensures
 
 pub wait-y-requires-clause-has : goal.wait-y-requires-clause-has
 wait-y-requires-clause-has g c = c.requires.fits.have c.args.x c.requires.linked

@@ -15,3 +15,6 @@ loop-i-preserved g c = steps.failing_step g.B.Bodies.targets g.B.Bodies.awaits g
 
 pub returns-clause-world : goal.returns-clause-world
 returns-clause-world g c = steps.failing_all g.B.Bodies.targets g.B.Bodies.awaits g.B.Bodies.begun g.B.Bodies.linked g.B.Bodies.knows g.B.Bodies.fits c.args.self.now c.loop-i.self c.args.opened.now (value_of c.args.v.now) c.loop-i.i c.loop-i.invariant c.loop-i-test.false
+
+pub returns-clause-size : goal.returns-clause-size
+returns-clause-size g c = c.loop-i.invariant.long

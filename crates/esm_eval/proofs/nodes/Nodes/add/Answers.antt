@@ -6,7 +6,7 @@ pub invariant_of-self-2 : goal.invariant_of-self-2
 invariant_of-self-2 c =
     let ns = c.self.inside.nodes.items in
     let stamps = c.self.inside.stamps.items in
-    rw c.in_ok-push.ensures.items (growth.keeps_add ns stamps _ c.self.invariant (growth.fresh _ _ refl c.new-waits.ensures.items c.new-waiters.ensures.items) refl)
+    rw c.in_ok-push.ensures.items (growth.keeps_add ns stamps _ c.self.invariant (growth.fresh _ _ refl c.new-waits.ensures.items c.new-waiters.ensures.items) refl refl)
 
 pub returns-clause-ok : goal.returns-clause-ok
 returns-clause-ok c =

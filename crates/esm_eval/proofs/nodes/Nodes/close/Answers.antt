@@ -18,4 +18,4 @@ invariant_of-self c =
     let stamps = c.self.inside.stamps.items in
     let at : slice_get ns c.args.x ≡ Some c.index_mut-node.result.now = tables.reads ns (length ns) c.args.x c.index_mut-node.result.now refl (tables.bound ns stamps c.args.self.now c.args.x c.self.view_is c.requires.has) c.index_mut-node.ensures.value in
     let kept = c.self.invariant.bounded c.args.x c.index_mut-node.result.now at in
-    tables.keeps ns stamps c.args.x c.index_mut-node.result.now (record c.index_mut-node.result.now { phase = c.args.phase; cycle_root = Some c.args.root }) c.self.invariant at (record { root = tables.some_below (length ns) c.args.root (tables.bound ns stamps c.args.self.now c.args.root c.self.view_is c.requires.root); waits = kept.waits; waiters = kept.waiters }) refl
+    tables.keeps ns stamps c.args.x c.index_mut-node.result.now (record c.index_mut-node.result.now { phase = c.args.phase; cycle_root = Some c.args.root }) c.self.invariant at (record { root = tables.some_below (length ns) c.args.root (tables.bound ns stamps c.args.self.now c.args.root c.self.view_is c.requires.root); waits = kept.waits; waiters = kept.waiters }) refl (record { gone = refl; same = refl; stays = λ h. h })

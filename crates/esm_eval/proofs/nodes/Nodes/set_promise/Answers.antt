@@ -17,4 +17,4 @@ invariant_of-self c =
     let stamps = c.self.inside.stamps.items in
     let at : slice_get ns c.args.x ≡ Some c.index_mut.result.now = tables.reads ns (length ns) c.args.x c.index_mut.result.now refl (tables.bound ns stamps c.args.self.now c.args.x c.self.view_is c.requires) c.index_mut.ensures.value in
     let kept = c.self.invariant.bounded c.args.x c.index_mut.result.now at in
-    tables.keeps ns stamps c.args.x c.index_mut.result.now (record c.index_mut.result.now { promise = Some c.args.promise }) c.self.invariant at (record { root = kept.root; waits = kept.waits; waiters = kept.waiters }) refl
+    tables.keeps ns stamps c.args.x c.index_mut.result.now (record c.index_mut.result.now { promise = Some c.args.promise }) c.self.invariant at (record { root = kept.root; waits = kept.waits; waiters = kept.waiters }) refl (record { gone = refl; same = refl; stays = λ h. h })

@@ -1,0 +1,2 @@
+pub mod FreshStores
+pub mod OpenAsks

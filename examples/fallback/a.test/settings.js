@@ -1,0 +1,4 @@
+import { stored } from "./stored.js";
+
+export const language = await stored();
+print("settings: " + language);

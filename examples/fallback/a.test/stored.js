@@ -1,0 +1,3 @@
+export function stored() {
+    return "fr";
+}
