@@ -14,7 +14,9 @@ use esm_machine::{Machine, TurnEnd};
 use esm_ports::SureSink;
 use esm_run::Delivery;
 use std::alloc::Global;
-use std::sync::Arc;
+use std::marker::Sync;
+use std::sync::{Arc, Wait};
+use std::thread::Threads;
 
 // A machine under the empty import map.
 fn new_machine(alloc: Global) -> Result<Machine, Memory> {
@@ -133,48 +135,38 @@ fn ends_so(
     }
 }
 
-#[test]
-fn sites_run_the_same_in_every_order(rt: HostRuntime) -> Result<(), Memory> {
-    let alloc = rt.alloc();
+// In how many orders the deliveries of these sites may come, at most a thousand of each, where each run ends as its row
+// says; else the first site of which one doesn't.
+pub fn orders_of<R: Threads + Wait + Sync>(
+    rt: &R,
+    alloc: Global,
+    rows: &[Row],
+) -> Result<Result<u64, &'static str>, Memory> {
     let mut orders = 0u64;
-    for row in SITES {
+    for row in rows {
         let mut out = SureSink::new(alloc);
-        let report = run_over(&rt, alloc, site(alloc, row.files)?, &mut out)?;
+        let report = run_over(rt, alloc, site(alloc, row.files)?, &mut out)?;
         let mut choices = Vec::new(alloc);
-        for order in 0..1000u64 {
-            assert!(rt;
-                ends_so(alloc, row, &mut choices, &report.taken)?,
-                "{} {order}",
-                row.name
-            );
+        for _ in 0..1000u64 {
+            if !ends_so(alloc, row, &mut choices, &report.taken)? {
+                return Ok(Err(row.name));
+            }
             orders = orders.wrapping_add(1);
             if !next_choices(&mut choices)? {
                 break;
             }
         }
     }
-    assert_eq!(rt; orders, 17);
-    Ok(())
+    Ok(Ok(orders))
 }
 
-// Delivers these files in this order, and gives what the run wrote; none where one wasn't asked for.
-fn written_in_order(
-    alloc: Global,
-    names: &[&str],
-    taken: &[Delivery],
-) -> Result<Option<Vec<u8>>, Memory> {
-    let mut machine = new_machine(alloc)?;
-    for name in names {
-        let url = format!(in alloc; "https://a.test/{name}")?;
-        let Some(place) = machine.asks().iter().position(|ask| ask.is(url.as_str())) else {
-            return Ok(None);
-        };
-        let _ = deliver_at(&mut machine, place, taken)?;
+#[test]
+fn sites_run_the_same_in_every_order(rt: HostRuntime) -> Result<(), Memory> {
+    match orders_of(&rt, rt.alloc(), SITES)? {
+        Ok(orders) => assert_eq!(rt; orders, 17),
+        Err(name) => assert!(rt; false, "{name}"),
     }
-    match ended(alloc, &machine)? {
-        Some((Status::Fulfilled, text)) => Ok(Some(text)),
-        _ => Ok(None),
-    }
+    Ok(())
 }
 
 #[test]
