@@ -29,7 +29,7 @@ use Rattle.esm_world.specs.World.{EntryState, modules_in}
 use Rattle.esm_world.specs.Fits.{IsLinkedModule, IsKnownValue, FitReaction, FitSettled, FitPromise, FitPromises, FitEvent, FitEntry, AreModules}
 use Rattle.esm_world.proofs.FitBodies.{known_out}
 use Rattle.esm_values.specs.Numbering.{numbering, is_total}
-use Rattle.esm_machine.specs.Held.{Held, EntryHeld, Underway, Ended, Failed, entry_by, world_of, IsHeld, with_record, RecordsAreAdded}
+use Rattle.esm_machine.specs.Held.{Held, EntryHeld, Underway, Ended, Failed, renamed_entry, world_of, IsHeld, with_record, RecordsAreAdded}
 use Rattle.esm_values.proofs.Numbered.{numbers_urls}
 use Rattle.esm_machine.specs.Inner.Numbers.{url, number, url_number, number_url}
 use Rattle.esm_machine.proofs.Alike.{rest_alike}
@@ -261,7 +261,7 @@ module _ (us : List Url) (u : Url) (once : EachOnce same_url us) (new : has us u
     events_alike [] h = refl
     events_alike (e ∷ es) h = λ i. event_alike e h.0 i ∷ events_alike es h.1 i
 
-    entry_alike : (e : EntryHeld) → FitEntry linked entries (entry_by F e) → entry_by F e ≡ entry_by G e
+    entry_alike : (e : EntryHeld) → FitEntry linked entries (renamed_entry F e) → renamed_entry F e ≡ renamed_entry G e
     entry_alike Underway h = refl
     entry_alike Ended h = refl
     entry_alike (Failed v) h = ap (λ w. EntryState.Failed w) (value_alike v h)

@@ -10,7 +10,7 @@ use Rattle.esm_body.specs.Fits.{IsKnown, FitsState}
 use Rattle.esm_world.specs.World.{World}
 use Rattle.esm_world.specs.Fits.{IsFit}
 use Rattle.esm_machine.specs.Seen.{Seen, modules, linked, Fits}
-use Rattle.esm_machine.specs.Held.{Held, StandsFor, state_of}
+use Rattle.esm_machine.specs.Held.{Held, StandsFor, body_state}
 
 abbrev pub IsLinkedId : Seen → ℕ → Type 0
 IsLinkedId s m = linked s m ≡ true
@@ -20,7 +20,7 @@ KnowsId s v = IsKnown (modules s) (linked s) v
 
 -- what bodies read and write fits, and nodes and stamps are of linked modules
 pub record FitsById (h : Held) : Type 0 where
-  pub state : FitsState modules linked Fits (state_of h)
+  pub state : FitsState modules linked Fits (body_state h)
   pub nodes : (m : ℕ) → IsNodeOf (IsLinkedId h.seen) (KnowsId h.seen) (node_at h.nodes m)
   pub entered : (m : ℕ) → was_entered (node_at h.nodes m).phase ≡ true → IsLinkedId h.seen m
   pub stamps : All (IsLinkedId h.seen) h.nodes.stamps

@@ -45,10 +45,10 @@ pub record Held : Type 0 where
   pub engine : Engine ℕ
   pub entry : EntryHeld
 
-abbrev pub entry_by : (ℕ → Url) → EntryHeld → EntryState
-entry_by name Underway = entry_state.Underway
-entry_by name Ended = entry_state.Ended
-entry_by name (Failed v) = entry_state.Failed (renamed_value name v)
+abbrev pub renamed_entry : (ℕ → Url) → EntryHeld → EntryState
+renamed_entry name Underway = entry_state.Underway
+renamed_entry name Ended = entry_state.Ended
+renamed_entry name (Failed v) = entry_state.Failed (renamed_value name v)
 
 -- all of it by the names of its modules, where these are the URLs of the records, and these modules are linked, in this order
 abbrev pub world_by : List Url → Held → List Url → World
@@ -63,15 +63,15 @@ world_by urls h linked =
       errors = h.errors;
       cells = renamed_cells n h.cells;
       engine = renamed_engine n h.engine;
-      entry = entry_by n.name h.entry;
+      entry = renamed_entry n.name h.entry;
     }
 
 abbrev pub world_of : Held → List Url → World
 world_of h linked = world_by h.seen.urls h linked
 
 -- what bodies read and write of it
-abbrev pub state_of : Held → State ℕ Seen
-state_of h = record { engine = h.engine; cells = h.cells; outer = record { promises = h.promises; errors = h.errors; imports = h.seen } }
+abbrev pub body_state : Held → State ℕ Seen
+body_state h = record { engine = h.engine; cells = h.cells; outer = record { promises = h.promises; errors = h.errors; imports = h.seen } }
 
 -- what it holds is that of the world. own: it doesn't keep the order in which modules were linked
 pub record StandsFor (h : Held) (w : World) : Type 0 where

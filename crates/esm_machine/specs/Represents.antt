@@ -14,11 +14,11 @@ use Rattle.esm_loads.specs.LoadsView.{every_form}
 use Rattle.esm_loads.specs.Arrival.{open_asks}
 use Rattle.esm_body.specs.Acts.{Displays}
 use Rattle.esm_world.specs.World.{World, opening, stopped}
-use Rattle.esm_world.specs.LastLine.{Ending, Stopped, ending_by, status_of}
+use Rattle.esm_world.specs.LastLine.{Ending, Stopped, ending_by, exit_status}
 use Rattle.esm_world.specs.Turn.{Turn}
 use Rattle.esm_world.specs.Run.{Runs, Shown, StandardRun, IsAllowed}
 use Rattle.esm_machine.specs.Seen.{names, modules}
-use Rattle.esm_machine.specs.Held.{Held, EntryHeld, Underway, Ended, Failed, StandsFor, IsHalted, entry_by, state_of, opening_held}
+use Rattle.esm_machine.specs.Held.{Held, EntryHeld, Underway, Ended, Failed, StandsFor, IsHalted, renamed_entry, body_state, opening_held}
 
 -- how a turn ends early: by a limit (`Fault`), or because memory ran out
 abbrev pub TurnEnd : Type 0
@@ -84,7 +84,7 @@ abbrev pub asks_of : State → List Url
 asks_of m = asks_by_stop m.stopped m.held.seen.loading
 
 abbrev pub ending_by_stop : Option TurnEnd → Held → Option Ending
-ending_by_stop None h = ending_by None (open_asks h.seen.loading) (entry_by (names h.seen).name h.entry)
+ending_by_stop None h = ending_by None (open_asks h.seen.loading) (renamed_entry (names h.seen).name h.entry)
 ending_by_stop (Some (ends.Fault limit)) h = Some (Stopped limit)
 ending_by_stop (Some ends.Memory) h = None
 
@@ -112,7 +112,7 @@ abbrev pub IsLineBy : Held → List Url → EntryHeld → Text → Type 0
 IsLineBy h (u ∷ us) entry line = line ≡ []
 IsLineBy h [] Underway line = line ≡ codes "Unsettled"
 IsLineBy h [] Ended line = line ≡ []
-IsLineBy h [] (Failed v) line = (text : Text) × Displays modules (state_of h) v text × (line ≡ codes "Uncaught " ++ text)
+IsLineBy h [] (Failed v) line = (text : Text) × Displays modules (body_state h) v text × (line ≡ codes "Uncaught " ++ text)
 
 abbrev pub IsLineByStop : Option TurnEnd → Held → Text → Type 0
 IsLineByStop None h line = IsLineBy h (open_asks h.seen.loading) h.entry line
@@ -128,7 +128,7 @@ pub record Tells (m : State) (what : Shown) : Type 0 where
   pub last_line : (line : Text) → IsLineOf m line → what.last_line ≡ line
   pub asks : what.asks ≡ asks_of m
   pub log : what.log ≡ m.held.engine.log
-  pub status : what.status ≡ option_map status_of (ending_of m)
+  pub status : what.status ≡ option_map exit_status (ending_of m)
   pub ended : what.ended ≡ is_some (ending_of m)
   pub stopped : StoppedAs m.stopped what
 

@@ -47,7 +47,7 @@ pub record Fits (o : Outer ℕ Seen) : Type 0 where
   pub have_ids : (u : Url) → has o.imports.linked u ≡ true → has o.imports.urls u ≡ true
 
 -- ECMA-262, EvaluateImportCall, from a module by its number: no module gets a record, and none is linked
-pub record Begins
+pub record BeginsById
     (o : Outer ℕ Seen) (m : ℕ) (specifier : Text) (promise : ℕ) (end : Result (Unit {0}) Limit) (after : Outer ℕ Seen) : Type 0 where
   pub urls : after.imports.urls ≡ o.imports.urls
   pub linked : after.imports.linked ≡ o.imports.linked

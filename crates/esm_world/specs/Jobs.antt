@@ -14,8 +14,8 @@ use Rattle.esm_eval.specs.Evaluate.{Evaluates}
 use Rattle.esm_eval.specs.BodyEnd.{Rejects, Fulfills}
 use Rattle.esm_body.specs.Bodies.{ResumesBody}
 use Rattle.esm_body.specs.State.{State}
-use Rattle.esm_world.specs.World.{World, EntryState, Ended, Failed, stopped, modules_in, state_of, with_state}
-use Rattle.esm_world.specs.Layers.{Executes, evaluation, LinksTo, with_linked, with_promises}
+use Rattle.esm_world.specs.World.{World, EntryState, Ended, Failed, stopped, modules_in, body_state, with_state}
+use Rattle.esm_world.specs.Layers.{CallsForBody, evaluation, LinksTo, with_linked, with_promises}
 
 abbrev pub with_entry : World → EntryState → World
 with_entry w e = record w { entry = e }
@@ -52,7 +52,7 @@ pub record EvaluatesLoad (w : World) (load : ℕ) (answer : Result ℕ Limit) (a
   pub root : Url
   pub linked : List Url
   pub links : LinksLoad w load root None linked
-  pub evaluates : Evaluates evaluation Executes (with_linked w linked) root answer after
+  pub evaluates : Evaluates evaluation CallsForBody (with_linked w linked) root answer after
 
 -- ECMA-262, NewPromiseReactionJob: what a reaction does in its job, where its promise was settled so
 pub data Reacts : World → Reaction Url → Settled (Value Url) → World → Type 0 where
@@ -78,12 +78,12 @@ pub data Reacts : World → Reaction Url → Settled (Value Url) → World → T
       → Reacts w (Evaluated s) (Rejected v) (settle_promise w promise (Rejected v))
   -- ECMA-262, AsyncModuleExecutionFulfilled and AsyncModuleExecutionRejected
   body_ended : {w after : World} {m : Url} {v : Value Url} {end : Result (Unit {0}) Limit}
-      → Fulfills evaluation Executes w m end after → Reacts w (BodyEnd m) (Fulfilled v) after
+      → Fulfills evaluation CallsForBody w m end after → Reacts w (BodyEnd m) (Fulfilled v) after
   body_threw : {w after : World} {m : Url} {v : Value Url} → Rejects evaluation w m v after
       → Reacts w (BodyEnd m) (Rejected v) after
   -- ECMA-262, Await: the body goes on
   resumes : {w : World} {m : Url} {how : Settled (Value Url)} {end : Result (Unit {0}) Limit} {s : State Url Loading}
-      → ResumesBody same_url modules_in BeginsImport (state_of w) m how end s → Reacts w (Await m) how (with_state w s)
+      → ResumesBody same_url modules_in BeginsImport (body_state w) m how end s → Reacts w (Await m) how (with_state w s)
 
 -- HTML, "perform a microtask checkpoint": jobs run, first in, first out, until none is left or a limit stops the world
 pub data Jobs : World → World → Type 0 where

@@ -7,7 +7,7 @@ use Rattle.esm_values.specs.Value.{Value}
 use Rattle.esm_expr_eval.specs.Sizes.{size}
 use Rattle.esm_promise.specs.Promises.{Promise, Pending, Done, Promises, Settled, Job, next_job}
 use Rattle.esm_promise.specs.Reactions.{Reaction, Loaded, EntryLoaded}
-use Rattle.esm_body.specs.Rest.{Use, Part, Rest, count, end, more}
+use Rattle.esm_body.specs.Rest.{Use, Part, Rest, stmt_count, end, more}
 use Rattle.esm_body.specs.Rest.{Part as part}
 use Rattle.esm_body.specs.Rest.{Use as use_of}
 use Rattle.esm_body.specs.State.{Standing}
@@ -18,7 +18,7 @@ use Rattle.esm_world.specs.Jobs.{Reacts}
 -- ---- how much of a body remains
 
 abbrev pub weight_use : Use → ℕ
-weight_use (use_of.Chooses ss others) = suc (count ss + count others)
+weight_use (use_of.Chooses ss others) = suc (stmt_count ss + stmt_count others)
 weight_use (use_of.Awaits purpose) = suc (weight_use purpose)
 weight_use _ = 0
 
@@ -28,7 +28,7 @@ abbrev mutual
   weight_part (part.Does u e) = weight_use u + size e
   weight_part (part.Stands u) = weight_use u + 1
   weight_part (part.In scope rest) = suc (weight_rest rest)
-  weight_part (part.Tries rest x handler) = suc (suc (weight_rest rest + count handler))
+  weight_part (part.Tries rest x handler) = suc (suc (weight_rest rest + stmt_count handler))
 
   pub weight_rest : {V : Type 0} → Rest V → ℕ
   weight_rest end = 0

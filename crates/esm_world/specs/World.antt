@@ -43,8 +43,8 @@ pub record World : Type 0 where
   pub engine : Engine Url
   pub entry : EntryState
 
-abbrev pub world_of : Host → Bool → World
-world_of h trace = record {
+abbrev pub world_over : Host → Bool → World
+world_over h trace = record {
   loading = h.imports;
   linked = [];
   nodes = λ u. untouched;
@@ -59,7 +59,7 @@ world_of h trace = record {
 -- the world in which the entry alone is asked, under this import map, where these are the module texts that can be run, with or
 -- without trace lines
 abbrev pub opening : Maps → (List Item → Bool) → Url → Bool → World
-opening maps built entry trace = world_of (opening_host maps built entry) trace
+opening maps built entry trace = world_over (opening_host maps built entry) trace
 
 -- own: the limit that has stopped the world: one that loading met, or one that a body met
 abbrev pub stopped : World → Option Limit
@@ -92,8 +92,8 @@ abbrev pub with_host : World → Host → World
 with_host w h = record w { loading = h.imports; promises = h.promises; errors = h.errors }
 
 -- those of bodies
-abbrev pub state_of : World → State Url Loading
-state_of w = record { engine = w.engine; cells = w.cells; outer = host_of w }
+abbrev pub body_state : World → State Url Loading
+body_state w = record { engine = w.engine; cells = w.cells; outer = host_of w }
 
 abbrev pub with_state : World → State Url Loading → World
 with_state w s = record w {
