@@ -139,10 +139,10 @@ lawful = record {
   names = record { own = own_text; equal = same_text };
   put = λ w x n. record { node = λ y. refl; stamps = refl; begun = λ y. refl; awaits = λ y. refl };
   add_stamp = λ w x. record { nodes = λ y. refl; stamps = refl; begun = λ y. refl; awaits = λ y. refl };
-  make_promise = λ w. record { nodes = λ y. refl; stamps = refl; begun = λ y. refl; awaits = λ y. refl };
-  make_body_promise = λ w x. record { nodes = λ y. refl; stamps = refl; begun = λ y. refl; awaits = λ y. refl };
-  fulfill = λ w p. record { nodes = λ y. refl; stamps = refl; begun = λ y. refl; awaits = λ y. refl };
-  reject = λ w p v. record { nodes = λ y. refl; stamps = refl; begun = λ y. refl; awaits = λ y. refl };
+  make_promise = λ w. record { far = record { nodes = λ y. refl; stamps = refl; begun = λ y. refl }; awaits = λ y. refl };
+  make_body_promise = λ w x. record { far = record { nodes = λ y. refl; stamps = refl; begun = λ y. refl }; awaits = λ y. refl };
+  fulfill = λ w p. record { far = record { nodes = λ y. refl; stamps = refl; begun = λ y. refl }; awaits = λ y. refl };
+  reject = λ w p v. record { far = record { nodes = λ y. refl; stamps = refl; begun = λ y. refl }; awaits = λ y. refl };
 }
 
 nodes_of : {v w : World} {c : Call Url} {r : Result (CallAnswer (Value Url) c) Limit} → CallsForBody v c r w → (w.nodes ≡ v.nodes) × (w.stamps ≡ v.stamps)
