@@ -11,12 +11,13 @@ use Rattle.esm_promise.specs.Reactions.{Reaction}
 use Rattle.esm_promise.specs.Renaming.{renamed, renamed_job, renamed_settled}
 use Rattle.esm_promise.proofs.Renamed.{follows_names}
 use Rattle.esm_world.specs.World.{World}
+use Rattle.esm_world.specs.Jobs.{IsJob}
 use Rattle.esm_world.specs.Layers as layers
 use Rattle.esm_world.specs.Sound.{WorldsStaySound}
 use Rattle.esm_machine.specs.Represents.{TurnEnd}
 use Rattle.esm_machine.specs.Seen.{names}
 use Rattle.esm_machine.specs.Steps as steps
-use Rattle.esm_machine.specs.Inner.Leads.{DoesJob, IsJob, LeadsByJob}
+use Rattle.esm_machine.specs.Inner.Leads.{DoesJob, LeadsByJob}
 use Rattle.esm_machine.specs.Inner.Parts.{AreInOrder, AreLive, AreSound, MayDo, seen_in, parts_with_promises}
 use Rattle.esm_machine.specs.Machine.{held_of}
 use Rattle.esm_machine.specs.declared.parts.Parts.{Parts}

@@ -417,7 +417,7 @@ job_within w mid r rest how few p live = (reacts_less p live).within few
 -- as a law
 pub jobs_lower : JobsLower
 jobs_lower = record {
-  steps = λ w after d. (reacts_less d.reacts d.live).steps;
-  within = λ w after d few. (reacts_less d.reacts d.live).within few;
-  less = λ w after d e. let q = (reacts_less d.reacts d.live).quiet e in let n = next_queue w.promises d.rest d.job d.first in omega (arith, q, n);
+  steps = λ w after d live. (reacts_less d.reacts live).steps;
+  within = λ w after d live few. (reacts_less d.reacts live).within few;
+  less = λ w after d live e. let q = (reacts_less d.reacts live).quiet e in let n = next_queue w.promises d.left d.job d.first in omega (arith, q, n);
 }

@@ -1,5 +1,5 @@
 -- The world: one record of the parts of all layers, each as its owner defines it. own: a module is named by its URL.
-use Rattle.std.specs.Prelude.{ℕ, Bool, List, [], length, slice_index_or, Option}
+use Rattle.std.specs.Prelude.{ℕ, Bool, List, [], length, Option}
 use Rattle.std.specs.Option.{option_or}
 use Rattle.esm_tree.specs.Syntax.{Item}
 use Rattle.esm_base.specs.declared.limits.Limit.{Limit}
@@ -13,6 +13,7 @@ use Rattle.esm_promise.specs.Reactions.{Reaction}
 use Rattle.esm_env.specs.Modules.{Modules}
 use Rattle.esm_env.specs.Cells.{Cells, no_cells}
 use Rattle.esm_loads.specs.Loading.{Loading, targets, body}
+use Rattle.esm_loads.specs.LoadsView.{url_at}
 use Rattle.esm_loads.specs.Host.{Host, opening_host}
 use Rattle.esm_eval.specs.Nodes.{Node, untouched}
 use Rattle.esm_body.specs.State.{Engine, State, opening_engine}
@@ -67,11 +68,7 @@ stopped w = option_or w.loading.stopped w.engine.stopped
 
 -- ---- modules
 
--- the URL with this number: a URL's number is its place in the order of asking
-abbrev pub url_at : List Url → ℕ → Url
-url_at urls n = slice_index_or urls n []
-
--- the modules that loading has brought. ECMA-262, GetImportedModule
+-- the modules that loading has brought; a URL's number is its place in the order of asking. ECMA-262, GetImportedModule
 abbrev pub modules_in : Loading → Modules Url
 modules_in l = record {
   url = λ u. u;

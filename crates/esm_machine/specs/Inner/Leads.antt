@@ -12,7 +12,7 @@ use Rattle.esm_values.specs.Errors.{next_error}
 use Rattle.esm_values.specs.Code.{value_of}
 use Rattle.esm_values.specs.declared.value.Value.{Value}
 use Rattle.esm_values.specs.declared.value.PromiseId.{PromiseId}
-use Rattle.esm_promise.specs.Promises.{Promises, Settled, Fulfilled, Rejected, Job, next_job, register, settle, settled}
+use Rattle.esm_promise.specs.Promises.{Settled, Fulfilled, Rejected, next_job, register, settle, settled}
 use Rattle.esm_promise.specs.Reactions.{Reaction, EntryDone, Evaluated}
 use Rattle.esm_loads.specs.Arrival.{AnswersNext, next}
 use Rattle.esm_loads.specs.Host.{Host}
@@ -24,7 +24,7 @@ use Rattle.esm_eval.specs.Evaluate.{Evaluates}
 use Rattle.esm_world.specs.World.{World, stopped, host_of, with_host}
 use Rattle.esm_world.specs.Layers as layers
 use Rattle.esm_world.specs.Layers.{CallsForBody, evaluation, LinksTo, with_linked}
-use Rattle.esm_world.specs.Jobs.{Reacts, Jobs, EvaluatesLoad, LinksLoad, link_failed, new_error}
+use Rattle.esm_world.specs.Jobs.{Reacts, Jobs, IsJob, EvaluatesLoad, LinksLoad, link_failed, new_error}
 use Rattle.esm_world.specs.Turn.{fetched}
 use Rattle.esm_machine.specs.Held.{EntryHeld, Ended, Failed, IsHalted}
 use Rattle.esm_machine.specs.Represents.{TurnEnd}
@@ -132,16 +132,6 @@ IsFetched u c w after = after ≡ fetched w u c
 -- the job of this reaction is done, whose promise was settled so
 abbrev pub DoesJob : Parts → Reaction ℕ → Settled (value.Value ℕ) → Result (Unit {0}) TurnEnd → Parts → Type 0
 DoesJob old r how result new = LeadsFrom old (λ w. Reacts w (reaction_in old r) (settled_in old how)) result new
-
--- the first job is taken and done
-pub record IsJob (w after : World) : Type 0 where
-  pub live : stopped w ≡ None
-  pub job : Job (Reaction Url)
-  pub left : Promises (Reaction Url) (value.Value Url)
-  pub how : Settled (value.Value Url)
-  pub first : next_job w.promises ≡ Some (job, left)
-  pub settled_so : settled left job.promise ≡ Some how
-  pub reacts : Reacts (layers.with_promises w left) job.reaction how after
 
 -- a job has led to the world that the parts are in, or none was left
 abbrev pub LeadsByJob : World → Result Bool TurnEnd → Parts → Type 0

@@ -47,7 +47,8 @@ use Rattle.esm_world.specs.World.{World, Ended, opening, modules_in, body_state,
 use Rattle.esm_world.specs.Layers.{CallsForBody, evaluation, with_linked, with_promises}
 use Rattle.esm_world.specs.Jobs.{Jobs, Reacts, LinksLoad, EvaluatesLoad, with_reaction, with_entry, settle_promise, link_failed, new_error}
 use Rattle.esm_world.specs.Turn.{Tasks, Turn, fetched}
-use Rattle.esm_world.specs.Examples.{main_url, b_url, all_built, catching_main, import_of, imports_name}
+use Rattle.esm_world.specs.Examples.{main_url, b_url, catching_main, import_of, imports_name}
+use Rattle.esm_loads.specs.LoadsView.{every_form}
 use Rattle.esm_world.specs.FailingRuns.{unlinkable_b, CatchesFault}
 use Rattle.esm_world.proofs.runs.Steps.{Here, Runs, entry_of, arrived, turn_from, no_names, still_async, not_ready, some_names, no_export_of, utf8_x}
 use Rattle.esm_base.specs.DefaultExport.{or_star_default}
@@ -76,7 +77,7 @@ items = x.Statement (x.TryCatch tried e_name handler) ∷ []
 -- ---- the first turn: the importing module stands at its await
 
 abbrev w0 : World
-w0 = opening no_maps all_built main_url false
+w0 = opening no_maps every_form main_url false
 
 abbrev w1 : World
 w1 = arrived w0 main_url 52 (entry_of items [])

@@ -50,7 +50,8 @@ use Rattle.esm_world.specs.World.{World, Ended, opening, modules_in, body_state,
 use Rattle.esm_world.specs.Layers.{CallsForBody, evaluation, with_linked, with_promises}
 use Rattle.esm_world.specs.Jobs.{Jobs, Reacts, LinksLoad, EvaluatesLoad, with_reaction, with_entry}
 use Rattle.esm_world.specs.Turn.{Tasks, Turn, fetched}
-use Rattle.esm_world.specs.Examples.{main_url, b_url, all_built, catching_main, CatchesImport, import_of}
+use Rattle.esm_world.specs.Examples.{main_url, b_url, catching_main, CatchesImport, import_of}
+use Rattle.esm_loads.specs.LoadsView.{every_form}
 use Rattle.esm_world.proofs.runs.Steps.{Here, Runs, entry_of, arrived, turn_from, no_names, still_async, not_ready}
 
 abbrev e_name : List ℕ
@@ -68,7 +69,7 @@ items = x.Statement (x.TryCatch tried e_name handler) ∷ []
 -- ---- the first turn: the importing module stands at its await
 
 abbrev w0 : World
-w0 = opening no_maps all_built main_url false
+w0 = opening no_maps every_form main_url false
 
 abbrev w1 : World
 w1 = arrived w0 main_url 52 (entry_of items [])

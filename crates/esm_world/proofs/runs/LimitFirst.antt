@@ -24,7 +24,8 @@ use Rattle.esm_world.specs.World.{World, Failed, opening, with_host, host_of}
 use Rattle.esm_world.specs.Layers.{with_promises}
 use Rattle.esm_world.specs.Jobs.{Jobs, Reacts, with_entry}
 use Rattle.esm_world.specs.Turn.{Tasks, Turn, fetched}
-use Rattle.esm_world.specs.Examples.{main_url, b_url, all_built}
+use Rattle.esm_world.specs.Examples.{main_url, b_url}
+use Rattle.esm_loads.specs.LoadsView.{every_form}
 use Rattle.esm_world.specs.FailingRuns.{c_url, two_imports, too_long, LimitFirst}
 use Rattle.esm_world.proofs.runs.Steps.{entry_of, arrived, turn_from, no_names}
 
@@ -34,7 +35,7 @@ items = x.ImportEffect (codes "./b") ∷ x.ImportEffect (codes "./c") ∷ []
 -- ---- the first turn: both URLs are asked for
 
 abbrev w0 : World
-w0 = opening no_maps all_built main_url false
+w0 = opening no_maps every_form main_url false
 
 abbrev w1 : World
 w1 = arrived w0 main_url 27 (entry_of items (b_url ∷ c_url ∷ []))

@@ -58,7 +58,8 @@ use Rattle.esm_world.specs.World.{World, Ended, opening, modules_in, body_state,
 use Rattle.esm_world.specs.Layers.{CallsForBody, evaluation, with_linked, with_promises}
 use Rattle.esm_world.specs.Jobs.{Jobs, Reacts, LinksLoad, EvaluatesLoad, with_reaction, with_entry, settle_promise}
 use Rattle.esm_world.specs.Turn.{Tasks, Turn, fetched}
-use Rattle.esm_world.specs.Examples.{main_url, b_url, all_built, imports_name, print_x, live_main, live_b, LiveBinding}
+use Rattle.esm_world.specs.Examples.{main_url, b_url, imports_name, print_x, live_main, live_b, LiveBinding}
+use Rattle.esm_loads.specs.LoadsView.{every_form}
 use Rattle.esm_world.proofs.runs.Steps.{Here, Runs, entry_of, arrived, turn_from, no_names, some_names, utf8_x, utf8_bump, own_export}
 
 abbrev main_items : List Item
@@ -72,7 +73,7 @@ b_items = x.ExportStatement (x.Let (x.binding (codes "x") (x.plain (x.Text (code
 -- ---- the first turn: the module asks for what it imports
 
 abbrev w0 : World
-w0 = opening no_maps all_built main_url false
+w0 = opening no_maps every_form main_url false
 
 abbrev w1 : World
 w1 = arrived w0 main_url 56 (entry_of main_items (b_url ∷ []))

@@ -33,7 +33,8 @@ use Rattle.esm_world.specs.World.{World, Failed, opening, modules_in, with_host,
 use Rattle.esm_world.specs.Layers.{with_promises}
 use Rattle.esm_world.specs.Jobs.{Jobs, Reacts, LinksLoad, link_failed, new_error, with_entry}
 use Rattle.esm_world.specs.Turn.{Tasks, Turn, fetched}
-use Rattle.esm_world.specs.Examples.{main_url, b_url, all_built, default_main, empty_b, NoSuchExport}
+use Rattle.esm_world.specs.Examples.{main_url, b_url, default_main, empty_b, NoSuchExport}
+use Rattle.esm_loads.specs.LoadsView.{every_form}
 use Rattle.esm_world.proofs.runs.Steps.{entry_of, arrived, turn_from, no_names, some_names, utf8_d, no_export_of}
 
 abbrev main_items : List Item
@@ -45,7 +46,7 @@ b_items = []
 -- ---- the first turn: the module asks for what it imports
 
 abbrev w0 : World
-w0 = opening no_maps all_built main_url false
+w0 = opening no_maps every_form main_url false
 
 abbrev w1 : World
 w1 = arrived w0 main_url 20 (entry_of main_items (b_url ∷ []))

@@ -46,7 +46,8 @@ use Rattle.esm_world.specs.World.{World, Ended, opening, body_state, with_state,
 use Rattle.esm_world.specs.Layers.{CallsForBody, evaluation, with_linked, with_promises}
 use Rattle.esm_world.specs.Jobs.{Jobs, Reacts, LinksLoad, EvaluatesLoad, with_reaction, with_entry, settle_promise}
 use Rattle.esm_world.specs.Turn.{Tasks, Turn, fetched}
-use Rattle.esm_world.specs.Examples.{main_url, all_built, waiting_main, WaitsForItself, self_main, ImportsItself, prints, import_of}
+use Rattle.esm_world.specs.Examples.{main_url, waiting_main, WaitsForItself, self_main, ImportsItself, prints, import_of}
+use Rattle.esm_loads.specs.LoadsView.{every_form}
 use Rattle.esm_world.proofs.runs.Steps.{Here, Runs, entry_of, arrived, turn_from, printing, prints_text, no_names}
 
 -- ---- it is awaited
@@ -55,7 +56,7 @@ abbrev waiting_items : List Item
 waiting_items = prints (codes "1") ∷ x.Statement (x.Await (import_of (codes "./m"))) ∷ prints (codes "2") ∷ []
 
 abbrev w0 : World
-w0 = opening no_maps all_built main_url false
+w0 = opening no_maps every_form main_url false
 
 abbrev w1 : World
 w1 = arrived w0 main_url 44 (entry_of waiting_items [])

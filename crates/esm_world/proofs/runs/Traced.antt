@@ -35,7 +35,8 @@ use Rattle.esm_world.specs.World.{World, Ended, opening, body_state, with_state,
 use Rattle.esm_world.specs.Layers.{CallsForBody, evaluation, with_linked, with_promises}
 use Rattle.esm_world.specs.Jobs.{Jobs, Reacts, LinksLoad, EvaluatesLoad, with_reaction, with_entry, settle_promise}
 use Rattle.esm_world.specs.Turn.{Tasks, Turn, fetched}
-use Rattle.esm_world.specs.Examples.{main_url, b_url, all_built, cycle_main, printing_b, prints}
+use Rattle.esm_world.specs.Examples.{main_url, b_url, cycle_main, printing_b, prints}
+use Rattle.esm_loads.specs.LoadsView.{every_form}
 use Rattle.esm_world.specs.TracedRun.{TraceLines}
 use Rattle.esm_world.proofs.runs.Steps.{Here, Runs, entry_of, arrived, turn_from, printing, prints_text, no_names}
 
@@ -48,7 +49,7 @@ b_items = prints (codes "b") ∷ []
 -- ---- the first turn: the module asks for what it imports
 
 abbrev w0 : World
-w0 = opening no_maps all_built main_url true
+w0 = opening no_maps every_form main_url true
 
 abbrev w1 : World
 w1 = arrived w0 main_url 25 (entry_of main_items (b_url ∷ []))
