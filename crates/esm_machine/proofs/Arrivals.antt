@@ -141,8 +141,7 @@ module _ (agrees : SharedSetAgrees) (ends : SharedSetEnds) (h after : Held) (w :
   early_held = record {
     fits = early_fit;
     covered = record {
-      apart = k.apart;
-      have_ids = λ v e. k.have_ids v (sym (s.stands.linked v) ∙ e);
+      ids = record { apart = k.ids.apart; have_ids = λ v e. k.ids.have_ids v (sym (s.stands.linked v) ∙ e) };
       nodes = k.nodes;
       cells = k.cells;
     };

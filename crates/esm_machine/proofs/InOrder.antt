@@ -10,8 +10,7 @@ module _ (p : Parts) (o : AreInOrder p) where
   with_entry_in_order e = record {
     whole = o.whole;
     nodes = o.nodes;
-    apart = o.apart;
-    have_ids = o.have_ids;
+    ids = o.ids;
     scopes = o.scopes;
     standing = o.standing;
     between = o.between;
@@ -37,8 +36,7 @@ module _ (p : Parts) (o : AreInOrder p) where
   with_promises_in_order ps = record {
     whole = o.whole;
     nodes = o.nodes;
-    apart = o.apart;
-    have_ids = o.have_ids;
+    ids = o.ids;
     scopes = o.scopes;
     standing = o.standing;
     between = begun_with ps;

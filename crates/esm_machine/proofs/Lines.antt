@@ -28,7 +28,7 @@ use Rattle.esm_machine.proofs.FitsById.{worlds_fit_by_id}
 
 module _ (p : Parts) (s : AreSound p) where
   fits_by_id : FitsById (held_of p)
-  fits_by_id = worlds_fit_by_id (held_of p) s.world s.live.stands s.sound.ready.fit s.order.apart s.order.have_ids
+  fits_by_id = worlds_fit_by_id (held_of p) s.world s.live.stands s.sound.ready.fit s.order.ids
 
   are_linked : AreLinked (modules (seen_in p)) (linked (seen_in p))
   are_linked = imports_are_lawful.links (body_state (held_of p)).outer fits_by_id.state.whole

@@ -128,8 +128,7 @@ module _ (p : Parts) (es : Errors) (o : AreInOrder p) where
   with_errors_in_order = record {
     whole = o.whole;
     nodes = o.nodes;
-    apart = o.apart;
-    have_ids = o.have_ids;
+    ids = o.ids;
     scopes = o.scopes;
     standing = o.standing;
     between = begun_with_errors;
@@ -198,8 +197,7 @@ module _ (p : Parts) (i : Imported) (e : Envs) (loading : (seen_of i).loading �
   linked_in_order o k = record {
     whole = k.whole;
     nodes = o.nodes ∙ ap length (sym urls);
-    apart = subst (λ (us : List Url). EachOnce same_url us) (sym urls) o.apart;
-    have_ids = linked_have_ids i;
+    ids = record { apart = subst (λ (us : List Url). EachOnce same_url us) (sym urls) o.ids.apart; have_ids = linked_have_ids i };
     scopes = k.scopes;
     standing = stand_still p.host.bodies.engine.standing.items o.standing;
     between = begun_still o.between;

@@ -27,7 +27,7 @@ second_none (Some other) e h = absurd cc
 
 module _ (p : Parts) (r : TakeCalls p) where
   pub ready_fits : FitsById (held_of p)
-  ready_fits = worlds_fit_by_id (held_of p) r.world r.live.stands r.ready.fit r.order.apart r.order.have_ids
+  ready_fits = worlds_fit_by_id (held_of p) r.world r.live.stands r.ready.fit r.order.ids
 
   pub engine_ready : TakesBodies modules linked Fits BeginsById p.host.bodies.engine (scopes_by p.host.bodies) p.host.promises p.host.bodies.errors (seen_in p)
   engine_ready = record { state = ready_fits.state; made = r.order.scopes.right; standing = r.order.standing }
@@ -42,7 +42,7 @@ module _ (p : Parts) (r : TakeCalls p) where
 
   -- each linked module has a node
   pub has_node : (m : ℕ) → linked (seen_in p) m ≡ true → m < size p.host.nodes
-  has_node m l = subst (λ n. m < n) (sym r.order.nodes) (below (seen_in p).urls m (r.order.have_ids ((names (seen_in p)).name m) l))
+  has_node m l = subst (λ n. m < n) (sym r.order.nodes) (below (seen_in p).urls m (r.order.ids.have_ids ((names (seen_in p)).name m) l))
 
   pub host_fits : HostFits FitsBodies linked_by KnowsBy p.host
   host_fits = record {

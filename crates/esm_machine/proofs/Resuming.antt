@@ -91,8 +91,7 @@ module _ (p : Parts) (ps : Numbered) (b : BodyHost) (m : ℕ) (how : Settled (Va
     resumed_in_order = record {
       whole = fits.whole;
       nodes = a.order.nodes ∙ ap length (sym same.urls);
-      apart = subst (λ us. EachOnce same_url us) (sym same.urls) a.order.apart;
-      have_ids = linked_have_ids b.imports;
+      ids = record { apart = subst (λ us. EachOnce same_url us) (sym same.urls) a.order.ids.apart; have_ids = linked_have_ids b.imports };
       scopes = scopes;
       standing = ready.standing;
       between = between;

@@ -1,8 +1,7 @@
 -- What a machine holds between two jobs, by ids, and the worlds that it stands for.
 use Rattle.std.specs.Prelude.{◌≡◌, ◌≤◌, ℕ, Bool, true, false, List, [], ◌∷◌, ◌++◌, map, length, Some, None}
 use Rattle.esm_base.specs.declared.limits.Limit.{Limit}
-use Rattle.esm_base.specs.Lists.{EachOnce}
-use Rattle.esm_base.specs.Urls.{Url, has, same_url}
+use Rattle.esm_base.specs.Urls.{Url, has}
 use Rattle.esm_import_map.specs.ImportMap.{Maps}
 use Rattle.esm_values.specs.Value.{Value}
 use Rattle.esm_values.specs.Errors.{Errors}
@@ -25,7 +24,7 @@ use Rattle.esm_world.specs.World.{World, EntryState, opening, stopped}
 use Rattle.esm_world.specs.World.{EntryState as entry_state}
 use Rattle.esm_world.specs.Fits.{FitsWorld}
 use Rattle.esm_values.specs.Numbering.{numbering, is_total}
-use Rattle.esm_machine.specs.Seen.{Seen}
+use Rattle.esm_machine.specs.Seen.{Seen, HaveIds}
 
 -- how far the entry has come. own
 pub data EntryHeld : Type 0 where
@@ -87,8 +86,7 @@ pub record IsHalted (limit : Limit) (log : List ℕ) (w : World) : Type 0 where
 
 -- the records have URLs that differ, among them those of what is linked, and nodes and cells are of modules that have a record
 pub record RecordsCover (h : Held) (linked : List Url) : Type 0 where
-  pub apart : EachOnce same_url h.seen.urls
-  pub have_ids : (u : Url) → has linked u ≡ true → has h.seen.urls u ≡ true
+  pub ids : HaveIds h.seen.urls linked
   pub nodes : length h.nodes.nodes ≤ length h.seen.urls
   pub cells : (m : ℕ) (x : List ℕ) → length h.seen.urls ≤ m → h.cells m x ≡ None
 

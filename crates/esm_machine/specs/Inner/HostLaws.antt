@@ -176,8 +176,7 @@ makes_end o m f l =
       modules = f.modules;
       host = subst (FitsHost s.linked s.loading.entries)
           (λ i. record (host o) { promises = sym ((follows_names (names s).name).makes o.promises (BodyEnd m ∷ [])) i }) fit;
-      apart = f.apart;
-      have_ids = f.have_ids;
+      ids = f.ids;
     }
 
 abbrev pub outer : Outside BodyHost → Outer ℕ Seen

@@ -125,8 +125,7 @@ module _ (o : Outer ℕ Seen) (f : Fits o) where
     modules = f.modules;
     host = subst
         (FitsHost S.linked S.loading.entries) e k;
-    apart = f.apart;
-    have_ids = f.have_ids;
+    ids = f.ids;
   }
 
   links : AreLinked (modules S) (linked S)
@@ -170,8 +169,7 @@ module _ (o : Outer ℕ Seen) (f : Fits o) where
             promises = subst (λ es. FitPromises S.linked es h.promises)
                 (sym k.entries_are) k.promises;
           });
-      apart = f.apart;
-      have_ids = f.have_ids;
+      ids = f.ids;
     }
 
     scopes : (e : Scopes) → AreScopesOf (modules S) (linked S) e → AreScopesOf (modules (record S { loading = h.imports })) (linked S) e
@@ -240,8 +238,7 @@ imports_are_lawful = record {
   errors = λ o es f. record {
     modules = f.modules;
     host = record { entries_are = f.host.entries_are; orderly = f.host.orderly; promises = f.host.promises };
-    apart = f.apart;
-    have_ids = f.have_ids;
+    ids = f.ids;
   };
   makes = λ o f. makes o f;
   settles = λ o p how k f. settles o f p how k;

@@ -1,7 +1,6 @@
 -- What contracts of private functions see of the parts of a machine, and what holds of them between two steps.
 use Rattle.std.specs.Prelude.{◌≡◌, ℕ, nat_eq, nat_lt, Bool, true, false, List, length, None}
-use Rattle.esm_base.specs.Lists.{EachOnce}
-use Rattle.esm_base.specs.Urls.{Url, has, same_url}
+use Rattle.esm_base.specs.Urls.{Url}
 use Rattle.esm_values.specs.Value.{Value}
 use Rattle.esm_values.specs.Errors.{Errors, make_error}
 use Rattle.esm_values.specs.Code.{CodeValue}
@@ -24,7 +23,7 @@ use Rattle.esm_body.specs.Fits.{IsKnown}
 use Rattle.esm_body.specs.State.{has_begun}
 use Rattle.esm_world.specs.World.{World}
 use Rattle.esm_world.specs.Sound.{TakesCalls, IsSound, MayReact}
-use Rattle.esm_machine.specs.Seen.{Seen, names, modules, linked, Fits, BeginsById}
+use Rattle.esm_machine.specs.Seen.{Seen, HaveIds, names, modules, linked, Fits, BeginsById}
 use Rattle.esm_machine.specs.Evaluating.{by_ids, ActsById}
 use Rattle.esm_machine.specs.Machine.{cells_by, engine_by, errors_by, held_of, scopes_by, seen_by}
 use Rattle.esm_machine.specs.ModuleStore.{is_whole}
@@ -116,8 +115,7 @@ with_node_behind had p = record p { host = record p.host { nodes = nodes_behind 
 pub record AreInOrder (p : Parts) : Type 0 where
   pub whole : is_whole p.host.bodies.imports.condition ≡ true
   pub nodes : size p.host.nodes ≡ length (seen_in p).urls
-  pub apart : EachOnce same_url (seen_in p).urls
-  pub have_ids : (u : Url) → has (seen_in p).linked u ≡ true → has (seen_in p).urls u ≡ true
+  pub ids : HaveIds (seen_in p).urls (seen_in p).linked
   pub scopes : AreScopesIn (seen_in p) (scopes_by p.host.bodies)
   pub standing : AreStanding modules (seen_in p) p.host.bodies.engine.standing.items
   pub between : HaveBegunOnce ByIds p.host
