@@ -23,7 +23,7 @@ use Rattle.esm_body.specs.Segment.{Ended, Segment}
 use Rattle.esm_body.specs.Segment.{Ended as over}
 use Rattle.esm_body.specs.Engines.{TakesBodies, AreStanding, IsStanding, Resumed}
 use Rattle.esm_body.specs.Fits.{AreLinked, FitsRun, FitStanding, IsKnown, Knows, of_body}
-use Rattle.esm_body.specs.Importers.{HasLinked, IsLawful}
+use Rattle.esm_body.specs.Importers.{HasLinked, ImportsAreLawful}
 use Rattle.esm_body.specs.View.{state_of, standing_of}
 use Rattle.esm_body.specs.Sets.{IsNameOf}
 use Rattle.esm_body.specs.Inner.Going.{FitsBody, Halts, WentOn, EndsSegment, StandsBehind, behind_rest}
@@ -46,7 +46,7 @@ use Rattle.esm_body.proofs.Stay.{stand_at, stand_behind, stand_on, stand_others}
 use Rattle.esm_body.proofs.WaitLemmas.{The}
 
 module _ {C S : Type 0} (seen : C → S) (graphs : C → Graph) (urls : C → ℕ → List ℕ) (modules : S → Modules ℕ) (linked : S → ℕ → Bool) (fits : Outer ℕ S → Type 0) (begins : Importing ℕ S)
-    (has : (c : C) → AreLinked (modules (seen c)) (linked (seen c)) → HasLinked (modules (seen c)) (linked (seen c)) (graphs c) (urls c)) (agrees : SharedSetAgrees) (ends : SharedSetEnds) (lawful : IsLawful modules linked fits begins)
+    (has : (c : C) → AreLinked (modules (seen c)) (linked (seen c)) → HasLinked (modules (seen c)) (linked (seen c)) (graphs c) (urls c)) (agrees : SharedSetAgrees) (ends : SharedSetEnds) (lawful : ImportsAreLawful modules linked fits begins)
     (old mid : Engine) (sc : Scopes) (ps : Numbered) (es : Errors) (c : C) (id : ModuleId) (at : ℕ) (s : Standing) (how : Settled (Value ℕ)) (ready : TakesBodies modules linked fits begins old sc ps es (seen c)) (home : linked (seen c) id.0 ≡ true)
     (stands : StandsAt old.standing.items id.0 (Some at)) (knows : Holds (IsKnown (modules (seen c)) (linked (seen c))) ⊥ (given_by how)) (is : s ≡ get_or old.standing.items at s)
     (rest : mid ≡ record old { standing = mid.standing }) (items : mid.standing.items ≡ remove old.standing.items at) where

@@ -19,7 +19,7 @@ use Rattle.esm_body.specs.Rest.{Rest, fill_rest}
 use Rattle.esm_body.specs.State.{State, Standing, Importing, AnswerWith, Event, Begins, Ends, Throws, note, note_by, event_behind, event_line, line_by}
 use Rattle.esm_body.specs.Segment.{Ended, Normal, Thrown, Awaiting, Stopped}
 use Rattle.esm_body.specs.Bodies.{StartsBody, RunsBody, ResumesBody, Taken, take_by, take_standing, given_by, url_in, whole_body, settle_done, segment_end, body_end, ran_by, without_standing}
-use Rattle.esm_body.specs.Fits.{of_body, FitsState, FitsRun, FitsEnd, FitStanding, StaysFit, HoldsRest, Knows}
+use Rattle.esm_body.specs.Fits.{of_body, FitsState, FitsRun, FitsEnd, FitStanding, FitsAfter, HoldsRest, Knows}
 use Rattle.esm_body.proofs.Grown.{new_whole, filled_rest, held_rest}
 use Rattle.esm_body.proofs.SomeAct.{BeginsSome}
 use Rattle.esm_body.proofs.SomeSegment.{some_segment}
@@ -52,7 +52,7 @@ module _ {N I : Type 0} (same : N → N → Bool) (modules : I → Modules N) (l
   Run w m awaits r = FitsRun modules linked Whole w m awaits r []
 
   abbrev Stays : W → W → Type 0
-  Stays w after = StaysFit modules linked Whole w after
+  Stays w after = FitsAfter modules linked Whole w after
 
   -- ---- what a body notes and settles
 

@@ -23,8 +23,8 @@ use Rattle.esm_body.specs.State.{Begins, State, Importing, AnswerWith, note}
 use Rattle.esm_body.specs.Bodies.{StartsBody, RunsBody, url_in, whole_body}
 use Rattle.esm_body.specs.Segment.{Ended, Normal, Thrown, Awaiting, Stopped, Segment}
 use Rattle.esm_body.specs.Engines.{TakesBodies, AreStanding, Started, RanBody, KnowsThrown}
-use Rattle.esm_body.specs.Fits.{AreLinked, FitsState, FitsRun, FitsEnd, FitStanding, StaysFit}
-use Rattle.esm_body.specs.Importers.{HasLinked, IsLawful}
+use Rattle.esm_body.specs.Fits.{AreLinked, FitsState, FitsRun, FitsEnd, FitStanding, FitsAfter}
+use Rattle.esm_body.specs.Importers.{HasLinked, ImportsAreLawful}
 use Rattle.esm_body.specs.View.{state_of, standing_of}
 use Rattle.esm_body.specs.Sets.{IsNameOf, SetsRest}
 use Rattle.esm_body.specs.Inner.Going.{IsBegun, FitsBody, Halts, WentOn, EndsSegment, EndsBody, IsFinal, StandsBehind}
@@ -55,7 +55,7 @@ use Rattle.esm_body.proofs.Stay.{stand_behind, stand_on}
 use Rattle.esm_body.proofs.UrlStays.{url_stays}
 
 module _ {C S : Type 0} (seen : C → S) (graphs : C → Graph) (urls : C → ℕ → List ℕ) (modules : S → Modules ℕ) (linked : S → ℕ → Bool) (fits : Outer ℕ S → Type 0) (begins : Importing ℕ S)
-    (has : (c : C) → AreLinked (modules (seen c)) (linked (seen c)) → HasLinked (modules (seen c)) (linked (seen c)) (graphs c) (urls c)) (agrees : SharedSetAgrees) (ends : SharedSetEnds) (lawful : IsLawful modules linked fits begins) where
+    (has : (c : C) → AreLinked (modules (seen c)) (linked (seen c)) → HasLinked (modules (seen c)) (linked (seen c)) (graphs c) (urls c)) (agrees : SharedSetAgrees) (ends : SharedSetEnds) (lawful : ImportsAreLawful modules linked fits begins) where
   some : BeginsSome modules linked fits begins
   some = lawful_some modules linked fits begins agrees ends lawful
 
@@ -69,7 +69,7 @@ module _ {C S : Type 0} (seen : C → S) (graphs : C → Graph) (urls : C → �
   shows : (w : W) (c : C) (m : ℕ) → w.outer.imports ≡ seen c → FitsState modules linked fits w → linked (seen c) m ≡ true → urls c m ≡ (modules (seen c)).url m
   shows w c m same f k = shows_urls modules linked fits begins lawful seen graphs urls has w.outer c m (subst (λ (i : S). fits (record w.outer { imports = i })) same f.whole) k
 
-  stays_end : (awaits : Bool) (w : W) (how : Ended ℕ) (after : W) → FitsEnd modules linked fits w awaits how after → StaysFit modules linked fits w after
+  stays_end : (awaits : Bool) (w : W) (how : Ended ℕ) (after : W) → FitsEnd modules linked fits w awaits how after → FitsAfter modules linked fits w after
   stays_end awaits w Normal after h = h
   stays_end awaits w (Thrown v) after h = h.0
   stays_end awaits w (Awaiting v rest) after h = h.0

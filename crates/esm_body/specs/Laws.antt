@@ -18,7 +18,7 @@ use Rattle.esm_body.specs.State.{State, Importing}
 use Rattle.esm_body.specs.Acts.{Inner, read_answer, throws_new, not_initialized}
 use Rattle.esm_body.specs.BodyRewriting.{RewrittenBody, On, RewritesBody}
 use Rattle.esm_body.specs.Segment.{Active, Ended, Segment}
-use Rattle.esm_body.specs.Fits.{AreLinked, IsKnown, FitsState, FitsRun, FitsEnd, StaysFit}
+use Rattle.esm_body.specs.Fits.{AreLinked, IsKnown, FitsState, FitsRun, FitsEnd, FitsAfter}
 use Rattle.esm_expr_eval.specs.Ready.{Holds}
 use Rattle.esm_body.specs.Bodies.{StartsBody, RunsBody, ResumesBody, Taken, take_standing, given_by}
 
@@ -95,15 +95,15 @@ pub record HaveOutcomes : Type 0 where
   pub start : (linked : Modules ℕ → ℕ → Bool) (f : Importer) → ImportsKeepModules linked f → (w : Here) (m done : ℕ)
       → FitsState itself linked (KeepsLinked linked) w → linked w.outer.imports m ≡ true
       → (end : Result (Unit {0}) Limit) × ((after : Here) × (StartsBody nat_eq itself (imports_by f) w m done end after
-      × StaysFit itself linked (KeepsLinked linked) w after))
+      × FitsAfter itself linked (KeepsLinked linked) w after))
   pub run : (linked : Modules ℕ → ℕ → Bool) (f : Importer) → ImportsKeepModules linked f → (w : Here) (m : ℕ)
       → FitsState itself linked (KeepsLinked linked) w → linked w.outer.imports m ≡ true
       → (entries w.outer.imports m).awaits ≡ false
       → (end : Result (Ran (Value ℕ)) Limit) × ((after : Here) × (RunsBody nat_eq itself (imports_by f) w m end after
-      × StaysFit itself linked (KeepsLinked linked) w after))
+      × FitsAfter itself linked (KeepsLinked linked) w after))
   pub resume : (linked : Modules ℕ → ℕ → Bool) (f : Importer) → ImportsKeepModules linked f → (w : Here) (m : ℕ) (t : Taken ℕ)
       (how : Settled (Value ℕ)) → FitsState itself linked (KeepsLinked linked) w → linked w.outer.imports m ≡ true
       → take_standing nat_eq w.engine.standing m ≡ Some t
       → Holds (IsKnown w.outer.imports (linked w.outer.imports)) ⊥ (given_by how)
       → (end : Result (Unit {0}) Limit) × ((after : Here) × (ResumesBody nat_eq itself (imports_by f) w m how end after
-      × StaysFit itself linked (KeepsLinked linked) w after))
+      × FitsAfter itself linked (KeepsLinked linked) w after))

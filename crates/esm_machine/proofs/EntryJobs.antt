@@ -16,7 +16,7 @@ use Rattle.esm_world.specs.Jobs.{Reacts, link_failed, with_reaction}
 use Rattle.esm_machine.specs.Held.{EntryHeld, Ended, Failed, renamed_entry}
 use Rattle.esm_machine.specs.Represents.{IsLive, TurnEnd}
 use Rattle.esm_machine.specs.Seen.{names}
-use Rattle.esm_machine.specs.Steps.{with_entry}
+use Rattle.esm_machine.specs.Steps.{with_entry_state}
 use Rattle.esm_machine.specs.Inner.Parts.{AreInOrder, AreLive, TakeCalls, MayDo, seen_in, value_in, parts_with_promises}
 use Rattle.esm_machine.specs.Machine.{entry_held, held_of}
 use Rattle.esm_machine.specs.Inner.Leads.{DoesJob, LinksAndEvaluates, TakesEntry, entry_after}
@@ -45,17 +45,17 @@ entry_complete p v m =
 module _ (p : Parts) where
   pub entry_refused : (v : Held) → DoesJob p EntryLoaded (Rejected (value_of v)) (Ok tt) (record p { entry = states.Failed v })
   entry_refused v = λ w live.
-      (jobs.with_entry w (entry_state.Failed (value_in p (value_of v))), Reacts.entry_refused, steps_are_of_the_world.entry (held_of p) w (Failed (value_of v)) live)
+      (jobs.with_entry_state w (entry_state.Failed (value_in p (value_of v))), Reacts.entry_refused, steps_are_of_the_world.entry (held_of p) w (Failed (value_of v)) live)
 
   entry_stands : (e : EntryState) (h : EntryHeld) → entry_held e ≡ h → (w : World) → AreLive p w
-      → AreLive (record p { entry = e }) (jobs.with_entry w (renamed_entry (names (seen_in p)).name h))
+      → AreLive (record p { entry = e }) (jobs.with_entry_state w (renamed_entry (names (seen_in p)).name h))
   entry_stands e h same w live =
-      subst (λ x. IsLive (with_entry (held_of p) x) (jobs.with_entry w (renamed_entry (names (seen_in p)).name h))) (sym same) (steps_are_of_the_world.entry (held_of p) w h live)
+      subst (λ x. IsLive (with_entry_state (held_of p) x) (jobs.with_entry_state w (renamed_entry (names (seen_in p)).name h))) (sym same) (steps_are_of_the_world.entry (held_of p) w h live)
 
   pub entry_ends : (e : EntryState) (how : Settled (Value ℕ)) → entry_held e ≡ entry_after how → DoesJob p EntryDone how (Ok tt) (record p { entry = e })
-  entry_ends e (Fulfilled v) same = λ w live. (jobs.with_entry w entry_state.Ended, Reacts.entry_ended, entry_stands e Ended same w live)
+  entry_ends e (Fulfilled v) same = λ w live. (jobs.with_entry_state w entry_state.Ended, Reacts.entry_ended, entry_stands e Ended same w live)
   entry_ends e (Rejected v) same = λ w live.
-      (jobs.with_entry w (entry_state.Failed (value_in p v)), Reacts.entry_threw, entry_stands e (Failed v) same w live)
+      (jobs.with_entry_state w (entry_state.Failed (value_in p v)), Reacts.entry_threw, entry_stands e (Failed v) same w live)
 
 -- ---- the entry is linked and evaluated
 
@@ -76,11 +76,11 @@ module _ (p mid : Parts) (v : Value ℕ) where
   entry_goes_on new (outcomes.Fault u) (Ok done) comes e = λ w live.
       let c = comes w live in
       let failed : World = link_failed w c.1 c.2 in
-      let there : Reacts w EntryLoaded (Fulfilled (value_in p v)) (jobs.with_entry failed (entry_state.Failed (value_in mid (value_of u)))) =
-      subst (λ x. Reacts w EntryLoaded (Fulfilled (value_in p v)) (jobs.with_entry failed (entry_state.Failed x))) (sym c.4) (Reacts.entry_fault c.0 c.1 c.2 c.3) in (
-        jobs.with_entry failed (entry_state.Failed (value_in mid (value_of u))),
+      let there : Reacts w EntryLoaded (Fulfilled (value_in p v)) (jobs.with_entry_state failed (entry_state.Failed (value_in mid (value_of u)))) =
+      subst (λ x. Reacts w EntryLoaded (Fulfilled (value_in p v)) (jobs.with_entry_state failed (entry_state.Failed x))) (sym c.4) (Reacts.entry_fault c.0 c.1 c.2 c.3) in (
+        jobs.with_entry_state failed (entry_state.Failed (value_in mid (value_of u))),
         there,
-        subst (λ q. AreLive q (jobs.with_entry failed (entry_state.Failed (value_in mid (value_of u))))) (sym e) (steps_are_of_the_world.entry (held_of mid) failed (Failed (value_of u)) c.5),
+        subst (λ q. AreLive q (jobs.with_entry_state failed (entry_state.Failed (value_in mid (value_of u))))) (sym e) (steps_are_of_the_world.entry (held_of mid) failed (Failed (value_of u)) c.5),
       )
   entry_goes_on new (outcomes.Fault u) (Err end) comes e = absurd e
 

@@ -30,7 +30,7 @@ use Rattle.esm_machine.specs.Seen.{Seen, names, modules, BeginsById}
 use Rattle.esm_machine.specs.Following.{seen_loading}
 use Rattle.esm_machine.specs.Held.{Held, EntryHeld, StandsFor, renamed_entry, body_state, world_by, world_of}
 use Rattle.esm_machine.specs.Represents.{IsLive}
-use Rattle.esm_machine.specs.Steps.{with_entry, with_promises, with_errors, with_linked, with_state, LeavesHeld, StepsAreOfTheWorld}
+use Rattle.esm_machine.specs.Steps.{with_entry_state, with_promises, with_errors, with_linked, with_state, LeavesHeld, StepsAreOfTheWorld}
 use Rattle.esm_machine.proofs.Following.{bodies_are_of_the_world}
 
 -- an import() links nothing
@@ -71,10 +71,10 @@ module _ (h : Held) (w : World) (s : IsLive h w) where
   result : (p : ℕ) (how : Settled (Value ℕ)) → settled h.promises p ≡ Some how → settled w.promises p ≡ Some (renamed_settled name how)
   result p how e = ap (λ v. settled v.promises p) is ∙ (follows_names name).is_settled h.promises p ∙ ap (λ o. option_map (renamed_settled name) o) e
 
-  entry : (e : EntryHeld) → IsLive (with_entry h e) (jobs.with_entry w (renamed_entry name e))
+  entry : (e : EntryHeld) → IsLive (with_entry_state h e) (jobs.with_entry_state w (renamed_entry name e))
   entry e = record {
     live = s.live;
-    stands = record { linked = s.stands.linked; world = ap (λ v. jobs.with_entry v (renamed_entry name e)) is };
+    stands = record { linked = s.stands.linked; world = ap (λ v. jobs.with_entry_state v (renamed_entry name e)) is };
   }
 
   settles : (p : ℕ) (how : Settled (Value ℕ)) → IsLive (with_promises h (settle h.promises p how)) (settle_promise w p (renamed_settled name how))

@@ -25,7 +25,7 @@ use Rattle.esm_world.proofs.OneRun.{runs_one}
 use Rattle.esm_machine.specs.Held.{Held, EntryHeld, Underway, Ended, Failed, renamed_entry, body_state, world_of}
 use Rattle.esm_machine.specs.Inner.Numbers.{url_number}
 use Rattle.esm_machine.specs.Seen.{Seen, names, modules}
-use Rattle.esm_machine.specs.Represents.{TurnEnd, State, ShowsBy, Shows, asks_by_stop, ending_by_stop, ending_of, StoppedAs, IsLineBy, IsLineByStop, Tells, OpeningRepresents, TellsTheRun, TurnsAreTaken}
+use Rattle.esm_machine.specs.Represents.{TurnEnd, MachineState, ShowsBy, Shows, asks_by_stop, ending_by_stop, ending_of, StoppedAs, IsLineBy, IsLineByStop, Tells, OpeningRepresents, TellsTheRun, TurnsAreTaken}
 use Rattle.esm_machine.proofs.Opens.{opens_as_world}
 
 -- ---- what a world shows
@@ -108,7 +108,7 @@ line_one w (Some (Uncaught v)) s t p q = p.2 ∙ ap (λ text. codes "Uncaught " 
 line_one w (Some Done) s t p q = p ∙ sym q
 line_one w (Some Pending) s t p q = p ∙ sym q
 
-shows_tells : (m : State) (w : World) (line : List ℕ) → Shows m w → IsLastLine w (ending w) line → Tells m (shown w line)
+shows_tells : (m : MachineState) (w : World) (line : List ℕ) → Shows m w → IsLastLine w (ending w) line → Tells m (shown w line)
 shows_tells m w line s l =
     let e : ending w ≡ ending_of m = ending_shown m.stopped m.held w s in
     record {

@@ -22,8 +22,8 @@ use Rattle.esm_machine.specs.Represents.{IsLive}
 
 -- ---- what is held, with another part
 
-abbrev pub with_entry : Held → EntryHeld → Held
-with_entry h e = record h { entry = e }
+abbrev pub with_entry_state : Held → EntryHeld → Held
+with_entry_state h e = record h { entry = e }
 
 abbrev pub with_promises : Held → Numbered → Held
 with_promises h ps = record h { promises = ps }
@@ -57,7 +57,7 @@ pub record StepsAreOfTheWorld : Type 0 where
       → settled w.promises p ≡ Some (renamed_settled (names h.seen).name how)
   -- the entry has ended, or failed
   pub entry : (h : Held) (w : World) (e : EntryHeld) → IsLive h w
-      → IsLive (with_entry h e) (jobs.with_entry w (renamed_entry (names h.seen).name e))
+      → IsLive (with_entry_state h e) (jobs.with_entry_state w (renamed_entry (names h.seen).name e))
   pub settles : (h : Held) (w : World) (p : ℕ) (how : Settled (Value ℕ)) → IsLive h w
       → IsLive (with_promises h (settle h.promises p how)) (settle_promise w p (renamed_settled (names h.seen).name how))
   pub registers : (h : Held) (w : World) (p : ℕ) (r : Reaction ℕ) → IsLive h w

@@ -14,7 +14,7 @@ use Rattle.esm_world.specs.World.{World, EntryState, Underway, Ended, Failed}
 use Rattle.esm_machine.specs.Seen.{names}
 use Rattle.esm_machine.specs.Held.{Held, renamed_entry}
 use Rattle.esm_machine.specs.Machine.{MachineParts, state_of}
-use Rattle.esm_machine.specs.Represents.{TurnEnd, State, ShowsBy, MayTake, MayTakeBy, asks_of, asks_by_stop, ending_of, ending_by_stop, Represents}
+use Rattle.esm_machine.specs.Represents.{TurnEnd, MachineState, ShowsBy, MayTake, MayTakeBy, asks_of, asks_by_stop, ending_of, ending_by_stop, Represents}
 use Rattle.esm_import_map.specs.ImportMap.{Maps}
 use Rattle.esm_run.specs.Written.{last_text, written_text}
 
@@ -23,14 +23,14 @@ may_take_by : (stop : Option TurnEnd) (l : Loading) (u : Url) → has (asks_by_s
 may_take_by None l u open_ask = open_ask
 may_take_by (Some end) l u open_ask = tt
 
-pub may_take : (m : State) (u : Url) → has (asks_of m) u ≡ true → MayTake m u
+pub may_take : (m : MachineState) (u : Url) → has (asks_of m) u ≡ true → MayTake m u
 may_take m u open_ask = may_take_by m.stopped m.held.seen.loading u open_ask
 
 live_by : (stop : Option TurnEnd) (l : Loading) (u : Url) → has (asks_by_stop stop l) u ≡ true → stop ≡ None
 live_by None l u open_ask = refl
 live_by (Some end) l u open_ask = absurd (cc open_ask)
 
-pub live_of : (m : State) (u : Url) → has (asks_of m) u ≡ true → m.stopped ≡ None
+pub live_of : (m : MachineState) (u : Url) → has (asks_of m) u ≡ true → m.stopped ≡ None
 live_of m u open_ask = live_by m.stopped m.held.seen.loading u open_ask
 
 -- a machine that represents deliveries and has no open ask has ended

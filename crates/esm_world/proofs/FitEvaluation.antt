@@ -25,7 +25,7 @@ use Rattle.esm_eval.proofs.HasEvaluation.{has_evaluation}
 use Rattle.std.specs.List.{AllByRecursion}
 use Rattle.esm_body.specs.State.{State, Event, Begins, Ends, Throws}
 use Rattle.esm_body.specs.Bodies.{Taken, take_standing, given_by, ResumesBody}
-use Rattle.esm_body.specs.Fits.{FitsState, StaysFit}
+use Rattle.esm_body.specs.Fits.{FitsState, FitsAfter}
 use Rattle.esm_body.proofs.SomeBody.{some_start, some_run, some_resume, RanKnown}
 use Rattle.esm_world.specs.World.{World, modules_in, body_state, with_state}
 use Rattle.esm_world.specs.Layers.{CallsForBody, evaluation, with_promises}

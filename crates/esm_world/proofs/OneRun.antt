@@ -22,7 +22,7 @@ use Rattle.esm_body.proofs.OneAct.{BeginsOne, displays_one}
 use Rattle.esm_body.proofs.OneSegment.{starts_body_one, runs_body_one, resumes_body_one}
 use Rattle.esm_world.specs.World.{World, Failed, modules_in, body_state, with_state, with_host}
 use Rattle.esm_world.specs.Layers.{CallsForBody, evaluation, LinksTo, with_linked, with_promises}
-use Rattle.esm_world.specs.Jobs.{LinksLoad, EvaluatesLoad, Reacts, Jobs, when_evaluated, with_entry, link_failed, new_error, settle_promise}
+use Rattle.esm_world.specs.Jobs.{LinksLoad, EvaluatesLoad, Reacts, Jobs, when_evaluated, with_entry_state, link_failed, new_error, settle_promise}
 use Rattle.esm_world.specs.Jobs.Reacts.{entry_linked, entry_fault, entry_refused, entry_ended, entry_threw, linked, fault, refused, evaluated, threw, body_ended, body_threw, resumes}
 use Rattle.esm_world.specs.Turn.{Tasks, Turn}
 use Rattle.esm_world.specs.LastLine.{Ending, Stopped, Uncaught, Done, Pending, IsLastLine}
@@ -71,7 +71,7 @@ reacts_one {w} (entry_fault a f xs l) (entry_linked q) = absurd (apart w 0 q l)
 reacts_one {w} (entry_fault a f xs l) (entry_fault b h ys k) =
     let r = links_one w 0 l k in
     let e = some_of r.1 in
-    λ i. with_entry (link_failed w (e i) (r.2 i)) (Failed (new_error w))
+    λ i. with_entry_state (link_failed w (e i) (r.2 i)) (Failed (new_error w))
 reacts_one entry_refused entry_refused = refl
 reacts_one entry_ended entry_ended = refl
 reacts_one entry_threw entry_threw = refl

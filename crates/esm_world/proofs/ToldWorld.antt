@@ -25,7 +25,7 @@ use Rattle.esm_body.specs.State.{State, Standing}
 use Rattle.esm_body.specs.Bodies.{Taken, take_standing, take_by, await_on}
 use Rattle.esm_world.specs.World.{World, EntryState, opening, stopped, host_of, with_host, with_state, modules_in}
 use Rattle.esm_world.specs.Layers.{CallsForBody, evaluation, with_linked, with_promises}
-use Rattle.esm_world.specs.Jobs.{EvaluatesLoad, Reacts, Jobs, when_evaluated, with_entry}
+use Rattle.esm_world.specs.Jobs.{EvaluatesLoad, Reacts, Jobs, when_evaluated, with_entry_state}
 use Rattle.esm_world.specs.Jobs.Reacts.{entry_linked, entry_fault, entry_refused, entry_ended, entry_threw, linked, fault, refused, evaluated, threw, body_ended, body_threw, resumes}
 use Rattle.esm_world.specs.Turn.{Tasks, Turn, fetched}
 use Rattle.esm_world.specs.Run.{IsAllowed, Runs}
@@ -189,7 +189,7 @@ taken_told w j left t e =
 pub linked_told : (w : World) (ls : List Url) → AreTold w → AreTold (with_linked w ls)
 linked_told w ls t = record { host = t.host; nodes = t.nodes; standing = t.standing }
 
-pub entry_told : (w : World) (e : EntryState) → AreTold w → AreTold (with_entry w e)
+pub entry_told : (w : World) (e : EntryState) → AreTold w → AreTold (with_entry_state w e)
 entry_told w e t = record { host = t.host; nodes = t.nodes; standing = t.standing }
 
 pub errors_told : (w : World) (es : Errors) → AreTold w → AreTold (record w { errors = es })

@@ -17,8 +17,8 @@ use Rattle.esm_body.specs.State.{State}
 use Rattle.esm_world.specs.World.{World, EntryState, Ended, Failed, stopped, modules_in, body_state, with_state}
 use Rattle.esm_world.specs.Layers.{CallsForBody, evaluation, LinksTo, with_linked, with_promises}
 
-abbrev pub with_entry : World → EntryState → World
-with_entry w e = record w { entry = e }
+abbrev pub with_entry_state : World → EntryState → World
+with_entry_state w e = record w { entry = e }
 
 abbrev pub settle_promise : World → ℕ → Settled (Value Url) → World
 settle_promise w p how = with_promises w (settle w.promises p how)
@@ -60,10 +60,10 @@ pub data Reacts : World → Reaction Url → Settled (Value Url) → World → T
   entry_linked : {w after : World} {v : Value Url} {answer : Result ℕ Limit} → EvaluatesLoad w 0 answer after
       → Reacts w EntryLoaded (Fulfilled v) (when_evaluated after EntryDone answer)
   entry_fault : {w : World} {v : Value Url} (root : Url) (f : FaultAt Url) (linked : List Url) → LinksLoad w 0 root (Some f) linked
-      → Reacts w EntryLoaded (Fulfilled v) (with_entry (link_failed w f linked) (Failed (new_error w)))
-  entry_refused : {w : World} {v : Value Url} → Reacts w EntryLoaded (Rejected v) (with_entry w (Failed v))
-  entry_ended : {w : World} {v : Value Url} → Reacts w EntryDone (Fulfilled v) (with_entry w Ended)
-  entry_threw : {w : World} {v : Value Url} → Reacts w EntryDone (Rejected v) (with_entry w (Failed v))
+      → Reacts w EntryLoaded (Fulfilled v) (with_entry_state (link_failed w f linked) (Failed (new_error w)))
+  entry_refused : {w : World} {v : Value Url} → Reacts w EntryLoaded (Rejected v) (with_entry_state w (Failed v))
+  entry_ended : {w : World} {v : Value Url} → Reacts w EntryDone (Fulfilled v) (with_entry_state w Ended)
+  entry_threw : {w : World} {v : Value Url} → Reacts w EntryDone (Rejected v) (with_entry_state w (Failed v))
   -- ECMA-262, ContinueDynamicImport: what was imported is linked and evaluated
   linked : {w after : World} {s : ℕ} {v : Value Url} {answer : Result ℕ Limit} → EvaluatesLoad w s answer after
       → Reacts w (Loaded s) (Fulfilled v) (when_evaluated after (Evaluated s) answer)

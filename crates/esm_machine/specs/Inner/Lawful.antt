@@ -32,7 +32,7 @@ use Rattle.esm_world.proofs.FitBodies.{are_linked}
 use Rattle.esm_env.specs.Naming.{pulled}
 use Rattle.esm_values.specs.Numbering.{numbering, is_total}
 use Rattle.esm_env.specs.Faithful.{AreScopesOf}
-use Rattle.esm_body.specs.Importers.{IsLawful, KeepsModules}
+use Rattle.esm_body.specs.Importers.{ImportsAreLawful, KeepsModules}
 use Rattle.esm_machine.specs.Seen.{Seen, names, modules, linked, host, Fits, BeginsById}
 use Rattle.esm_machine.specs.Inner.HostFits.{host_makes, host_settles, host_awaits, host_begun}
 use Rattle.esm_machine.specs.Inner.Extended.{scopes_stay}
@@ -232,7 +232,7 @@ module _ (o : Outer ℕ Seen) where
       let e = one_load.begins (host o) (host x) (host y) ((names o.imports).name m) text p r s b.begins c.begins in
       (sym e.0, one_host x y (b.urls, b.linked) (c.urls, c.linked) e.1)
 
-pub imports_are_lawful : IsLawful modules linked Fits BeginsById
+pub imports_are_lawful : ImportsAreLawful modules linked Fits BeginsById
 imports_are_lawful = record {
   links = λ o f. links o f;
   errors = λ o es f. record {

@@ -48,7 +48,7 @@ use Rattle.esm_body.specs.Bodies.{StartsBody, ResumesBody, stand, without_standi
 use Rattle.esm_body.specs.Scopes.{Scope, named_cell}
 use Rattle.esm_world.specs.World.{World, Ended, opening, modules_in, body_state, with_state, with_host, host_of}
 use Rattle.esm_world.specs.Layers.{CallsForBody, evaluation, with_linked, with_promises}
-use Rattle.esm_world.specs.Jobs.{Jobs, Reacts, LinksLoad, EvaluatesLoad, with_reaction, with_entry}
+use Rattle.esm_world.specs.Jobs.{Jobs, Reacts, LinksLoad, EvaluatesLoad, with_reaction, with_entry_state}
 use Rattle.esm_world.specs.Turn.{Tasks, Turn, fetched}
 use Rattle.esm_world.specs.Examples.{main_url, b_url, catching_main, CatchesImport, import_of}
 use Rattle.esm_loads.specs.LoadsView.{every_form}
@@ -322,7 +322,7 @@ abbrev v7 : World
 v7 = with_promises v6 (record v6.promises { jobs = [] })
 
 abbrev v8 : World
-v8 = with_entry v7 Ended
+v8 = with_entry_state v7 Ended
 
 jobs2 : Jobs v2 v8
 jobs2 = Jobs.job (job 3 (Await main_url)) v3.promises (Rejected (Error 0)) refl refl refl (Reacts.resumes resumed)

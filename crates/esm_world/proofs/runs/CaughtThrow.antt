@@ -45,7 +45,7 @@ use Rattle.esm_body.specs.Bodies.{StartsBody, ResumesBody, stand, without_standi
 use Rattle.esm_body.specs.Scopes.{Scope, named_cell}
 use Rattle.esm_world.specs.World.{World, Ended, opening, modules_in, body_state, with_state, with_host, host_of}
 use Rattle.esm_world.specs.Layers.{CallsForBody, evaluation, with_linked, with_promises}
-use Rattle.esm_world.specs.Jobs.{Jobs, Reacts, LinksLoad, EvaluatesLoad, with_reaction, with_entry, settle_promise}
+use Rattle.esm_world.specs.Jobs.{Jobs, Reacts, LinksLoad, EvaluatesLoad, with_reaction, with_entry_state, settle_promise}
 use Rattle.esm_world.specs.Turn.{Tasks, Turn, fetched}
 use Rattle.esm_world.specs.Examples.{main_url, b_url, catching_main, import_of}
 use Rattle.esm_loads.specs.LoadsView.{every_form}
@@ -421,7 +421,7 @@ abbrev v17 : World
 v17 = with_promises v16 (record v16.promises { jobs = [] })
 
 abbrev v18 : World
-v18 = with_entry v17 Ended
+v18 = with_entry_state v17 Ended
 
 jobs2 : Jobs v2 v18
 jobs2 = Jobs.job (job 4 (Loaded 1)) v3.promises (Fulfilled Undefined) refl refl refl (Reacts.linked evaluates2)

@@ -22,7 +22,7 @@ use Rattle.esm_loads.specs.Host.{Host, Answered, with_loading}
 use Rattle.esm_loads.specs.Arrival.{AnswersNext, count_by, store}
 use Rattle.esm_world.specs.World.{World, Failed, opening, with_host, host_of}
 use Rattle.esm_world.specs.Layers.{with_promises}
-use Rattle.esm_world.specs.Jobs.{Jobs, Reacts, with_entry}
+use Rattle.esm_world.specs.Jobs.{Jobs, Reacts, with_entry_state}
 use Rattle.esm_world.specs.Turn.{Tasks, Turn, fetched}
 use Rattle.esm_world.specs.Examples.{main_url, b_url}
 use Rattle.esm_loads.specs.LoadsView.{every_form}
@@ -102,7 +102,7 @@ abbrev w5 : World
 w5 = with_promises w4 (record w4.promises { jobs = [] })
 
 abbrev w6 : World
-w6 = with_entry w5 (Failed (Error 0))
+w6 = with_entry_state w5 (Failed (Error 0))
 
 jobs2 : Jobs w4 w6
 jobs2 = Jobs.job (job 0 EntryLoaded) w5.promises (Rejected (Error 0)) refl refl refl Reacts.entry_refused (Jobs.none refl)

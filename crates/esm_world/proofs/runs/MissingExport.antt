@@ -31,7 +31,7 @@ use Rattle.esm_link.specs.declared.LinkKind.TheVariants.{K1}
 use Rattle.esm_link.specs.Link.{LinksMarks}
 use Rattle.esm_world.specs.World.{World, Failed, opening, modules_in, with_host, host_of}
 use Rattle.esm_world.specs.Layers.{with_promises}
-use Rattle.esm_world.specs.Jobs.{Jobs, Reacts, LinksLoad, link_failed, new_error, with_entry}
+use Rattle.esm_world.specs.Jobs.{Jobs, Reacts, LinksLoad, link_failed, new_error, with_entry_state}
 use Rattle.esm_world.specs.Turn.{Tasks, Turn, fetched}
 use Rattle.esm_world.specs.Examples.{main_url, b_url, default_main, empty_b, NoSuchExport}
 use Rattle.esm_loads.specs.LoadsView.{every_form}
@@ -140,7 +140,7 @@ link1 = record {
 }
 
 abbrev w6 : World
-w6 = with_entry (link_failed w5 no_export (b_url ∷ [])) (Failed (new_error w5))
+w6 = with_entry_state (link_failed w5 no_export (b_url ∷ [])) (Failed (new_error w5))
 
 jobs2 : Jobs w4 w6
 jobs2 = Jobs.job (job 0 EntryLoaded) w5.promises (Fulfilled Undefined) refl refl refl (Reacts.entry_fault main_url no_export (b_url ∷ []) link1) (Jobs.none refl)

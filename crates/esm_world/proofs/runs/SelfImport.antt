@@ -44,7 +44,7 @@ use Rattle.esm_body.specs.Segment.{Ended as ended}
 use Rattle.esm_body.specs.Bodies.{StartsBody, RunsBody, stand}
 use Rattle.esm_world.specs.World.{World, Ended, opening, body_state, with_state, with_host, host_of}
 use Rattle.esm_world.specs.Layers.{CallsForBody, evaluation, with_linked, with_promises}
-use Rattle.esm_world.specs.Jobs.{Jobs, Reacts, LinksLoad, EvaluatesLoad, with_reaction, with_entry, settle_promise}
+use Rattle.esm_world.specs.Jobs.{Jobs, Reacts, LinksLoad, EvaluatesLoad, with_reaction, with_entry_state, settle_promise}
 use Rattle.esm_world.specs.Turn.{Tasks, Turn, fetched}
 use Rattle.esm_world.specs.Examples.{main_url, waiting_main, WaitsForItself, self_main, ImportsItself, prints, import_of}
 use Rattle.esm_loads.specs.LoadsView.{every_form}
@@ -385,7 +385,7 @@ abbrev v14 : World
 v14 = with_promises v13 (record v13.promises { jobs = job 1 (Evaluated_of 1) ∷ [] })
 
 abbrev v15 : World
-v15 = with_entry v14 Ended
+v15 = with_entry_state v14 Ended
 
 abbrev v16 : World
 v16 = with_promises v15 (record v15.promises { jobs = [] })

@@ -39,7 +39,7 @@ use Rattle.esm_body.specs.Segment.{Ended as ended}
 use Rattle.esm_body.specs.Bodies.{StartsBody, ResumesBody, stand, without_standing}
 use Rattle.esm_world.specs.World.{World, Failed, opening, modules_in, body_state, with_state, with_host, host_of}
 use Rattle.esm_world.specs.Layers.{CallsForBody, evaluation, with_linked, with_promises}
-use Rattle.esm_world.specs.Jobs.{Jobs, Reacts, LinksLoad, EvaluatesLoad, with_reaction, with_entry}
+use Rattle.esm_world.specs.Jobs.{Jobs, Reacts, LinksLoad, EvaluatesLoad, with_reaction, with_entry_state}
 use Rattle.esm_world.specs.Turn.{Tasks, Turn, fetched}
 use Rattle.esm_world.specs.Examples.{main_url}
 use Rattle.esm_loads.specs.LoadsView.{every_form}
@@ -205,7 +205,7 @@ abbrev w15 : World
 w15 = with_promises w14 (record w14.promises { jobs = [] })
 
 abbrev w16 : World
-w16 = with_entry w15 (Failed (Text (codes "x")))
+w16 = with_entry_state w15 (Failed (Text (codes "x")))
 
 jobs1 : Jobs w2 w16
 jobs1 = Jobs.job (job 0 EntryLoaded) w3.promises (Fulfilled Undefined) refl refl refl (Reacts.entry_linked evaluates1)

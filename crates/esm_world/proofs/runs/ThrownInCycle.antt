@@ -38,7 +38,7 @@ use Rattle.esm_body.specs.Segment.{Ended as ended}
 use Rattle.esm_body.specs.Bodies.{RunsBody}
 use Rattle.esm_world.specs.World.{World, Failed, opening, body_state, with_state, with_host, host_of}
 use Rattle.esm_world.specs.Layers.{CallsForBody, evaluation, with_linked, with_promises}
-use Rattle.esm_world.specs.Jobs.{Jobs, Reacts, LinksLoad, EvaluatesLoad, with_reaction, with_entry, settle_promise}
+use Rattle.esm_world.specs.Jobs.{Jobs, Reacts, LinksLoad, EvaluatesLoad, with_reaction, with_entry_state, settle_promise}
 use Rattle.esm_world.specs.Turn.{Tasks, Turn, fetched}
 use Rattle.esm_world.specs.Examples.{main_url, b_url, cycle_main, throwing_b, ThrowsInCycle, prints}
 use Rattle.esm_loads.specs.LoadsView.{every_form}
@@ -197,7 +197,7 @@ abbrev w13 : World
 w13 = with_promises w12 (record w12.promises { jobs = [] })
 
 abbrev w14 : World
-w14 = with_entry w13 (Failed (Text (codes "x")))
+w14 = with_entry_state w13 (Failed (Text (codes "x")))
 
 jobs2 : Jobs w4 w14
 jobs2 = Jobs.job (job 0 EntryLoaded) w5.promises (Fulfilled Undefined) refl refl refl (Reacts.entry_linked evaluates1)

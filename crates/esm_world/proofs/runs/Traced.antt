@@ -33,7 +33,7 @@ use Rattle.esm_body.specs.Segment.{Ended as ended}
 use Rattle.esm_body.specs.Bodies.{RunsBody}
 use Rattle.esm_world.specs.World.{World, Ended, opening, body_state, with_state, with_host, host_of}
 use Rattle.esm_world.specs.Layers.{CallsForBody, evaluation, with_linked, with_promises}
-use Rattle.esm_world.specs.Jobs.{Jobs, Reacts, LinksLoad, EvaluatesLoad, with_reaction, with_entry, settle_promise}
+use Rattle.esm_world.specs.Jobs.{Jobs, Reacts, LinksLoad, EvaluatesLoad, with_reaction, with_entry_state, settle_promise}
 use Rattle.esm_world.specs.Turn.{Tasks, Turn, fetched}
 use Rattle.esm_world.specs.Examples.{main_url, b_url, cycle_main, printing_b, prints}
 use Rattle.esm_loads.specs.LoadsView.{every_form}
@@ -209,7 +209,7 @@ abbrev w15 : World
 w15 = with_promises w14 (record w14.promises { jobs = [] })
 
 abbrev w16 : World
-w16 = with_entry w15 Ended
+w16 = with_entry_state w15 Ended
 
 jobs2 : Jobs w4 w16
 jobs2 = Jobs.job (job 0 EntryLoaded) w5.promises (Fulfilled Undefined) refl refl refl (Reacts.entry_linked evaluates1)
