@@ -1,5 +1,5 @@
 -- What a machine holds between two jobs, by ids, and the worlds that it stands for.
-use Rattle.std.specs.Prelude.{◌≡◌, ◌≤◌, ℕ, Bool, true, false, List, [], ◌∷◌, ◌++◌, map, length, Some, None}
+use Rattle.std.specs.Prelude.{◌≡◌, ◌≤◌, ℕ, Bool, false, List, [], ◌∷◌, ◌++◌, map, length, Some, None}
 use Rattle.esm_base.specs.declared.limits.Limit.{Limit}
 use Rattle.esm_base.specs.Urls.{Url, has}
 use Rattle.esm_import_map.specs.ImportMap.{Maps}

@@ -1,5 +1,5 @@
 -- Worked examples: whole standard runs, each held against its text.
-use Rattle.std.specs.Prelude.{Bool, true, false, List, [], ◌∷◌, ◌++◌, Some, codes}
+use Rattle.std.specs.Prelude.{true, false, List, [], ◌∷◌, ◌++◌, Some, codes}
 use Rattle.esm_base.specs.declared.status.Status.{Status}
 use Rattle.esm_base.specs.declared.status.Status.TheVariants as statuses
 use Rattle.esm_base.specs.Urls.{Text, Url}

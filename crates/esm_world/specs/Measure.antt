@@ -1,6 +1,6 @@
 -- Why jobs come to an end: each takes a step, of which there are only so many, or leaves less by this measure. own
 -- It counts the reactions that are still to run, and how much of each body remains at its await.
-use Rattle.std.specs.Prelude.{◌≡◌, ℕ, suc, ◌+◌, ◌<◌, ◌≤◌, List, [], ◌∷◌, Some, None}
+use Rattle.std.specs.Prelude.{◌≡◌, ℕ, suc, ◌+◌, ◌<◌, ◌≤◌, List, [], ◌∷◌, None}
 use Rattle.esm_base.specs.declared.limits.TheConstants.{MAX_STEPS}
 use Rattle.esm_base.specs.Urls.{Url}
 use Rattle.esm_values.specs.Value.{Value}

@@ -1,5 +1,5 @@
 -- The world: one record of the parts of all layers, each as its owner defines it. own: a module is named by its URL.
-use Rattle.std.specs.Prelude.{ℕ, Bool, List, [], length, Option}
+use Rattle.std.specs.Prelude.{Bool, List, [], length, Option}
 use Rattle.std.specs.Option.{option_or}
 use Rattle.esm_tree.specs.Syntax.{Item}
 use Rattle.esm_base.specs.declared.limits.Limit.{Limit}

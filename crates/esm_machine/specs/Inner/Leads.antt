@@ -12,7 +12,7 @@ use Rattle.esm_values.specs.Errors.{next_error}
 use Rattle.esm_values.specs.Code.{value_of}
 use Rattle.esm_values.specs.declared.value.Value.{Value}
 use Rattle.esm_values.specs.declared.value.PromiseId.{PromiseId}
-use Rattle.esm_promise.specs.Promises.{Settled, Fulfilled, Rejected, next_job, register, settle, settled}
+use Rattle.esm_promise.specs.Promises.{Settled, Fulfilled, Rejected, next_job, register, settle}
 use Rattle.esm_promise.specs.Reactions.{Reaction, EntryDone, Evaluated}
 use Rattle.esm_loads.specs.Arrival.{AnswersNext, next}
 use Rattle.esm_loads.specs.Host.{Host}
