@@ -85,7 +85,7 @@ pub data Reacts : World → Reaction Url → Settled (Value Url) → World → T
   resumes : {w : World} {m : Url} {how : Settled (Value Url)} {end : Result (Unit {0}) Limit} {s : State Url Loading}
       → ResumesBody same_url modules_in BeginsImport (body_state w) m how end s → Reacts w (Await m) how (with_state w s)
 
--- the first job is taken and done
+-- the first job is taken and done; the constructor `job` of Jobs has the same parts
 pub record IsJob (w after : World) : Type 0 where
   pub live : stopped w ≡ None
   pub job : Job (Reaction Url)
