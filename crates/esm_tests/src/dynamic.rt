@@ -539,6 +539,21 @@ pub struct Race {
 /// Sites whose run depends on the order in which their fetches end, with all orders of each.
 pub const RACES: &[Race] = &[
     Race {
+        name: "two files that nothing else imports",
+        files: &[
+            (
+                "main.js",
+                r#"const p = import("./a.js"); const q = import("./b.js"); await p; await q;"#,
+            ),
+            ("a.js", r#"print("A");"#),
+            ("b.js", r#"print("B");"#),
+        ],
+        runs: &[
+            (&["main.js", "a.js", "b.js"], "A\nB\n"),
+            (&["main.js", "b.js", "a.js"], "B\nA\n"),
+        ],
+    },
+    Race {
         name: "two loads share a module that is not there yet",
         files: &[
             (
