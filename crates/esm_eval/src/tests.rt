@@ -240,23 +240,6 @@ fn chain_runs_in_order(rt: HostRuntime) -> Result<(), Fail> {
     Ok(())
 }
 
-// A module that is evaluated has ended: its end, or a throw of its body, is told in vain.
-#[test]
-fn ends_of_an_evaluated_module_change_nothing(rt: HostRuntime) -> Result<(), Fail> {
-    let alloc = rt.alloc();
-    let mut rows = Vec::new(alloc);
-    rows.push(requesting(alloc, &[], false, false)?)?;
-    let mut host = opened(alloc, rows)?;
-    let promise = evaluated(&mut host, alloc, 0)?;
-    assert!(rt; has_run(&host, &[0]) && is_fulfilled(&host, promise));
-    assert!(rt; evaluated(&mut host, alloc, 0)? == promise);
-    ended(&mut host, 0)?;
-    failed(&mut host, 0)?;
-    assert!(rt; has_run(&host, &[0]) && is_fulfilled(&host, promise));
-    assert!(rt; is_evaluated(&host, 0));
-    Ok(())
-}
-
 // The member of a cycle that awaits holds back the root, and a module evaluated later gets the promise of the root.
 #[test]
 fn cycle_with_one_await(rt: HostRuntime) -> Result<(), Fail> {
