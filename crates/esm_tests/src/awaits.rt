@@ -1,5 +1,5 @@
 // Worked graphs of modules that await.
-use crate::graphs::first_wrong;
+use crate::orders::first_wrong_order;
 use crate::sites::Row;
 use esm_base::{Memory, Status};
 
@@ -711,36 +711,36 @@ const AWAITED: &[Row] = &[
 
 #[test]
 fn dependencies_await(rt: HostRuntime) -> Result<(), Memory> {
-    assert_eq!(rt; first_wrong(&rt, rt.alloc(), AWAITS)?, None);
+    assert_eq!(rt; first_wrong_order(&rt, rt.alloc(), AWAITS, 29)?, None);
     Ok(())
 }
 
 #[test]
 fn chains_await(rt: HostRuntime) -> Result<(), Memory> {
-    assert_eq!(rt; first_wrong(&rt, rt.alloc(), CHAINS)?, None);
+    assert_eq!(rt; first_wrong_order(&rt, rt.alloc(), CHAINS, 40)?, None);
     Ok(())
 }
 
 #[test]
 fn cycles_await(rt: HostRuntime) -> Result<(), Memory> {
-    assert_eq!(rt; first_wrong(&rt, rt.alloc(), CYCLES)?, None);
+    assert_eq!(rt; first_wrong_order(&rt, rt.alloc(), CYCLES, 21)?, None);
     Ok(())
 }
 
 #[test]
 fn rejections_reach_importers(rt: HostRuntime) -> Result<(), Memory> {
-    assert_eq!(rt; first_wrong(&rt, rt.alloc(), REJECTIONS)?, None);
+    assert_eq!(rt; first_wrong_order(&rt, rt.alloc(), REJECTIONS, 21)?, None);
     Ok(())
 }
 
 #[test]
 fn rejections_reach_cycles(rt: HostRuntime) -> Result<(), Memory> {
-    assert_eq!(rt; first_wrong(&rt, rt.alloc(), CYCLE_THROWS)?, None);
+    assert_eq!(rt; first_wrong_order(&rt, rt.alloc(), CYCLE_THROWS, 7)?, None);
     Ok(())
 }
 
 #[test]
 fn values_are_awaited(rt: HostRuntime) -> Result<(), Memory> {
-    assert_eq!(rt; first_wrong(&rt, rt.alloc(), AWAITED)?, None);
+    assert_eq!(rt; first_wrong_order(&rt, rt.alloc(), AWAITED, 10)?, None);
     Ok(())
 }

@@ -1,5 +1,5 @@
 // Worked sites with `import()`.
-use crate::graphs::first_wrong;
+use crate::orders::first_wrong_order;
 use crate::sites::Row;
 use esm_base::{Memory, Status};
 
@@ -564,6 +564,21 @@ pub struct Race {
 /// Sites whose run depends on the order in which their fetches end, with all orders of each.
 pub const RACES: &[Race] = &[
     Race {
+        name: "two files that nothing else imports",
+        files: &[
+            (
+                "main.js",
+                r#"const p = import("./a.js"); const q = import("./b.js"); await p; await q;"#,
+            ),
+            ("a.js", r#"print("A");"#),
+            ("b.js", r#"print("B");"#),
+        ],
+        runs: &[
+            (&["main.js", "a.js", "b.js"], "A\nB\n"),
+            (&["main.js", "b.js", "a.js"], "B\nA\n"),
+        ],
+    },
+    Race {
         name: "two loads share a module that is not there yet",
         files: &[
             (
@@ -610,42 +625,42 @@ pub const RACES: &[Race] = &[
 
 #[test]
 fn modules_are_imported(rt: HostRuntime) -> Result<(), Memory> {
-    assert_eq!(rt; first_wrong(&rt, rt.alloc(), LOADS)?, None);
+    assert_eq!(rt; first_wrong_order(&rt, rt.alloc(), LOADS, 9)?, None);
     Ok(())
 }
 
 #[test]
 fn modules_wait_for_themselves(rt: HostRuntime) -> Result<(), Memory> {
-    assert_eq!(rt; first_wrong(&rt, rt.alloc(), CIRCLES)?, None);
+    assert_eq!(rt; first_wrong_order(&rt, rt.alloc(), CIRCLES, 5)?, None);
     Ok(())
 }
 
 #[test]
 fn imports_fail(rt: HostRuntime) -> Result<(), Memory> {
-    assert_eq!(rt; first_wrong(&rt, rt.alloc(), MISSING)?, None);
+    assert_eq!(rt; first_wrong_order(&rt, rt.alloc(), MISSING, 10)?, None);
     Ok(())
 }
 
 #[test]
 fn evaluation_fails(rt: HostRuntime) -> Result<(), Memory> {
-    assert_eq!(rt; first_wrong(&rt, rt.alloc(), FAILURES)?, None);
+    assert_eq!(rt; first_wrong_order(&rt, rt.alloc(), FAILURES, 14)?, None);
     Ok(())
 }
 
 #[test]
 fn loads_go_side_by_side(rt: HostRuntime) -> Result<(), Memory> {
-    assert_eq!(rt; first_wrong(&rt, rt.alloc(), SIDE_BY_SIDE)?, None);
+    assert_eq!(rt; first_wrong_order(&rt, rt.alloc(), SIDE_BY_SIDE, 6)?, None);
     Ok(())
 }
 
 #[test]
 fn promises_are_values(rt: HostRuntime) -> Result<(), Memory> {
-    assert_eq!(rt; first_wrong(&rt, rt.alloc(), PROMISES)?, None);
+    assert_eq!(rt; first_wrong_order(&rt, rt.alloc(), PROMISES, 8)?, None);
     Ok(())
 }
 
 #[test]
 fn imports_reach_further(rt: HostRuntime) -> Result<(), Memory> {
-    assert_eq!(rt; first_wrong(&rt, rt.alloc(), REACHES)?, None);
+    assert_eq!(rt; first_wrong_order(&rt, rt.alloc(), REACHES, 4)?, None);
     Ok(())
 }

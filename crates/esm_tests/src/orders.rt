@@ -135,38 +135,77 @@ fn ends_so(
     }
 }
 
-// In how many orders the deliveries of these sites may come, at most a thousand of each, where each run ends as its row
-// says; else the first site of which one doesn't.
-pub fn orders_of<R: Threads + Wait + Sync>(
+// In how many orders the fetches of a site can end; none where its run, or one of these orders, doesn't end as the row
+// says.
+fn orders_of<R: Threads + Wait + Sync>(
+    rt: &R,
+    alloc: Global,
+    row: &Row,
+) -> Result<Option<u64>, Memory> {
+    let mut out = SureSink::new(alloc);
+    let report = run_over(rt, alloc, site(alloc, row.files)?, &mut out)?;
+    let holds = report.status == row.status && out.written() == row.output.as_bytes();
+    if !holds {
+        return Ok(None);
+    }
+    let mut choices = Vec::new(alloc);
+    for order in 0..1000u64 {
+        if !ends_so(alloc, row, &mut choices, &report.taken)? {
+            return Ok(None);
+        }
+        if !next_choices(&mut choices)? {
+            return Ok(Some(order.wrapping_add(1)));
+        }
+    }
+    Ok(None)
+}
+
+/// The first of these sites that doesn't run as its row says, in each order in which its fetches may end. Together the
+/// sites have so many orders.
+pub fn first_wrong_order<R: Threads + Wait + Sync>(
     rt: &R,
     alloc: Global,
     rows: &[Row],
-) -> Result<Result<u64, &'static str>, Memory> {
-    let mut orders = 0u64;
+    orders: u64,
+) -> Result<Option<&'static str>, Memory> {
+    let mut counted = 0u64;
     for row in rows {
-        let mut out = SureSink::new(alloc);
-        let report = run_over(rt, alloc, site(alloc, row.files)?, &mut out)?;
-        let mut choices = Vec::new(alloc);
-        for _ in 0..1000u64 {
-            if !ends_so(alloc, row, &mut choices, &report.taken)? {
-                return Ok(Err(row.name));
-            }
-            orders = orders.wrapping_add(1);
-            if !next_choices(&mut choices)? {
-                break;
-            }
+        match orders_of(rt, alloc, row)? {
+            Some(more) => counted = counted.wrapping_add(more),
+            None => return Ok(Some(row.name)),
         }
     }
-    Ok(Ok(orders))
+    if counted == orders {
+        Ok(None)
+    } else {
+        Ok(Some("the number of orders"))
+    }
 }
 
 #[test]
 fn sites_run_the_same_in_every_order(rt: HostRuntime) -> Result<(), Memory> {
-    match orders_of(&rt, rt.alloc(), SITES)? {
-        Ok(orders) => assert_eq!(rt; orders, 17),
-        Err(name) => assert!(rt; false, "{name}"),
-    }
+    assert_eq!(rt; first_wrong_order(&rt, rt.alloc(), SITES, 17)?, None);
     Ok(())
+}
+
+// Delivers these files in this order, and gives what the run wrote; none where one wasn't asked for.
+fn written_in_order(
+    alloc: Global,
+    names: &[&str],
+    taken: &[Delivery],
+) -> Result<Option<Vec<u8>>, Memory> {
+    let mut machine = new_machine(alloc)?;
+    for name in names {
+        let url = format!(in alloc; "https://a.test/{name}")?;
+        let Some(place) = machine.asks().iter().position(|ask| ask.is(url.as_str())) else {
+            return Ok(None);
+        };
+        let _ = deliver_at(&mut machine, place, taken)?;
+    }
+    match ended(alloc, &machine)? {
+        Some((Status::Fulfilled, text)) => Ok(Some(text)),
+        _ => Ok(None),
+    }
 }
 
 #[test]
