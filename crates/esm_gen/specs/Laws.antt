@@ -1,0 +1,21 @@
+-- What holds of generated input, whatever the numbers.
+use Rattle.std.specs.Prelude.{◌≡◌, ◌≢◌, ℕ, ◌<◌, ◌≤◌, ◌^◌, map, None, Some, true, All}
+use Rattle.esm_base.specs.Lists.{EachOnce}
+use Rattle.esm_base.specs.Urls.{Url, same_url, is_usable}
+use Rattle.esm_gen.specs.Generated.{File, files_of, generated_at, module_url, module_text}
+
+-- no two files have one URL
+abbrev pub HaveOneUrlEach : Type 0
+HaveOneUrlEach = (start count : ℕ) → count < 2 ^ 32 → EachOnce same_url (map (λ file. file.url) (files_of start count))
+
+-- the URL of a module may name one
+abbrev pub NamesModules : Type 0
+NamesModules = (i : ℕ) → i < 2 ^ 32 → is_usable (module_url i) ≡ true
+
+-- at the URL of a module stands its text
+abbrev pub HasModules : Type 0
+HasModules = (start count i : ℕ) → count < 2 ^ 32 → i < count → generated_at start count (module_url i) ≡ Some (module_text start count i)
+
+-- and nothing at any other
+abbrev pub HasNothingElse : Type 0
+HasNothingElse = (start count : ℕ) (url : Url) → ((i : ℕ) → i < count → url ≢ module_url i) → generated_at start count url ≡ None
