@@ -1,8 +1,14 @@
 -- What holds of generated input, whatever the numbers.
-use Rattle.std.specs.Prelude.{◌≡◌, ◌≢◌, ℕ, ◌<◌, ◌≤◌, ◌^◌, map, None, Some, true, All}
+use Rattle.std.specs.Prelude.{◌≡◌, ◌≢◌, ℕ, ◌<◌, ◌^◌, map, None, Some, true, option_map}
+use Rattle.url.specs.Parts.{serialize}
 use Rattle.esm_base.specs.Lists.{EachOnce}
-use Rattle.esm_base.specs.Urls.{Url, same_url, is_usable}
+use Rattle.esm_base.specs.Urls.{Url, same_url, is_usable, url_of}
+use Rattle.esm_gen.specs.declared.modules.TheConstants.{BASE, ENTRY}
 use Rattle.esm_gen.specs.Generated.{File, files_of, generated_at, module_url, module_text}
+
+-- the entry's name, read against the base, is the URL of the module with the number 0
+abbrev pub NamesEntry : Type 0
+NamesEntry = option_map serialize (url_of (url_of None BASE.now) ENTRY.now) ≡ Some (module_url 0)
 
 -- no two files have one URL
 abbrev pub HaveOneUrlEach : Type 0

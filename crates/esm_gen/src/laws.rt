@@ -1,5 +1,10 @@
 //! Laws of the definitions, each the contract of a function without effect.
-ghost use Rattle.esm_gen.specs.Laws.{HaveOneUrlEach, NamesModules, HasModules, HasNothingElse};
+ghost use Rattle.esm_gen.specs.Laws.{NamesEntry, HaveOneUrlEach, NamesModules, HasModules, HasNothingElse};
+
+/// The name of the entry, read against the base, is the URL of the module with the number 0.
+pub fn names_entry()
+    ensures { NamesEntry }
+{}
 
 /// No two files have one URL.
 pub fn have_one_url_each()

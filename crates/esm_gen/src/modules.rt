@@ -1,5 +1,5 @@
 // The modules that two numbers generate.
-ghost use Rattle.std.specs.Prelude.{◌≡◌, ◌<◌, ◌≤◌, ◌+◌, ◌++◌, ◌^◌, ℕ, List, IfOk, OnOk, map, string_bytes, true};
+ghost use Rattle.std.specs.Prelude.{◌≡◌, ◌<◌, ◌++◌, ◌^◌, ℕ, List, IfOk, OnOk, map, string_bytes, true};
 ghost use Rattle.esm_base.specs.Urls.{is_usable};
 ghost use Rattle.esm_ports.specs.Files.{contents_of};
 ghost use Rattle.esm_gen.specs.Generated as spec;
@@ -19,7 +19,7 @@ pub fn entry_url(alloc: Global) -> Result<Text, Memory>
     ensures first { IfOk result (λ url. url ≡ spec.module_url 0) }
     ensures usable { IfOk result (λ url. is_usable url ≡ true) }
 {
-    Text::copy(alloc, "https://gen.test/m0.js")
+    module_url(alloc, 0)
 }
 
 // The URL of the module with this number.
@@ -105,11 +105,10 @@ fn module_text(alloc: Global, start: u64, count: u64, number: u64) -> Result<Str
     ensures { IfOk result (λ text. string_bytes text ≡ spec.module_text start count number) }
 {
     let mut text = String::new(alloc);
-    let first = 4 * number + 1;
-    add_import_below(alloc, &mut text, count, first)?;
-    add_import_below(alloc, &mut text, count, first + 1)?;
-    add_import_below(alloc, &mut text, count, first + 2)?;
-    add_import_below(alloc, &mut text, count, first + 3)?;
+    add_import_below(alloc, &mut text, count, 4 * number + 1)?;
+    add_import_below(alloc, &mut text, count, 4 * number + 2)?;
+    add_import_below(alloc, &mut text, count, 4 * number + 3)?;
+    add_import_below(alloc, &mut text, count, 4 * number + 4)?;
     add_import(alloc, &mut text, last_import(start, count, number))?;
     add_await(&mut text, has_await(start, number))?;
     add_print(alloc, &mut text, number)?;

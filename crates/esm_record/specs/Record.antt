@@ -4,29 +4,25 @@ use Rattle.std.specs.List.{flat_map}
 use Rattle.esm_base.specs.Urls.{Text, Url}
 use Rattle.esm_ast.specs.Deliveries.{Delivery}
 use Rattle.esm_ast.specs.Outcome.{OutcomeView, Script, Broken, Absent, Failed}
-use Rattle.esm_record.specs.declared.record.MapFile.{MapFile}
 
 -- a name and a URL on a line
 abbrev pub url_line : Text → Url → List ℕ
 url_line name url = name ++ codes " " ++ url ++ codes "\n"
 
--- a name, how many bytes follow, and a URL on a line; behind it the bytes and a line feed
+-- a name, how many bytes there are, and a URL on a line
+abbrev pub length_line : Text → Url → ℕ → List ℕ
+length_line name url count = name ++ codes " " ++ decimal count ++ codes " " ++ url ++ codes "\n"
+
+-- such a line, and behind it the bytes and a line feed
 abbrev pub bytes_lines : Text → Url → List ℕ → List ℕ
-bytes_lines name url bytes = name ++ codes " " ++ decimal (length bytes) ++ codes " " ++ url ++ codes "\n" ++ bytes ++ codes "\n"
+bytes_lines name url bytes = length_line name url (length bytes) ++ bytes ++ codes "\n"
 
 -- ---- what was given
 
--- the file of an import map
-pub record GivenMap : Type 0 where
-  pub url : Url
-  pub bytes : List ℕ
-
-abbrev pub given_map : MapFile → GivenMap
-given_map file = record { url = file.url; bytes = file.bytes.items }
-
-abbrev pub map_lines : Option GivenMap → List ℕ
+-- the import map, with its URL and its bytes
+abbrev pub map_lines : Option (Url × List ℕ) → List ℕ
 map_lines None = codes "map none\n"
-map_lines (Some file) = bytes_lines (codes "map") file.url file.bytes
+map_lines (Some map) = bytes_lines (codes "map") map.0 map.1
 
 -- ---- what was taken
 
@@ -50,7 +46,7 @@ taken_lines taken = count_line (length taken) ++ flat_map delivery_lines taken
 -- ---- the whole
 
 -- The record of a run: base, entry and import map, and what was taken. Numbers are decimal, without a leading zero.
-abbrev pub record_text : Url → Url → Option GivenMap → List Delivery → List ℕ
+abbrev pub record_text : Url → Url → Option (Url × List ℕ) → List Delivery → List ℕ
 record_text base entry map taken =
     codes "esm-record 1\n" ++ url_line (codes "base") base ++ url_line (codes "entry") entry ++ map_lines map
     ++ taken_lines taken ++ codes "end\n"

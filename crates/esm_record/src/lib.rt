@@ -5,7 +5,7 @@ mod delivery;
 mod record;
 
 pub use delivery::Delivery;
-pub use record::{MapFile, add_record};
+pub use record::append_record;
 
 #[cfg(test)]
 mod tests;

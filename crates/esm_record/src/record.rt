@@ -1,7 +1,8 @@
 // The record of a run as text, straight into the text that is written: no body is copied but there.
-ghost use Rattle.std.specs.Prelude.{◌≡◌, ◌++◌, OnOk, codes, option_map};
+ghost use Rattle.std.specs.Prelude.{◌≡◌, ◌++◌, OnOk, length, option_map};
 ghost use Rattle.std.specs.List.{flat_map};
-ghost use Rattle.esm_record.specs.Delivered.{delivery_of, deliveries_of};
+ghost use Rattle.esm_ast.specs.Outcome.{outcome_view};
+ghost use Rattle.esm_record.specs.Delivered.{delivery_of, deliveries_of, given_map};
 ghost use Rattle.esm_record.specs.Record as spec;
 
 use crate::Delivery;
@@ -9,27 +10,38 @@ use esm_ast::Outcome;
 use esm_base::{Memory, Text};
 use std::alloc::Global;
 
-/// The file of the import map that a run was given.
-#[derive(Drop)]
-pub struct MapFile {
-    /// Its URL.
-    pub url: Text,
-    /// Its bytes.
-    pub bytes: Vec<u8>,
-}
-
 // Adds a name and a URL on a line.
-fn add_line(text: &mut Vec<u8>, name: &str, url: &str) -> Result<(), Memory>
+fn add_line(
+    alloc: Global,
+    text: &mut Vec<u8>,
+    name: &str,
+    url: &str,
+) -> Result<(), Memory>
     ensures { OnOk result (text.new.items ≡ text.old.items ++ spec.url_line name.now url.now) }
 {
-    text.extend_from_slice(name.as_bytes())?;
-    text.push(b' ')?;
-    text.extend_from_slice(url.as_bytes())?;
-    text.push(b'\n')?;
+    let line = format!(in alloc; "{name} {url}\n")?;
+    text.extend_from_slice(line.as_bytes())?;
     Ok(())
 }
 
-// Adds a name, how many bytes follow, and a URL on a line, and behind it the bytes.
+// Adds a name, how many bytes there are, and a URL on a line.
+fn add_length(
+    alloc: Global,
+    text: &mut Vec<u8>,
+    name: &str,
+    url: &str,
+    bytes: &[u8],
+) -> Result<(), Memory>
+    ensures { OnOk result (text.new.items ≡ text.old.items
+        ++ spec.length_line name.now url.now (length bytes.now)) }
+{
+    let count = bytes.len();
+    let line = format!(in alloc; "{name} {count} {url}\n")?;
+    text.extend_from_slice(line.as_bytes())?;
+    Ok(())
+}
+
+// Adds such a line, and the bytes behind it.
 fn add_bytes(
     alloc: Global,
     text: &mut Vec<u8>,
@@ -40,25 +52,45 @@ fn add_bytes(
     ensures { OnOk result
         (text.new.items ≡ text.old.items ++ spec.bytes_lines name.now url.now bytes.now) }
 {
-    let length = bytes.len();
-    let line = format!(in alloc; "{name} {length} {url}\n")?;
-    text.extend_from_slice(line.as_bytes())?;
+    add_length(alloc, text, name, url, bytes)?;
     text.extend_from_slice(bytes)?;
     text.push(b'\n')?;
     Ok(())
 }
 
 // Adds the import map that was given.
-fn add_map(alloc: Global, text: &mut Vec<u8>, map: Option<&MapFile>) -> Result<(), Memory>
-    ensures { OnOk result (text.new.items ≡ text.old.items
-        ++ spec.map_lines (option_map (λ file. spec.given_map file.now) map.entry)) }
+fn add_map(
+    alloc: Global,
+    text: &mut Vec<u8>,
+    map: Option<(&Text, &[u8])>,
+) -> Result<(), Memory>
+    ensures { OnOk result
+        (text.new.items ≡ text.old.items ++ spec.map_lines (option_map given_map map.entry)) }
 {
     match map {
-        Some(file) => add_bytes(alloc, text, "map", file.url.as_str(), file.bytes.as_slice()),
+        Some((url, bytes)) => add_bytes(alloc, text, "map", url.as_str(), bytes),
         None => {
             text.extend_from_slice(b"map none\n")?;
             Ok(())
         }
+    }
+}
+
+// Adds what a fetch came to.
+fn add_outcome(
+    alloc: Global,
+    text: &mut Vec<u8>,
+    url: &str,
+    outcome: &Outcome,
+) -> Result<(), Memory>
+    ensures { OnOk result (text.new.items ≡ text.old.items
+        ++ spec.outcome_lines url.now (outcome_view outcome.now)) }
+{
+    match outcome {
+        Outcome::Script(script) => add_bytes(alloc, text, "body", url, script.bytes()),
+        Outcome::Broken(broken) => add_bytes(alloc, text, "body", url, broken.bytes()),
+        Outcome::Absent => add_line(alloc, text, "absent", url),
+        Outcome::Failed => add_line(alloc, text, "failed", url),
     }
 }
 
@@ -67,13 +99,7 @@ fn add_delivery(alloc: Global, text: &mut Vec<u8>, delivery: &Delivery) -> Resul
     ensures { OnOk result (text.new.items ≡ text.old.items
         ++ spec.delivery_lines (delivery_of delivery.now)) }
 {
-    let url = delivery.url.as_str();
-    match &delivery.outcome {
-        Outcome::Script(script) => add_bytes(alloc, text, "body", url, script.bytes()),
-        Outcome::Broken(broken) => add_bytes(alloc, text, "body", url, broken.bytes()),
-        Outcome::Absent => add_line(text, "absent", url),
-        Outcome::Failed => add_line(text, "failed", url),
-    }
+    add_outcome(alloc, text, delivery.url.as_str(), &delivery.outcome)
 }
 
 // Adds how many deliveries there are.
@@ -96,23 +122,23 @@ fn add_deliveries(alloc: Global, text: &mut Vec<u8>, taken: &[Delivery]) -> Resu
     Ok(())
 }
 
-/// Adds the record of a run to a text: its base and entry, the import map that it was given, and what it took, in that
-/// order. Where memory runs out, some first bytes of the record may stand in the text.
-pub fn add_record(
+/// Appends the record of a run to a text: its base and entry, the import map with its URL and bytes, and what was taken, in
+/// that order. Where memory runs out, some first bytes of the record may stand in the text.
+pub fn append_record(
     alloc: Global,
     text: &mut Vec<u8>,
     base: &str,
-    entry: &str,
-    map: Option<&MapFile>,
+    entry: &Text,
+    map: Option<(&Text, &[u8])>,
     taken: &[Delivery],
 ) -> Result<(), Memory>
     ensures { OnOk result (text.new.items ≡ text.old.items
-        ++ spec.record_text base.now entry.now
-            (option_map (λ file. spec.given_map file.now) map.entry) (deliveries_of taken.now)) }
+        ++ spec.record_text base.now entry.now (option_map given_map map.entry)
+            (deliveries_of taken.now)) }
 {
     text.extend_from_slice(b"esm-record 1\n")?;
-    add_line(text, "base", base)?;
-    add_line(text, "entry", entry)?;
+    add_line(alloc, text, "base", base)?;
+    add_line(alloc, text, "entry", entry.as_str())?;
     add_map(alloc, text, map)?;
     add_count(alloc, text, taken.len())?;
     add_deliveries(alloc, text, taken)?;
