@@ -26,7 +26,7 @@ use Rattle.url.proofs.OnLiterals.{url_on_literals}
 use Rattle.url.proofs.SetLemmas.{kept_from_passes}
 use Rattle.url.proofs.Theorems.{parse_url-serialize_special}
 use Rattle.esm_base.specs.declared.limits.TheConstants.{MAX_URL_BYTES}
-use Rattle.esm_base.specs.Urls.{is_canonical, is_text_of, is_usable, url_of}
+use Rattle.esm_base.specs.Urls.{is_canonical, is_text_of, is_usable}
 use Rattle.esm_gen.specs.Generated.{module_url}
 
 -- ---- bytes of a path
@@ -45,7 +45,7 @@ kept set (b ∷ xs) all =
     let own = and_parts (nat_le b 127) (not (contains set b)) parts.0 in
     All-cons (IsKept set) b xs (kept_from_outside set b (grind (arith, nat_tests, own.0)) (off (contains set b) own.1)) (kept set xs parts.1)
 
-plain : (xs : List ℕ) → list_all (λ b. not (is_slash SpecialNotFile b)) xs ≡ true → All (λ b. is_slash SpecialNotFile b ≡ false) xs
+pub plain : (xs : List ℕ) → list_all (λ b. not (is_slash SpecialNotFile b)) xs ≡ true → All (λ b. is_slash SpecialNotFile b ≡ false) xs
 plain [] all = All-nil (λ b. is_slash SpecialNotFile b ≡ false)
 plain (b ∷ xs) all =
     let parts = and_parts (not (is_slash SpecialNotFile b)) (list_all (λ b. not (is_slash SpecialNotFile b)) xs) all in
@@ -53,10 +53,10 @@ plain (b ∷ xs) all =
 
 -- ---- the URL
 
-abbrev segment : ℕ → List ℕ
+abbrev pub segment : ℕ → List ℕ
 segment i = codes "m" ++ decimal i ++ codes ".js"
 
-abbrev the_url : ℕ → Parts
+abbrev pub the_url : ℕ → Parts
 the_url i = record {
   scheme = codes "https";
   username = [];
@@ -68,12 +68,12 @@ the_url i = record {
   fragment = None;
 }
 
-in_segment : (P : ℕ → Type 0) (i : ℕ) → i < 2 ^ 64 → All P (codes "m") → ((b : ℕ) → IsInRange 48 57 b → P b) → All P (codes ".js") → All P (segment i)
+pub in_segment : (P : ℕ → Type 0) (i : ℕ) → i < 2 ^ 64 → All P (codes "m") → ((b : ℕ) → IsInRange 48 57 b → P b) → All P (codes ".js") → All P (segment i)
 in_segment P i small front digits back =
     All-append P (codes "m" ++ decimal i) (codes ".js")
     (All-append P (codes "m") (decimal i) front (All-weaker (IsInRange 48 57) P digits (decimal i) (All-decimal i small))) back
 
-is_segment : (i : ℕ) → i < 2 ^ 64 → IsSegment SpecialNotFile (segment i)
+pub is_segment : (i : ℕ) → i < 2 ^ 64 → IsSegment SpecialNotFile (segment i)
 unfolding dot_count
 is_segment i small = record {
   escaped = in_segment (IsKept PATH) i small (kept PATH (codes "m") refl) (λ b digit. kept_from_passes is_digit PATH refl b (omega (arith, digit)) (grind (arith, nat_tests, digit))) (kept PATH (codes ".js") refl);
@@ -115,13 +115,16 @@ valid : (i : ℕ) → i < 2 ^ 64 → IsValid (the_url i)
 unfolding url_on_literals
 valid i small = record { head = valid_head i; path = inl (has_segments i small, λ e. omega arith); query = tt; fragment = tt }
 
-text_is : (i : ℕ) → serialize (the_url i) ≡ module_url i
+pub text_is : (i : ℕ) → serialize (the_url i) ≡ module_url i
 text_is i = ap (λ rest. codes "https://gen.test/m" ++ rest) (append-nil (decimal i ++ codes ".js"))
+
+-- the parser reads its text as this URL
+pub reads : (i : ℕ) → i < 2 ^ 64 → parse_url None (module_url i) ≡ Ok (the_url i)
+reads i small = ap (parse_url None) (sym (text_is i)) ∙ parse_url-serialize_special (the_url i) None (valid i small) (special i)
 
 canonical : (i : ℕ) → i < 2 ^ 64 → is_canonical (module_url i) ≡ true
 canonical i small =
-    let read : parse_url None (module_url i) ≡ Ok (the_url i) = ap (parse_url None) (sym (text_is i)) ∙ parse_url-serialize_special (the_url i) None (valid i small) (special i) in
-    ap (λ r. is_text_of (module_url i) (result_ok r)) read ∙ (bytes_eq-Decides (serialize (the_url i)) (module_url i)).1 (text_is i)
+    ap (λ r. is_text_of (module_url i) (result_ok r)) (reads i small) ∙ (bytes_eq-Decides (serialize (the_url i)) (module_url i)).1 (text_is i)
 
 short : (i : ℕ) → i < 2 ^ 32 → nat_le (length (module_url i)) MAX_URL_BYTES ≡ true
 short i small =
