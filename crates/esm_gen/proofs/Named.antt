@@ -12,7 +12,7 @@ use Rattle.percent_encoding.proofs.PercentLemmas.{percent_encode_unchanged}
 use Rattle.url.specs.declared.sets.TheConstants.{PATH}
 use Rattle.url.specs.declared.scheme.SchemeType.TheVariants.{SpecialNotFile}
 use Rattle.url.specs.Head.{head_only}
-use Rattle.url.specs.Input.{is_c0_control_or_space, is_tab_or_new_line, trim_c0_control_and_space, strip_tabs_and_new_lines, split_once, rsplit_once}
+use Rattle.url.specs.Input.{is_c0_control_or_space, is_tab_or_new_line, trim_c0_control_and_space, strip_tabs_and_new_lines, split_once}
 use Rattle.url.specs.Parser.{Parsed, and_then, before_tail, leading_slashes, parse_body, parse_by_scheme, parse_parts, parse_relative, parse_url, split_scheme, with_path, with_tail}
 use Rattle.url.specs.Parts.{Parts, serialize}
 use Rattle.url.specs.Path.{dot_count, parse_path, push_segment, shorten_path}

@@ -1,5 +1,5 @@
 -- Own: the summary of a run over generated input.
-use Rattle.std.specs.Prelude.{ℕ, ◌++◌, codes, decimal}
+use Rattle.std.specs.Prelude.{◌++◌, codes, decimal}
 use Rattle.esm_base.specs.Urls.{Text}
 use Rattle.esm_base.specs.Status.{status_code}
 use Rattle.esm_gen.specs.declared.summary.Summary.{Summary}

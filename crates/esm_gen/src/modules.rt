@@ -60,12 +60,7 @@ fn add_import(alloc: Global, text: &mut String, number: u64) -> Result<(), Memor
 }
 
 // Adds it where there is such a module.
-fn add_import_below(
-    alloc: Global,
-    text: &mut String,
-    count: u64,
-    number: u64,
-) -> Result<(), Memory>
+fn add_import_below(alloc: Global, text: &mut String, count: u64, number: u64) -> Result<(), Memory>
     ensures { OnOk result
         (string_bytes text.new ≡ string_bytes text.old ++ spec.import_below count number) }
 {

@@ -30,7 +30,9 @@ impl Summary {
             status,
         } = *self;
         let code = status.code();
-        let text = format!(in alloc; "modules {modules}\nstarted {started}\nlines {lines}\nstatus {code}\n")?;
+        let text = format!(in alloc;
+            "modules {modules}\nstarted {started}\nlines {lines}\nstatus {code}\n"
+        )?;
         Ok(Text::from_string(text))
     }
 }

@@ -68,6 +68,9 @@ fn a_summary_has_four_lines(rt: HostRuntime) -> Result<(), Memory> {
         status: Status::Limit,
     };
     let text = run.text(alloc)?;
-    assert_eq!(rt; text.as_str(), "modules 64\nstarted 63\nlines 0\nstatus 5\n");
+    assert_eq!(rt;
+        text.as_str(),
+        "modules 64\nstarted 63\nlines 0\nstatus 5\n"
+    );
     Ok(())
 }
