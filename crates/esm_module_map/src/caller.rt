@@ -1,5 +1,5 @@
 //! The map, and who calls it.
-ghost use Rattle.std.specs.Prelude.{◌≡◌, ◌++◌, ◌∷◌, ◌+◌, ◌<◌, [], ℕ, List, true, false, nat_lt, None, Some, IfOk, IfSome, MatchResult, slice_get, string_bytes, is_some};
+ghost use Rattle.std.specs.Prelude.{◌≡◌, ◌++◌, ◌∷◌, ◌+◌, ◌<◌, [], ℕ, List, true, false, nat_lt, None, Some, IfOk, IfErr, IfSome, IsOk, MatchResult, slice_get, string_bytes, is_some};
 ghost use Rattle.std.proofs.Props.{props};
 ghost use Rattle.std.specs.Arc.{arc_value};
 ghost use Rattle.esm_hlock.specs.Makers.{Continues, makers_of, times};
@@ -406,13 +406,16 @@ impl<P: Payload> ModuleMap<P> {
         Caller { pass, number }
     }
 
-    /// Ends the map and gives its whole history, or `Busy` where a call is still inside. It doesn't allocate.
+    /// Ends the map and gives its whole history, or `Busy` where a call is still inside, which can't be where the caller
+    /// has all shares. Its two words differ. It doesn't allocate.
     pub fn close(self, caller: Caller<P>) -> Result<Vec<MapEvent<P>>, Busy>
         requires { table_of self.lock.table.shared.table_id caller.pass
             ≡ self.lock.table.shared.table_id }
         ensures found { IfOk result (λ v.
             Found P.weight (view_in caller.pass).seen (Some caller.number) v.items) }
         ensures led { IfOk result (λ v. is_led P.leads v.items ≡ true) }
+        ensures busy { IfErr result (λ busy. busy.serving < busy.ticket) }
+        ensures whole { (view_in caller.pass).shares ≡ 1024 → IsOk result }
     {
         let ModuleMap { lock } = self;
         let Caller { pass, number: _ } = caller;
