@@ -4,6 +4,8 @@
 #[cfg(test)]
 mod building;
 #[cfg(test)]
+mod exports;
+#[cfg(test)]
 mod linking;
 #[cfg(test)]
 mod sites;

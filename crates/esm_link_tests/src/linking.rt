@@ -5,12 +5,12 @@ ghost use Rattle.esm_realm.specs.Sound.{records_of};
 ghost use Rattle.esm_link_tests.specs.Built.{IsBuilt};
 
 use crate::building::{Site, build};
-use crate::sites::{SITES, name_at};
+use crate::sites::{SITES, SOUGHT, name_at};
 use esm_base::{MAX_URLS, Memory, ModuleId};
-use esm_env::{Envs, Read};
+use esm_env::{Envs, Read, Wrote};
 use esm_link::{LinkEnd, LinkFault, LinkKind, laws, link};
 use esm_realm::ModuleStatus;
-use esm_values::Value;
+use esm_values::{RcText, Value};
 use std::alloc::Global;
 use std::test::Fail;
 
@@ -110,6 +110,15 @@ fn sites_link_as_the_standard_says(rt: HostRuntime) -> Result<(), Fail> {
     Ok(())
 }
 
+#[test]
+fn names_are_sought_over_other_modules(rt: HostRuntime) -> Result<(), Fail> {
+    let alloc = rt.alloc();
+    for (text, expected) in SOUGHT {
+        assert!(rt; comes_to(alloc, text, expected)?);
+    }
+    Ok(())
+}
+
 // Behind a fault in a cycle another root is linked, over what had closed; from the first the fault is the same again.
 #[test]
 fn links_again_behind_a_fault_in_a_cycle(rt: HostRuntime) -> Result<(), Fail> {
@@ -134,6 +143,36 @@ fn reads_as(envs: &Envs, m: ModuleId, name: &str) -> &'static str {
         Read::Unset => "unset",
         Read::Undeclared => "undeclared",
     }
+}
+
+// Whether a name of a module reads as this text.
+fn reads_text(envs: &Envs, m: ModuleId, name: &str, text: &str) -> bool {
+    match envs.read(m, name) {
+        Read::Value(value) => match value {
+            Value::Text(value) => value.as_str() == text,
+            _ => false,
+        },
+        Read::Unset => false,
+        Read::Undeclared => false,
+    }
+}
+
+// A name is unset until it is initialised, and may then be written.
+#[test]
+fn a_declared_name_is_set_and_written(rt: HostRuntime) -> Result<(), Fail> {
+    let alloc = rt.alloc();
+    let text = "m~export let x = '1';";
+    let mut site = build(alloc, text)?;
+    let mut envs = Envs::new(alloc);
+    let first = told(alloc, &mut site, &mut envs, text, ModuleId(0))?;
+    assert_eq!(rt; first.as_str(), "fine: +");
+    assert_eq!(rt; reads_as(&envs, ModuleId(0), "x"), "unset");
+    envs.initialise(ModuleId(0), "x", Value::Text(RcText::copy(alloc, "1")?));
+    assert!(rt; reads_text(&envs, ModuleId(0), "x", "1"));
+    let wrote = envs.write(ModuleId(0), "x", Value::Undefined);
+    assert_eq!(rt; wrote, Wrote::Done);
+    assert_eq!(rt; reads_as(&envs, ModuleId(0), "y"), "undeclared");
+    Ok(())
 }
 
 // An import reads as what it is bound to: unset before its declaration has run, and a function at once.

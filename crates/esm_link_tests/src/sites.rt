@@ -116,6 +116,28 @@ pub const SITES: [(&str, &str); 30] = [
     ),
 ];
 
+/// Sites in which a name is sought over other modules.
+pub const SOUGHT: [(&str, &str); 4] = [
+    // two stars, behind which two bindings or one stand; a default, which no star passes on
+    (
+        "m~import {x} from 's'; print(x);|s~export * from 'a'; export * from 'b';|a~export const x = 'a';|b~export const x = 'b';",
+        "K2 m x s: -+++",
+    ),
+    (
+        "m~import {x} from 's'; print(x);|s~export * from 'a'; export * from 'b';|a~export * from 'c';|b~export * from 'c';|c~export const x = 'c';",
+        "fine: +++++",
+    ),
+    (
+        "m~import d from 's'; print(d);|s~export * from 'd';|d~export default 'v';",
+        "K1 m default s: -++",
+    ),
+    // a cycle, of which b is left first
+    (
+        "m~import {x} from 'a';|a~export {x} from 'b';|b~export {x} from 'a';",
+        "K3 b x a: ---",
+    ),
+];
+
 /// The place of a module in a site.
 pub fn place_of(site: &str, name: &str) -> usize {
     site.split('|')

@@ -4,6 +4,7 @@ ghost use Rattle.esm_machine.specs.Machine.{state_of};
 ghost use Rattle.esm_machine.specs.Represents.{MayTake};
 
 use crate::store::{MAIN, fetched};
+use esm_ast::Outcome;
 use esm_base::{Memory, Status, Text};
 use esm_import_map::ImportMap;
 use esm_machine::Machine;
@@ -69,6 +70,61 @@ fn last_line(machine: &Machine) -> Result<Option<Text>, Memory> {
     } else {
         Ok(None)
     }
+}
+
+// The entry is asked for, and all is done when it is delivered.
+#[test]
+fn an_entry_that_prints_runs(rt: HostRuntime) -> Result<(), Fail> {
+    let alloc = rt.alloc();
+    let mut machine = opened(alloc)?;
+    assert_eq!(rt; machine.asks().len(), 1);
+    assert!(rt; machine.end().is_none());
+    let Some(url) = first_ask(&machine)? else {
+        return Err(Fail::from("nothing is asked"));
+    };
+    assert!(rt; url.is(MAIN));
+    deliver(alloc, &mut machine, "print(\"hi\")", &url)?;
+    assert!(rt; machine.asks().is_empty());
+    assert!(rt; machine.log() == b"hi\n".as_slice());
+    assert!(rt; machine.end() == Some(Status::Fulfilled));
+    let Some(line) = last_line(&machine)? else {
+        return Err(Fail::from("the run hasn't ended"));
+    };
+    assert!(rt; line.is(""));
+    Ok(())
+}
+
+// Nothing stands at this open ask.
+fn miss(machine: &mut Machine, url: &Text) -> Result<(), Memory>
+    requires { MayTake (state_of machine.old) url.now }
+{
+    match machine.deliver(url, &Outcome::Absent) {
+        Ok(()) => Ok(()),
+        Err(_end) => Err(Memory),
+    }
+}
+
+// A call of `import()` adds an ask; what isn't there is caught.
+#[test]
+fn a_call_of_import_asks_for_its_file(rt: HostRuntime) -> Result<(), Fail> {
+    let alloc = rt.alloc();
+    let mut machine = opened(alloc)?;
+    let main = "try { await import(\"./none.js\"); } catch (e) { print(e); } print(\"after\");";
+    let Some(url) = first_ask(&machine)? else {
+        return Err(Fail::from("nothing is asked"));
+    };
+    deliver(alloc, &mut machine, main, &url)?;
+    assert_eq!(rt; machine.asks().len(), 1);
+    assert!(rt; machine.end().is_none());
+    let Some(url) = first_ask(&machine)? else {
+        return Err(Fail::from("nothing is asked"));
+    };
+    assert!(rt; url.is("https://a.test/none.js"));
+    miss(&mut machine, &url)?;
+    assert!(rt; machine.end() == Some(Status::Fulfilled));
+    let log = b"TypeError: cannot fetch https://a.test/none.js\nafter\n";
+    assert!(rt; machine.log() == log.as_slice());
+    Ok(())
 }
 
 // c.js awaits, so b.js and the entry wait for it.

@@ -1,9 +1,10 @@
 // Worked graphs of modules that await.
+use crate::orders::first_wrong_order;
 use crate::sites::Row;
-use esm_base::Status;
+use esm_base::{Memory, Status};
 
-/// Graphs of modules that await.
-pub const AWAITS: &[Row] = &[
+/// Bodies that await, and diamonds.
+const AWAITS: &[Row] = &[
     Row {
         name: "a body that awaits",
         files: &[("main.js", r#"print("m1");await undefined;print("m2");"#)],
@@ -128,6 +129,10 @@ pub const AWAITS: &[Row] = &[
         output: "d\na\nb\nm1\nm2\n",
         status: Status::Fulfilled,
     },
+];
+
+/// Chains, and the order of ready modules.
+const CHAINS: &[Row] = &[
     Row {
         name: "a chain in which all await",
         files: &[
@@ -277,6 +282,10 @@ pub const AWAITS: &[Row] = &[
         output: "a\nb\np\nm\n",
         status: Status::Fulfilled,
     },
+];
+
+/// Cycles.
+const CYCLES: &[Row] = &[
     Row {
         name: "a cycle whose last member awaits",
         files: &[
@@ -437,6 +446,10 @@ pub const AWAITS: &[Row] = &[
         output: "b\na\nc1\nc2\nm\n",
         status: Status::Fulfilled,
     },
+];
+
+/// Throws of modules in no cycle.
+const REJECTIONS: &[Row] = &[
     Row {
         name: "a throw before the await of a dependency",
         files: &[
@@ -527,6 +540,10 @@ pub const AWAITS: &[Row] = &[
         output: "a1\na2\np\nq\nUncaught x\n",
         status: Status::EntryFailed,
     },
+];
+
+/// Throws in cycles, and which is told.
+const CYCLE_THROWS: &[Row] = &[
     Row {
         name: "the last member of a cycle rejects",
         files: &[
@@ -592,6 +609,10 @@ pub const AWAITS: &[Row] = &[
         output: "a1\nUncaught x\n",
         status: Status::EntryFailed,
     },
+];
+
+/// What an await gives.
+const AWAITED: &[Row] = &[
     Row {
         name: "an await gives its value",
         files: &[(
@@ -687,3 +708,39 @@ pub const AWAITS: &[Row] = &[
         status: Status::Fulfilled,
     },
 ];
+
+#[test]
+fn dependencies_await(rt: HostRuntime) -> Result<(), Memory> {
+    assert_eq!(rt; first_wrong_order(&rt, rt.alloc(), AWAITS, 29)?, None);
+    Ok(())
+}
+
+#[test]
+fn chains_await(rt: HostRuntime) -> Result<(), Memory> {
+    assert_eq!(rt; first_wrong_order(&rt, rt.alloc(), CHAINS, 40)?, None);
+    Ok(())
+}
+
+#[test]
+fn cycles_await(rt: HostRuntime) -> Result<(), Memory> {
+    assert_eq!(rt; first_wrong_order(&rt, rt.alloc(), CYCLES, 21)?, None);
+    Ok(())
+}
+
+#[test]
+fn rejections_reach_importers(rt: HostRuntime) -> Result<(), Memory> {
+    assert_eq!(rt; first_wrong_order(&rt, rt.alloc(), REJECTIONS, 21)?, None);
+    Ok(())
+}
+
+#[test]
+fn rejections_reach_cycles(rt: HostRuntime) -> Result<(), Memory> {
+    assert_eq!(rt; first_wrong_order(&rt, rt.alloc(), CYCLE_THROWS, 7)?, None);
+    Ok(())
+}
+
+#[test]
+fn values_are_awaited(rt: HostRuntime) -> Result<(), Memory> {
+    assert_eq!(rt; first_wrong_order(&rt, rt.alloc(), AWAITED, 10)?, None);
+    Ok(())
+}

@@ -1,9 +1,10 @@
 // Worked bodies: calls, errors, throws and what takes them.
+use crate::graphs::first_wrong;
 use crate::sites::Row;
-use esm_base::Status;
+use esm_base::{Memory, Status};
 
-/// Calls and errors.
-pub const CALLS: &[Row] = &[
+/// Calls.
+const CALLS: &[Row] = &[
     Row {
         name: "a call without return",
         files: &[("main.js", r#"function f(){ "a"; } print(f());"#)],
@@ -91,6 +92,10 @@ pub const CALLS: &[Row] = &[
         output: "TypeError: not a function\nRangeError: call depth\n",
         status: Status::Fulfilled,
     },
+];
+
+/// Errors that are made.
+const MESSAGES: &[Row] = &[
     Row {
         name: "new Error of each simple value",
         files: &[(
@@ -123,8 +128,8 @@ pub const CALLS: &[Row] = &[
     },
 ];
 
-/// Throws, conditions and texts.
-pub const THROWS: &[Row] = &[
+/// Throws.
+const THROWS: &[Row] = &[
     Row {
         name: "a throw of a text",
         files: &[("main.js", r#"throw "a";"#)],
@@ -155,6 +160,10 @@ pub const THROWS: &[Row] = &[
         output: "1\nUncaught a\n",
         status: Status::EntryFailed,
     },
+];
+
+/// `try` and `catch`.
+const HANDLERS: &[Row] = &[
     Row {
         name: "try takes a throw",
         files: &[(
@@ -254,6 +263,10 @@ pub const THROWS: &[Row] = &[
         output: "2\n1\n",
         status: Status::Fulfilled,
     },
+];
+
+/// `return` through `try`, and `if`.
+const RETURNS: &[Row] = &[
     Row {
         name: "return through try",
         files: &[(
@@ -332,6 +345,10 @@ pub const THROWS: &[Row] = &[
         output: "2\n1\n",
         status: Status::Fulfilled,
     },
+];
+
+/// How texts and statements are written.
+const SPELLINGS: &[Row] = &[
     Row {
         name: "escapes",
         files: &[("main.js", "print(\"a\\tb\\x41\\u0042\\u{43}\\'\\q\");")],
@@ -387,3 +404,39 @@ pub const THROWS: &[Row] = &[
         status: Status::Fulfilled,
     },
 ];
+
+#[test]
+fn functions_are_called(rt: HostRuntime) -> Result<(), Memory> {
+    assert_eq!(rt; first_wrong(&rt, rt.alloc(), CALLS)?, None);
+    Ok(())
+}
+
+#[test]
+fn errors_are_made(rt: HostRuntime) -> Result<(), Memory> {
+    assert_eq!(rt; first_wrong(&rt, rt.alloc(), MESSAGES)?, None);
+    Ok(())
+}
+
+#[test]
+fn throws_end_a_body(rt: HostRuntime) -> Result<(), Memory> {
+    assert_eq!(rt; first_wrong(&rt, rt.alloc(), THROWS)?, None);
+    Ok(())
+}
+
+#[test]
+fn handlers_take_throws(rt: HostRuntime) -> Result<(), Memory> {
+    assert_eq!(rt; first_wrong(&rt, rt.alloc(), HANDLERS)?, None);
+    Ok(())
+}
+
+#[test]
+fn returns_and_branches(rt: HostRuntime) -> Result<(), Memory> {
+    assert_eq!(rt; first_wrong(&rt, rt.alloc(), RETURNS)?, None);
+    Ok(())
+}
+
+#[test]
+fn texts_are_read_as_written(rt: HostRuntime) -> Result<(), Memory> {
+    assert_eq!(rt; first_wrong(&rt, rt.alloc(), SPELLINGS)?, None);
+    Ok(())
+}

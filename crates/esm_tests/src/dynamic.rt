@@ -1,9 +1,10 @@
 // Worked sites with `import()`.
+use crate::orders::first_wrong_order;
 use crate::sites::Row;
-use esm_base::Status;
+use esm_base::{Memory, Status};
 
-/// Sites with `import()` whose run is the same in every order in which their fetches end.
-pub const DYNAMIC: &[Row] = &[
+/// Modules that load, or are there.
+const LOADS: &[Row] = &[
     Row {
         name: "a module that nobody has asked for",
         files: &[
@@ -106,6 +107,10 @@ pub const DYNAMIC: &[Row] = &[
         output: "m1\na1\na2\nm2\n",
         status: Status::Fulfilled,
     },
+];
+
+/// Modules that lead to themselves.
+const CIRCLES: &[Row] = &[
     Row {
         name: "the entry imports itself and waits for itself",
         files: &[(
@@ -152,6 +157,10 @@ pub const DYNAMIC: &[Row] = &[
         output: "a\nb\nUnsettled\n",
         status: Status::Unsettled,
     },
+];
+
+/// Files and texts that fail, and specifiers.
+const MISSING: &[Row] = &[
     Row {
         name: "a file that is missing",
         files: &[("main.js", r#"await import("./no.js");"#)],
@@ -246,6 +255,10 @@ pub const DYNAMIC: &[Row] = &[
         output: "ReferenceError: x is not defined\n",
         status: Status::Fulfilled,
     },
+];
+
+/// Links and bodies that fail.
+const FAILURES: &[Row] = &[
     Row {
         name: "a name that is missing",
         files: &[
@@ -366,6 +379,10 @@ pub const DYNAMIC: &[Row] = &[
         output: "m\na\n",
         status: Status::Fulfilled,
     },
+];
+
+/// Loads side by side.
+const SIDE_BY_SIDE: &[Row] = &[
     Row {
         name: "the entry fails while an import goes on",
         files: &[
@@ -405,6 +422,10 @@ pub const DYNAMIC: &[Row] = &[
         output: "TypeError: cannot fetch https://a.test/no.js\nTypeError: cannot fetch https://a.test/no.js\nm\n",
         status: Status::Fulfilled,
     },
+];
+
+/// Promises as values.
+const PROMISES: &[Row] = &[
     Row {
         name: "three jobs between an import() and the body behind its await",
         files: &[
@@ -476,6 +497,10 @@ pub const DYNAMIC: &[Row] = &[
         output: "true\n",
         status: Status::Fulfilled,
     },
+];
+
+/// What an import reaches.
+const REACHES: &[Row] = &[
     Row {
         name: "a live binding by a namespace that was imported",
         files: &[
@@ -539,6 +564,21 @@ pub struct Race {
 /// Sites whose run depends on the order in which their fetches end, with all orders of each.
 pub const RACES: &[Race] = &[
     Race {
+        name: "two files that nothing else imports",
+        files: &[
+            (
+                "main.js",
+                r#"const p = import("./a.js"); const q = import("./b.js"); await p; await q;"#,
+            ),
+            ("a.js", r#"print("A");"#),
+            ("b.js", r#"print("B");"#),
+        ],
+        runs: &[
+            (&["main.js", "a.js", "b.js"], "A\nB\n"),
+            (&["main.js", "b.js", "a.js"], "B\nA\n"),
+        ],
+    },
+    Race {
         name: "two loads share a module that is not there yet",
         files: &[
             (
@@ -582,3 +622,45 @@ pub const RACES: &[Race] = &[
         ],
     },
 ];
+
+#[test]
+fn modules_are_imported(rt: HostRuntime) -> Result<(), Memory> {
+    assert_eq!(rt; first_wrong_order(&rt, rt.alloc(), LOADS, 9)?, None);
+    Ok(())
+}
+
+#[test]
+fn modules_wait_for_themselves(rt: HostRuntime) -> Result<(), Memory> {
+    assert_eq!(rt; first_wrong_order(&rt, rt.alloc(), CIRCLES, 5)?, None);
+    Ok(())
+}
+
+#[test]
+fn imports_fail(rt: HostRuntime) -> Result<(), Memory> {
+    assert_eq!(rt; first_wrong_order(&rt, rt.alloc(), MISSING, 10)?, None);
+    Ok(())
+}
+
+#[test]
+fn evaluation_fails(rt: HostRuntime) -> Result<(), Memory> {
+    assert_eq!(rt; first_wrong_order(&rt, rt.alloc(), FAILURES, 14)?, None);
+    Ok(())
+}
+
+#[test]
+fn loads_go_side_by_side(rt: HostRuntime) -> Result<(), Memory> {
+    assert_eq!(rt; first_wrong_order(&rt, rt.alloc(), SIDE_BY_SIDE, 6)?, None);
+    Ok(())
+}
+
+#[test]
+fn promises_are_values(rt: HostRuntime) -> Result<(), Memory> {
+    assert_eq!(rt; first_wrong_order(&rt, rt.alloc(), PROMISES, 8)?, None);
+    Ok(())
+}
+
+#[test]
+fn imports_reach_further(rt: HostRuntime) -> Result<(), Memory> {
+    assert_eq!(rt; first_wrong_order(&rt, rt.alloc(), REACHES, 4)?, None);
+    Ok(())
+}

@@ -17,6 +17,8 @@ mod graphs;
 #[cfg(test)]
 mod helpers;
 #[cfg(test)]
+mod limits;
+#[cfg(test)]
 mod maps;
 #[cfg(test)]
 mod names;
@@ -25,11 +27,15 @@ mod orders;
 #[cfg(test)]
 mod runs;
 #[cfg(test)]
+mod shop;
+#[cfg(test)]
 mod sites;
 #[cfg(test)]
 mod steps;
 #[cfg(test)]
 mod values;
+#[cfg(test)]
+mod worked;
 #[cfg(test)]
 mod workers;
 

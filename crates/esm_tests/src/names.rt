@@ -1,9 +1,10 @@
 // Worked bodies: names, scopes and imports.
+use crate::graphs::first_wrong;
 use crate::sites::Row;
-use esm_base::Status;
+use esm_base::{Memory, Status};
 
-/// The order of evaluation, names and scopes.
-pub const NAMES: &[Row] = &[
+/// The order of evaluation.
+const ORDERS: &[Row] = &[
     Row {
         name: "operands from left to right",
         files: &[(
@@ -94,6 +95,10 @@ pub const NAMES: &[Row] = &[
         output: "ReferenceError: x is not defined\n",
         status: Status::Fulfilled,
     },
+];
+
+/// Names before and behind their declarations.
+const UNSET: &[Row] = &[
     Row {
         name: "a name that nobody declares",
         files: &[("main.js", "print(a);")],
@@ -148,6 +153,10 @@ pub const NAMES: &[Row] = &[
         output: "a\n",
         status: Status::Fulfilled,
     },
+];
+
+/// Names that hide others.
+const SHADOWS: &[Row] = &[
     Row {
         name: "a block shadows",
         files: &[(
@@ -196,6 +205,10 @@ pub const NAMES: &[Row] = &[
         output: "1 undefined\nundefined undefined\n",
         status: Status::Fulfilled,
     },
+];
+
+/// Names that are written.
+const WRITES: &[Row] = &[
     Row {
         name: "a parameter may be written",
         files: &[(
@@ -264,8 +277,8 @@ pub const NAMES: &[Row] = &[
     },
 ];
 
-/// Imports and members.
-pub const MEMBERS: &[Row] = &[
+/// Imports and exports.
+const BINDINGS: &[Row] = &[
     Row {
         name: "an import is live",
         files: &[
@@ -374,6 +387,10 @@ pub const MEMBERS: &[Row] = &[
         output: "2\n",
         status: Status::Fulfilled,
     },
+];
+
+/// Members.
+const MEMBERS: &[Row] = &[
     Row {
         name: "a key of a namespace is its binding",
         files: &[
@@ -480,3 +497,39 @@ pub const MEMBERS: &[Row] = &[
         status: Status::Fulfilled,
     },
 ];
+
+#[test]
+fn parts_are_evaluated_in_order(rt: HostRuntime) -> Result<(), Memory> {
+    assert_eq!(rt; first_wrong(&rt, rt.alloc(), ORDERS)?, None);
+    Ok(())
+}
+
+#[test]
+fn names_are_unset_until_they_are_set(rt: HostRuntime) -> Result<(), Memory> {
+    assert_eq!(rt; first_wrong(&rt, rt.alloc(), UNSET)?, None);
+    Ok(())
+}
+
+#[test]
+fn names_hide_others(rt: HostRuntime) -> Result<(), Memory> {
+    assert_eq!(rt; first_wrong(&rt, rt.alloc(), SHADOWS)?, None);
+    Ok(())
+}
+
+#[test]
+fn names_are_written(rt: HostRuntime) -> Result<(), Memory> {
+    assert_eq!(rt; first_wrong(&rt, rt.alloc(), WRITES)?, None);
+    Ok(())
+}
+
+#[test]
+fn imports_are_live(rt: HostRuntime) -> Result<(), Memory> {
+    assert_eq!(rt; first_wrong(&rt, rt.alloc(), BINDINGS)?, None);
+    Ok(())
+}
+
+#[test]
+fn members_are_read(rt: HostRuntime) -> Result<(), Memory> {
+    assert_eq!(rt; first_wrong(&rt, rt.alloc(), MEMBERS)?, None);
+    Ok(())
+}

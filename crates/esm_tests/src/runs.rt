@@ -1,10 +1,10 @@
 // Whole runs, from the words to the bytes.
 ghost use Rattle.std.specs.Prelude.{◌≡◌, ◌<◌, ◌-◌, ◌^◌, [], ◌∷◌, All};
 
-use crate::helpers::{COMMAND, failing, sure, words};
+use crate::helpers::{COMMAND, failing, site, sure, words};
 use esm_ast::Outcome;
 use esm_base::{Memory, Status};
-use esm_ports::{MemSink, Source, SureSink};
+use esm_ports::{MemSink, Source, SureSink, SureSource};
 use esm_run::run;
 
 const USAGE: &str = "esm: these words are no command\n";
@@ -125,6 +125,28 @@ fn a_failing_sink_keeps_what_it_took(rt: HostRuntime) -> Result<(), Memory> {
     let mut desk = sure(alloc, None)?;
     let mut sources = Vec::new(alloc);
     sources.push(sure(alloc, Some(b"print(\"a1\")\nprint(\"b1\")"))?)?;
+    let mut out = MemSink::new(alloc, 4, vec![in alloc; 2]?);
+    let report = run(&rt, alloc, &words, &mut desk, sources, &mut out);
+    assert_eq!(rt; report.status, Status::WriteFault);
+    assert!(rt; out.written() == b"a1\nb".as_slice());
+    Ok(())
+}
+
+#[test]
+fn a_failing_sink_keeps_what_two_bodies_wrote(rt: HostRuntime) -> Result<(), Memory> {
+    let alloc = rt.alloc();
+    let files = [
+        (
+            "main.js",
+            "import \"./a.js\"; import \"./b.js\"; print(\"m\");",
+        ),
+        ("a.js", "print(\"a1\"); await undefined; print(\"a2\");"),
+        ("b.js", "print(\"b1\"); await undefined; print(\"b2\");"),
+    ];
+    let words = words(alloc, COMMAND)?;
+    let mut desk = sure(alloc, None)?;
+    let mut sources = Vec::new(alloc);
+    sources.push(SureSource::new(alloc, site(alloc, &files)?)?)?;
     let mut out = MemSink::new(alloc, 4, vec![in alloc; 2]?);
     let report = run(&rt, alloc, &words, &mut desk, sources, &mut out);
     assert_eq!(rt; report.status, Status::WriteFault);

@@ -1,5 +1,6 @@
 // Worked sites: their files, and what a run of their `main.js` writes.
-use esm_base::Status;
+use crate::graphs::first_wrong;
+use esm_base::{Memory, Status};
 
 /// A site below `https://a.test/`, and how the run of its `main.js` ends.
 pub struct Row {
@@ -123,7 +124,7 @@ pub const SITES: &[Row] = &[
 ];
 
 /// Sites whose entry fails, where fetches end in the order in which they begin.
-pub const FAILING: &[Row] = &[
+const FAILING: &[Row] = &[
     Row {
         name: "two missing files",
         files: &[(
@@ -197,3 +198,15 @@ pub const FAILING: &[Row] = &[
         status: Status::EntryFailed,
     },
 ];
+
+#[test]
+fn sites_run(rt: HostRuntime) -> Result<(), Memory> {
+    assert_eq!(rt; first_wrong(&rt, rt.alloc(), SITES)?, None);
+    Ok(())
+}
+
+#[test]
+fn sites_fail(rt: HostRuntime) -> Result<(), Memory> {
+    assert_eq!(rt; first_wrong(&rt, rt.alloc(), FAILING)?, None);
+    Ok(())
+}

@@ -277,8 +277,8 @@ const JOINS: &[Form] = &[
     },
 ];
 
-// The same text so many times.
-fn push_times(text: &mut String, many: u64, piece: &str) -> Result<(), Memory> {
+/// Adds the same text so many times.
+pub fn push_times(text: &mut String, many: u64, piece: &str) -> Result<(), Memory> {
     for _ in 0..many {
         text.push_str(piece)?;
     }

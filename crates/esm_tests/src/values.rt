@@ -1,9 +1,10 @@
 // Worked bodies: values, their display texts and operators, and the order of evaluation.
+use crate::graphs::first_wrong;
 use crate::sites::Row;
-use esm_base::Status;
+use esm_base::{Memory, Status};
 
-/// Display texts and operators.
-pub const VALUES: &[Row] = &[
+/// What is printed.
+const PRINTED: &[Row] = &[
     Row {
         name: "print of no argument",
         files: &[("main.js", "print();")],
@@ -94,6 +95,10 @@ pub const VALUES: &[Row] = &[
         output: "[module 𐀀, Ａ]\n",
         status: Status::Fulfilled,
     },
+];
+
+/// `!`, `&&` and `||`.
+const LOGIC: &[Row] = &[
     Row {
         name: "not of each value",
         files: &[(
@@ -157,6 +162,10 @@ pub const VALUES: &[Row] = &[
         output: "\n",
         status: Status::Fulfilled,
     },
+];
+
+/// `===` and `!==`.
+const SAME: &[Row] = &[
     Row {
         name: "texts are the same by characters",
         files: &[(
@@ -233,6 +242,10 @@ pub const VALUES: &[Row] = &[
         output: "true false true\n",
         status: Status::Fulfilled,
     },
+];
+
+/// `+` that gives a text.
+const JOINS: &[Row] = &[
     Row {
         name: "texts are joined",
         files: &[("main.js", r#"print("a" + "b", "" + "", "a" + "");"#)],
@@ -275,6 +288,10 @@ pub const VALUES: &[Row] = &[
         output: "atruefalse abc\n",
         status: Status::Fulfilled,
     },
+];
+
+/// `+` that throws, and how closely operators bind.
+const COMPLAINTS: &[Row] = &[
     Row {
         name: "two truth values are no operands",
         files: &[("main.js", "true + false;")],
@@ -330,3 +347,33 @@ pub const VALUES: &[Row] = &[
         status: Status::Fulfilled,
     },
 ];
+
+#[test]
+fn values_are_printed(rt: HostRuntime) -> Result<(), Memory> {
+    assert_eq!(rt; first_wrong(&rt, rt.alloc(), PRINTED)?, None);
+    Ok(())
+}
+
+#[test]
+fn operators_of_truth(rt: HostRuntime) -> Result<(), Memory> {
+    assert_eq!(rt; first_wrong(&rt, rt.alloc(), LOGIC)?, None);
+    Ok(())
+}
+
+#[test]
+fn values_are_the_same(rt: HostRuntime) -> Result<(), Memory> {
+    assert_eq!(rt; first_wrong(&rt, rt.alloc(), SAME)?, None);
+    Ok(())
+}
+
+#[test]
+fn values_are_joined(rt: HostRuntime) -> Result<(), Memory> {
+    assert_eq!(rt; first_wrong(&rt, rt.alloc(), JOINS)?, None);
+    Ok(())
+}
+
+#[test]
+fn values_are_no_operands(rt: HostRuntime) -> Result<(), Memory> {
+    assert_eq!(rt; first_wrong(&rt, rt.alloc(), COMPLAINTS)?, None);
+    Ok(())
+}

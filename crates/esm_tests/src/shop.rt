@@ -1,0 +1,228 @@
+// A site of forty modules in three packages under an import map with a scope.
+ghost use Rattle.std.specs.Prelude.{◌≡◌, ◌<◌, ◌≤◌, [], All, IfOk, vec_len};
+
+use crate::helpers::{files, words};
+use esm_base::{Memory, Status, Text};
+use esm_ports::{AskKind, MemSink, MemSource, Source, SureSink, SureSource};
+use esm_run::run;
+use std::alloc::Global;
+
+const COMMAND: &str = "run https://shop.test/ app/main.js --map map.json";
+
+const MAP_URL: &str = "https://shop.test/map.json";
+
+const MAP: &str =
+    r#"{"imports":{"ui/":"/pkg/ui-2/","store":"/pkg/store/index.js","fmt/":"/pkg/fmt/src/"},"scopes":{"/legacy/":{"ui/":"/pkg/ui-1/"}}}"#;
+
+const OUTPUT: &str = "- old\n== shop 3\n* item 1 * item 12\n";
+
+// The files that stand alone.
+const FILES: &[(&str, &str)] = &[
+    (
+        "pkg/ui-2/row.js",
+        r#"import { sep } from "./sep.js"; export function row(x) { return sep + x; }"#,
+    ),
+    ("pkg/ui-2/sep.js", r#"export const sep = "* ";"#),
+    (
+        "pkg/ui-2/title.js",
+        r#"import { head } from "fmt/index.js"; export function title(x) { return head + x; }"#,
+    ),
+    (
+        "pkg/fmt/src/index.js",
+        r#"export * from "./l1.js"; export * from "./l2.js"; export * from "./l3.js"; export * from "./l4.js"; export * from "./l5.js"; export * from "./l6.js"; export * from "./l7.js"; export const head = "== ";"#,
+    ),
+    (
+        "pkg/store/index.js",
+        r#"export { total } from "./core.js";"#,
+    ),
+    (
+        "pkg/store/core.js",
+        r#"let n = "3"; export function total() { return n; }"#,
+    ),
+    (
+        "legacy/old.js",
+        r#"import { row } from "ui/row.js"; print(row("old"));"#,
+    ),
+    (
+        "pkg/ui-1/row.js",
+        r#"export function row(x) { return "- " + x; }"#,
+    ),
+];
+
+// The file of this name.
+fn add(
+    alloc: Global,
+    files: &mut Vec<(Text, Vec<u8>)>,
+    name: &str,
+    body: &str,
+) -> Result<(), Memory> {
+    let url = format!(in alloc; "https://shop.test/{name}")?;
+    let body = Vec::from_slice(alloc, body.as_bytes())?;
+    files.push((Text::from_string(url), body))?;
+    Ok(())
+}
+
+// The entry imports twelve pages.
+fn add_main(alloc: Global, files: &mut Vec<(Text, Vec<u8>)>) -> Result<(), Memory> {
+    let mut text = String::from_str(
+        alloc,
+        r#"import { title } from "ui/title.js"; import { total } from "store";"#,
+    )?;
+    for k in 1..13u64 {
+        let page = format!(in alloc; " import * as p{k} from \"./page{k}.js\";")?;
+        text.push_str(page.as_str())?;
+    }
+    text.push_str(
+        r#" import "../legacy/old.js"; print(title("shop"), total()); print(p1.name, p12.name);"#,
+    )?;
+    add(alloc, files, "app/main.js", text.as_str())
+}
+
+// A page, and the data that it shows.
+fn add_page(alloc: Global, files: &mut Vec<(Text, Vec<u8>)>, k: u64) -> Result<(), Memory> {
+    let name = format!(in alloc; "app/page{k}.js")?;
+    let mut page = format!(in alloc; "import {{ data }} from \"./data/d{k}.js\";")?;
+    page.push_str(r#" import { row } from "ui/row.js"; export const name = row(data);"#)?;
+    add(alloc, files, name.as_str(), page.as_str())?;
+    let name = format!(in alloc; "app/data/d{k}.js")?;
+    let data = format!(in alloc; "export const data = await \"item {k}\";")?;
+    add(alloc, files, name.as_str(), data.as_str())
+}
+
+// All forty files.
+fn shop(alloc: Global) -> Result<Vec<(Text, Vec<u8>)>, Memory> {
+    let mut files = Vec::new(alloc);
+    add_main(alloc, &mut files)?;
+    for k in 1..13u64 {
+        add_page(alloc, &mut files, k)?;
+    }
+    for (name, text) in FILES {
+        add(alloc, &mut files, name, text)?;
+    }
+    for j in 1..8u64 {
+        let name = format!(in alloc; "pkg/fmt/src/l{j}.js")?;
+        let text = format!(in alloc; "export const word{j} = \"{j}\";")?;
+        add(alloc, &mut files, name.as_str(), text.as_str())?;
+    }
+    Ok(files)
+}
+
+// The file of the import map.
+fn map_file(alloc: Global) -> Result<Vec<(Text, Vec<u8>)>, Memory> {
+    files(alloc, MAP_URL, Some(MAP.as_bytes()))
+}
+
+// What is asked for the import map.
+fn desk(alloc: Global) -> Result<SureSource, Memory>
+    ensures { IfOk result (λ s. s.asked ≡ []) }
+{
+    SureSource::new(alloc, map_file(alloc)?)
+}
+
+// Four sources over the same files.
+fn four_sources(alloc: Global) -> Result<Vec<SureSource>, Memory>
+    ensures some { IfOk result (λ v. 0 < vec_len v) }
+    ensures fresh { IfOk result (λ v. All (λ s. s.asked ≡ []) v.items) }
+{
+    let mut sources = Vec::new(alloc);
+    sources.push(SureSource::new(alloc, shop(alloc)?)?)?;
+    sources.push(SureSource::new(alloc, shop(alloc)?)?)?;
+    sources.push(SureSource::new(alloc, shop(alloc)?)?)?;
+    sources.push(SureSource::new(alloc, shop(alloc)?)?)?;
+    Ok(sources)
+}
+
+#[test]
+fn the_shop_runs_the_same_over_one_worker_and_four(rt: HostRuntime) -> Result<(), Memory> {
+    let alloc = rt.alloc();
+    for more in ["", " --workers 1", " --workers 4"] {
+        let line = format!(in alloc; "{COMMAND}{more}")?;
+        let words = words(alloc, line.as_str())?;
+        let mut desk = desk(alloc)?;
+        let mut out = SureSink::new(alloc);
+        let report = run(
+            &rt,
+            alloc,
+            &words,
+            &mut desk,
+            four_sources(alloc)?,
+            &mut out,
+        );
+        assert_eq!(rt; report.status, Status::Fulfilled, "{more}");
+        assert!(rt; out.written() == OUTPUT.as_bytes(), "{more}");
+        assert_eq!(rt; report.taken.len(), 40, "{more}");
+    }
+    Ok(())
+}
+
+// The line of the first fetch that failed.
+fn failed_line(alloc: Global, source: &MemSource) -> Result<String, Memory> {
+    for asked in source.asked() {
+        if asked.kind == AskKind::Failed {
+            return Ok(format!(in alloc; "Uncaught TypeError: cannot fetch {}\n", asked.url)?);
+        }
+    }
+    Ok(String::new(alloc))
+}
+
+// One source over all forty files, of which the fetch with this number fails.
+fn failing_source(alloc: Global, number: u64) -> Result<Vec<MemSource>, Memory>
+    ensures some { IfOk result (λ v. 0 < vec_len v) }
+    ensures fresh { IfOk result (λ v. All (λ s. s.asked ≡ []) v.items) }
+{
+    let mut sources = Vec::new(alloc);
+    sources.push(MemSource::new(alloc, shop(alloc)?, vec![in alloc; number]?)?)?;
+    Ok(sources)
+}
+
+// Each of the forty files is fetched once, and whichever fails is named.
+#[test]
+fn whichever_fetch_of_the_shop_fails_is_named(rt: HostRuntime) -> Result<(), Memory> {
+    let alloc = rt.alloc();
+    let line = format!(in alloc; "{COMMAND} --workers 1")?;
+    let words = words(alloc, line.as_str())?;
+    for number in 1..41u64 {
+        let mut desk = MemSource::new(alloc, map_file(alloc)?, Vec::new(alloc))?;
+        let sources = failing_source(alloc, number)?;
+        let mut out = SureSink::new(alloc);
+        let report = run(&rt, alloc, &words, &mut desk, sources, &mut out);
+        assert_eq!(rt; report.status, Status::EntryFailed, "{number}");
+        let Some(source) = report.sources.first() else {
+            return Err(Memory);
+        };
+        assert_eq!(rt; source.faults(), 1, "{number}");
+        let line = failed_line(alloc, source)?;
+        assert!(rt; out.written() == line.as_bytes(), "{number}");
+    }
+    Ok(())
+}
+
+// A sink that takes seven bytes at a time has taken five pieces when the whole text is written.
+#[test]
+fn whichever_write_of_the_shop_fails_ends_it(rt: HostRuntime) -> Result<(), Memory> {
+    let alloc = rt.alloc();
+    let words = words(alloc, COMMAND)?;
+    for (number, taken, status) in [
+        (1u64, 0usize, Status::WriteFault),
+        (2, 7, Status::WriteFault),
+        (3, 14, Status::WriteFault),
+        (4, 21, Status::WriteFault),
+        (5, 28, Status::WriteFault),
+        (6, 35, Status::Fulfilled),
+    ] {
+        let mut desk = desk(alloc)?;
+        let mut out = MemSink::new(alloc, 7, vec![in alloc; number]?);
+        let report = run(
+            &rt,
+            alloc,
+            &words,
+            &mut desk,
+            four_sources(alloc)?,
+            &mut out,
+        );
+        assert_eq!(rt; report.status, status, "{number}");
+        assert_eq!(rt; out.written().len(), taken, "{number}");
+        assert!(rt; OUTPUT.as_bytes().starts_with(out.written()), "{number}");
+    }
+    Ok(())
+}
