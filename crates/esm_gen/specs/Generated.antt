@@ -55,7 +55,7 @@ module_file start count i = record { url = module_url i; text = module_text star
 abbrev pub files_of : ℕ → ℕ → List File
 files_of start count = map (module_file start count) (range_with_len 0 count)
 
--- what files have at a URL
+-- what files have at a URL: the text of the first file with this URL
 abbrev pub text_at : List File → Url → Option Text
 text_at [] url = None
 text_at (file ∷ files) url = if bytes_eq file.url url then Some file.text else text_at files url

@@ -114,7 +114,7 @@ fn add_deliveries(alloc: Global, text: &mut Vec<u8>, taken: &[Delivery]) -> Resu
 }
 
 /// Appends the record of a run to a text: its base and entry, the import map with its URL and bytes, and what was taken, in
-/// that order. Where memory runs out, some first bytes of the record may stand in the text.
+/// that order. Where memory runs out nothing is said of the text.
 pub fn append_record(
     alloc: Global,
     text: &mut Vec<u8>,
