@@ -11,7 +11,7 @@ use Rattle.esm_import_map.specs.declared.fault.MapFault.{MapFault}
 use Rattle.esm_import_map.specs.declared.fault.MapFault.TheVariants.{M1, M2, M3, M4}
 use Rattle.esm_import_map.specs.ImportMap.{Maps, no_maps}
 use Rattle.esm_import_map.specs.Reading.{import_map_of}
-use Rattle.esm_run.specs.declared.arguments.Command.{Command}
+use Rattle.esm_arguments.specs.declared.command.Command.{Command}
 use Rattle.esm_run.specs.declared.command_map.MapRefusal.{MapRefusal}
 use Rattle.esm_run.specs.declared.command_map.MapRefusal.TheVariants.{NotFetched, NotRead}
 use Rattle.esm_fetch.specs.Answered.{Contents}

@@ -4,7 +4,7 @@ ghost use Rattle.esm_base.specs.Ends.{Gives};
 ghost use Rattle.esm_run.specs.CommandMap as spec;
 ghost use Rattle.esm_run.specs.Inner.MapReading.{FetchesMap, GivesMapOf};
 
-use crate::arguments::Command;
+use esm_arguments::Command;
 use esm_base::{End, Memory, Text};
 use esm_import_map::{ImportMap, MapFault};
 use esm_ports::{FetchEnd, Source};

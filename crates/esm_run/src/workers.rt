@@ -1,5 +1,5 @@
 // A run over the sources: the calling thread has the first, and each other is asked by a worker in a thread of its own.
-ghost use Rattle.std.specs.Prelude.{◌≡◌, ◌≤◌, ◌<◌, ◌+◌, ◌-◌, ◌∷◌, ◌++◌, ℕ, [], List, length, map, cond, All, IfOk, OnOk, None, true, vec_len, Bool, false};
+ghost use Rattle.std.specs.Prelude.{◌≡◌, ◌≤◌, ◌<◌, ◌+◌, ◌-◌, ◌∷◌, ◌++◌, ℕ, [], List, length, map, cond, All, IfOk, OnOk, None, true, vec_len, Bool};
 ghost use Rattle.std.specs.Arc.{arc_value};
 ghost use Rattle.std.specs.Vec.{vec_capacity};
 ghost use Rattle.std.specs.Thread.{IsSync};
@@ -135,6 +135,7 @@ fn with_workers<R: Threads + Wait + Sync, S: Source + Send>(
     bell: &Bell,
     import_map: Arc<ImportMap, Global>,
     entry: &Text,
+    trace: bool,
     caller: Caller<Posted>,
     workers: Vec<Caller<Posted>>,
     sources: Vec<S>,
@@ -155,13 +156,15 @@ fn with_workers<R: Threads + Wait + Sync, S: Source + Send>(
     ensures makers { HasAllMakers maker_of (view_in result.caller.pass) }
     ensures kept { map S.holds result.sources.items ≡ map S.holds sources.items }
     ensures room { vec_capacity result.sources ≡ vec_capacity sources }
-    ensures led { IsShared S.holds S.asked (arc_value import_map) entry.now false
+    ensures led { IsShared S.holds S.asked (arc_value import_map) entry.now trace
         (view_in result.caller.pass) result.machine (deliveries_of result.taken.items) result.sources.items }
 {
     let mut workers = workers;
     let mut sources = sources;
     match workers.pop() {
-        None => lead(rt, alloc, modules, bell, import_map, entry, caller, sources),
+        None => lead(
+            rt, alloc, modules, bell, import_map, entry, trace, caller, sources,
+        ),
         Some(mine) => {
             let Some(source) = sources.pop() else {
                 unreachable!()
@@ -196,10 +199,10 @@ fn with_workers<R: Threads + Wait + Sync, S: Source + Send>(
                         × ((view_in result.caller.pass).shares ≡ (view_in caller.pass).shares + length workers.items)
                         × (map S.holds result.sources.items ≡ map S.holds sources.items)
                         × (vec_capacity result.sources ≡ vec_capacity sources)
-                        × IsShared S.holds S.asked (arc_value import_map) entry.entry.now false (view_in result.caller.pass) result.machine (deliveries_of result.taken.items) result.sources.items }
+                        × IsShared S.holds S.asked (arc_value import_map) entry.entry.now trace (view_in result.caller.pass) result.machine (deliveries_of result.taken.items) result.sources.items }
                 {
                     with_workers(
-                        rt, alloc, modules, bell, import_map, entry, caller, workers, sources,
+                        rt, alloc, modules, bell, import_map, entry, trace, caller, workers, sources,
                     )
                 },
             );
@@ -321,6 +324,7 @@ pub(crate) fn run_graph<R: Threads + Wait + Sync, S: Source + Send>(
     alloc: Global,
     map: ImportMap,
     entry: &Text,
+    trace: bool,
     workers: usize,
     sources: Vec<S>,
 ) -> GraphEnd<S>
@@ -328,7 +332,7 @@ pub(crate) fn run_graph<R: Threads + Wait + Sync, S: Source + Send>(
     requires some { 0 < workers }
     requires few { (workers ≤ 16) × (workers ≤ vec_len sources) }
     requires fresh { All (λ s. S.asked s ≡ []) sources.items }
-    ensures { IsGraphRun S.asked S.holds map entry.now false workers result.machine
+    ensures { IsGraphRun S.asked S.holds map entry.now trace workers result.machine
         (deliveries_of result.taken.items) sources.items result.sources.items }
 {
     map_laws::callers::<Posted>();
@@ -350,7 +354,7 @@ pub(crate) fn run_graph<R: Threads + Wait + Sync, S: Source + Send>(
     } = ready;
     let bell = Bell::new();
     let led = with_workers(
-        rt, alloc, &modules, &bell, map, entry, caller, callers, sources,
+        rt, alloc, &modules, &bell, map, entry, trace, caller, callers, sources,
     );
     let Led {
         machine,
