@@ -89,6 +89,11 @@ KnownBy (Some url) base desk maps = HoldsMap desk base url maps
 abbrev pub KnownMap : Command → DeskChange → Maps → Type 0
 KnownMap command desk maps = KnownBy command.map command.base desk maps
 
+-- the bytes of the command's map, as the desk answered them; none without `--map`
+abbrev pub AreGiven : Option Url → DeskChange → Option (List ℕ) → Type 0
+AreGiven None desk bytes = bytes ≡ None
+AreGiven (Some url) desk bytes = (answer : List ℕ) × (bytes ≡ Some answer) × AreHeld desk.holds url answer
+
 -- ---- what is written where there is no map
 
 -- own: the fault of an import map, as it is printed

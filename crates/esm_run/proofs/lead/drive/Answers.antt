@@ -3,7 +3,7 @@ use Rattle.std.specs.Prelude.{All}
 use Rattle.std.specs.Arc.{arc_value}
 use Rattle.std.proofs.lemmas.List.Elements.{All-nil}
 use Rattle.esm_module_map.specs.Views.{view_in}
-use Rattle.esm_run.specs.Taken.{deliveries_of}
+use Rattle.esm_record.specs.Delivered.{deliveries_of}
 use Rattle.esm_run.specs.Inner.Leading.{HasTicket, IsLed, IsLedShort}
 use Rattle.esm_run.proofs.LeadLemmas.{led_new, short_new, short_of, serves_next, served_next}
 use Rattle.esm_run.proofs.lead.drive.Goals as goal

@@ -3,7 +3,7 @@ use Rattle.std.specs.Prelude.{All}
 use Rattle.std.specs.Arc.{arc_value}
 use Rattle.esm_module_map.specs.Views.{view_in, table_of, Same}
 use Rattle.esm_fetch.specs.Serving.{Serves}
-use Rattle.esm_run.specs.Taken.{deliveries_of}
+use Rattle.esm_record.specs.Delivered.{deliveries_of}
 use Rattle.esm_run.specs.Inner.Leading.{HasTicket, IsLed}
 use Rattle.esm_run.proofs.lead.drive.Given as goal
 

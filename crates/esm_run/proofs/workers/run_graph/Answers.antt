@@ -3,7 +3,7 @@ use Rattle.std.specs.Prelude.{All}
 use Rattle.std.proofs.lemmas.List.{length-map, take-append-drop}
 use Rattle.std.proofs.lemmas.List.Elements.{All-take, All-drop}
 use Rattle.esm_module_map.specs.Views.{view_in}
-use Rattle.esm_run.specs.Taken.{deliveries_of}
+use Rattle.esm_record.specs.Delivered.{deliveries_of}
 use Rattle.esm_run.specs.Inner.Leading.{IsShared}
 use Rattle.esm_run.proofs.ReportLemmas.{graph_none, graph_of}
 use Rattle.esm_run.proofs.workers.run_graph.Goals as goal
