@@ -12,9 +12,8 @@ use Rattle.url.specs.Parts.{Parts, serialize}
 use Rattle.esm_base.specs.Urls.{Text, is_usable, url_of}
 use Rattle.esm_arguments.specs.declared.command.Command.{Command}
 use Rattle.esm_arguments.specs.declared.command.Generation.{Generation}
-use Rattle.esm_arguments.specs.declared.said.Said.{Said}
 use Rattle.esm_arguments.specs.Numbers.{is_outside, number_on, number_of, within}
-use Rattle.esm_arguments.specs.Said.{behind, said_on}
+use Rattle.esm_arguments.specs.Said.{Said, behind}
 use Rattle.esm_arguments.specs.Commands.{command_by, command_on, command_with, command_said, generation_by, generation_said, generation_with, map_url, threads_by, usable_text, workers_by}
 
 -- what `strip_prefix` gives at a text

@@ -6,9 +6,8 @@ use Rattle.esm_base.specs.Urls.{Text, is_usable, url_of}
 use Rattle.esm_arguments.specs.declared.command.TheConstants.{MAX_START}
 use Rattle.esm_arguments.specs.declared.command.Command.{Command}
 use Rattle.esm_arguments.specs.declared.command.Generation.{Generation}
-use Rattle.esm_arguments.specs.declared.said.Said.{Said}
 use Rattle.esm_arguments.specs.Numbers.{number_of, within}
-use Rattle.esm_arguments.specs.Said.{said_by}
+use Rattle.esm_arguments.specs.Said.{Said, said_by}
 
 -- the text of a URL that may be used
 abbrev pub usable_text : Option Parts → Option Text

@@ -11,7 +11,7 @@ abbrev pub number_on : ℕ → List ℕ → Option ℕ
 number_on n [] = Some n
 number_on n (byte ∷ bytes) = if is_outside 48 byte then None else number_on (10 * n + (byte - 48)) bytes
 
--- the number that a word is: decimal digits, of which the first isn't 0
+-- the number that a word is: decimal digits, of which the first isn't 0, so 0 is none
 abbrev pub number_of : Text → Option ℕ
 number_of [] = None
 number_of (byte ∷ bytes) = if is_outside 49 byte then None else number_on (byte - 48) bytes

@@ -2,9 +2,27 @@
 use Rattle.std.specs.Prelude.{ℕ, List, [], ◌∷◌, codes, length, drop, nat_eq, bytes_eq, Bool, true, false, not, ◌||◌, Option, None, Some, is_some, if◌then◌else◌}
 use Rattle.std.specs.List.{starts_with}
 use Rattle.esm_base.specs.Urls.{Text}
-use Rattle.esm_arguments.specs.declared.said.Said.{Said}
-use Rattle.esm_arguments.specs.declared.said.Valued.{Valued}
-use Rattle.esm_arguments.specs.declared.said.Valued.TheVariants.{Map, Workers}
+
+-- an option that has a value
+pub data Valued : Type 0 where
+  Map : Valued
+  Workers : Valued
+
+-- what the words so far say
+pub record Said : Type 0 where
+  -- the positions
+  pub first : Option Text
+  pub second : Option Text
+  -- the values of options
+  pub map : Option Text
+  pub workers : Option Text
+  -- the flags
+  pub trace : Bool
+  pub recorded : Bool
+  -- the option whose value is the next word
+  pub waits : Option Valued
+  -- `--` was there
+  pub ended : Bool
 
 abbrev pub is_dashed : Text → Bool
 is_dashed word = starts_with nat_eq word (codes "-")

@@ -1,8 +1,7 @@
 // Reads the command-line arguments.
 ghost use Rattle.std.specs.Prelude.{◌≡◌, ◌<◌, ◌≤◌, IfOk, IfSome, map, min, string_bytes, true};
-ghost use Rattle.esm_base.specs.declared.limits.TheConstants.{MAX_URLS as most_urls};
 ghost use Rattle.esm_base.specs.Urls.{is_usable, url_of};
-ghost use Rattle.esm_arguments.specs.declared.command.TheConstants.{MAX_START as greatest};
+ghost use Rattle.esm_arguments.specs.Inner.Code.{said_of};
 ghost use Rattle.esm_arguments.specs.Commands as spec;
 
 use crate::command::{Command, Generation, MAX_START};
@@ -41,7 +40,7 @@ fn read_command(
     said: &Said,
 ) -> Result<Option<Command>, Memory>
     ensures { IfOk result (λ found. found
-        ≡ spec.command_on many (url_of None base.now) entry.now said.now) }
+        ≡ spec.command_on many (url_of None base.now) entry.now (said_of said.now)) }
 {
     let Some(base) = parse_absolute(alloc, base)? else {
         return Ok(None);
@@ -71,7 +70,7 @@ fn read_command(
 // The command of what is said.
 fn read_said(alloc: Global, many: usize, said: &Said) -> Result<Option<Command>, Memory>
     ensures { IfOk result (λ found. found
-        ≡ spec.command_by many said.now.first said.now.second said.now) }
+        ≡ spec.command_by many said.now.first said.now.second (said_of said.now)) }
 {
     match &said.first {
         None => Ok(None),
@@ -90,7 +89,7 @@ pub fn read_words(alloc: Global, words: &[String], many: usize) -> Result<Option
     ensures usable { IfOk result (λ found. IfSome found (λ c. is_usable c.entry ≡ true)) }
     ensures some { IfOk result (λ found. IfSome found (λ c. 0 < many → 0 < c.workers)) }
     ensures few { IfOk result (λ found. IfSome found
-        (λ c. (c.workers ≤ 16) × (c.workers ≤ many))) }
+        (λ c. (c.workers ≤ MAX_SOURCES) × (c.workers ≤ many))) }
 {
     match words {
         [] => Ok(None),
@@ -122,7 +121,7 @@ fn read_numbers(start: &str, count: &str, workers: &Option<Text>) -> Option<Gene
 
 // The generated input of what is said.
 fn read_generated(said: &Said) -> Option<Generation>
-    ensures { result ≡ spec.generation_said (Some said.now) }
+    ensures { result ≡ spec.generation_said (Some (said_of said.now)) }
 {
     if said.map.is_some() || said.trace || said.recorded {
         return None;
@@ -140,9 +139,9 @@ fn read_generated(said: &Said) -> Option<Generation>
 pub fn read_generation(alloc: Global, words: &[String]) -> Result<Option<Generation>, Memory>
     ensures told { IfOk result (λ found. found
         ≡ spec.generation_of (map string_bytes words.now)) }
-    ensures start { IfOk result (λ found. IfSome found (λ g. (0 < g.start) × (g.start ≤ greatest))) }
-    ensures count { IfOk result (λ found. IfSome found (λ g. (0 < g.count) × (g.count ≤ most_urls))) }
-    ensures workers { IfOk result (λ found. IfSome found (λ g. (0 < g.workers) × (g.workers ≤ 16))) }
+    ensures start { IfOk result (λ found. IfSome found (λ g. (0 < g.start) × (g.start ≤ MAX_START))) }
+    ensures count { IfOk result (λ found. IfSome found (λ g. (0 < g.count) × (g.count ≤ MAX_URLS))) }
+    ensures workers { IfOk result (λ found. IfSome found (λ g. (0 < g.workers) × (g.workers ≤ MAX_SOURCES))) }
 {
     match words {
         [] => Ok(None),

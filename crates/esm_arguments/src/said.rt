@@ -1,6 +1,7 @@
 // What words say behind the first: two positions, options with their values, and flags.
-ghost use Rattle.std.specs.Prelude.{◌≡◌, IfOk, map, string_bytes};
+ghost use Rattle.std.specs.Prelude.{◌≡◌, IfOk, map, option_map, string_bytes};
 ghost use Rattle.std.specs.Option.{option_copied};
+ghost use Rattle.esm_arguments.specs.Inner.Code.{said_of, valued_of};
 ghost use Rattle.esm_arguments.specs.Said as spec;
 
 use esm_base::{Memory, Text};
@@ -33,7 +34,7 @@ pub(crate) struct Said {
 }
 
 fn nothing() -> Said
-    ensures { result ≡ spec.nothing }
+    ensures { said_of result ≡ spec.nothing }
 {
     Said {
         first: None,
@@ -68,7 +69,8 @@ fn behind<'a>(front: &str, word: &'a str) -> Option<&'a str>
 }
 
 fn with_position(alloc: Global, word: &str, said: Said) -> Result<Option<Said>, Memory>
-    ensures { IfOk result (λ found. found ≡ spec.with_position word.now said) }
+    ensures { IfOk result (λ found. option_map said_of found
+        ≡ spec.with_position word.now (said_of said)) }
 {
     let mut said = said;
     if said.first.is_some() {
@@ -83,7 +85,8 @@ fn with_position(alloc: Global, word: &str, said: Said) -> Result<Option<Said>, 
 }
 
 fn with_map(alloc: Global, value: &str, said: Said) -> Result<Option<Said>, Memory>
-    ensures { IfOk result (λ found. found ≡ spec.with_map value.now said) }
+    ensures { IfOk result (λ found. option_map said_of found
+        ≡ spec.with_map value.now (said_of said)) }
 {
     let mut said = said;
     if said.map.is_some() {
@@ -95,7 +98,8 @@ fn with_map(alloc: Global, value: &str, said: Said) -> Result<Option<Said>, Memo
 }
 
 fn with_workers(alloc: Global, value: &str, said: Said) -> Result<Option<Said>, Memory>
-    ensures { IfOk result (λ found. found ≡ spec.with_workers value.now said) }
+    ensures { IfOk result (λ found. option_map said_of found
+        ≡ spec.with_workers value.now (said_of said)) }
 {
     let mut said = said;
     if said.workers.is_some() {
@@ -107,7 +111,7 @@ fn with_workers(alloc: Global, value: &str, said: Said) -> Result<Option<Said>, 
 }
 
 fn with_trace(said: Said) -> Option<Said>
-    ensures { result ≡ spec.with_trace said }
+    ensures { option_map said_of result ≡ spec.with_trace (said_of said) }
 {
     let mut said = said;
     if said.trace {
@@ -118,7 +122,7 @@ fn with_trace(said: Said) -> Option<Said>
 }
 
 fn with_record(said: Said) -> Option<Said>
-    ensures { result ≡ spec.with_record said }
+    ensures { option_map said_of result ≡ spec.with_record (said_of said) }
 {
     let mut said = said;
     if said.recorded {
@@ -135,7 +139,8 @@ fn with_value(
     word: &str,
     said: Said,
 ) -> Result<Option<Said>, Memory>
-    ensures { IfOk result (λ found. found ≡ spec.with_value option word.now said) }
+    ensures { IfOk result (λ found. option_map said_of found
+        ≡ spec.with_value (valued_of option) word.now (said_of said)) }
 {
     if is_dashed(word) {
         return Ok(None);
@@ -153,8 +158,8 @@ fn with_assigned(
     number: Option<&str>,
     said: Said,
 ) -> Result<Option<Said>, Memory>
-    ensures { IfOk result (λ found. found
-        ≡ spec.with_assigned (option_copied url.entry) (option_copied number.entry) said) }
+    ensures { IfOk result (λ found. option_map said_of found ≡ spec.with_assigned
+        (option_copied url.entry) (option_copied number.entry) (said_of said)) }
 {
     match url {
         Some("") => Ok(None),
@@ -169,7 +174,8 @@ fn with_assigned(
 
 // An option or a flag, or `--`.
 fn with_dashed(alloc: Global, word: &str, said: Said) -> Result<Option<Said>, Memory>
-    ensures { IfOk result (λ found. found ≡ spec.with_dashed word.now said) }
+    ensures { IfOk result (λ found. option_map said_of found
+        ≡ spec.with_dashed word.now (said_of said)) }
 {
     let mut said = said;
     if word == "--trace" {
@@ -200,7 +206,8 @@ fn with_dashed(alloc: Global, word: &str, said: Said) -> Result<Option<Said>, Me
 
 // What is said with one word more; none where that says nothing.
 fn with_word(alloc: Global, word: &str, said: Said) -> Result<Option<Said>, Memory>
-    ensures { IfOk result (λ found. found ≡ spec.with_word word.now said) }
+    ensures { IfOk result (λ found. option_map said_of found
+        ≡ spec.with_word word.now (said_of said)) }
 {
     if word == "" {
         return Ok(None);
@@ -216,7 +223,8 @@ fn with_word(alloc: Global, word: &str, said: Said) -> Result<Option<Said>, Memo
 
 /// What these words say behind the first; none where they say nothing.
 pub(crate) fn said_by(alloc: Global, words: &[String]) -> Result<Option<Said>, Memory>
-    ensures { IfOk result (λ found. found ≡ spec.said_by (map string_bytes words.now)) }
+    ensures { IfOk result (λ found. option_map said_of found
+        ≡ spec.said_by (map string_bytes words.now)) }
 {
     let mut said = nothing();
     for word in words {

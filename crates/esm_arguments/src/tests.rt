@@ -61,6 +61,7 @@ run https://a.test/ main.js --worker=2 | no
 run https://a.test/ main.js --mapm.json | no
 run https://a.test/ main.js --=x | no
 run https://a.test/ main.js --help | no
+gen 1 3 | no
 run --help | no
 run https://a.test/ -- main.js | https://a.test/main.js - 4 - -
 run --trace https://a.test/ -- main.js | https://a.test/main.js - 4 trace -
@@ -139,7 +140,8 @@ gen 1 3 --record | no
 gen 1 3 --map m.json | no
 gen -1 3 | no
 gen 1  3 | no
-run 1 3 | no";
+run 1 3 | no
+run https://a.test/ main.js | no";
 
 // The words between spaces; two spaces are an empty word.
 fn words_of(alloc: Global, row: &str) -> Result<Vec<String>, AllocError> {
@@ -228,7 +230,7 @@ fn options_and_flags_stand_anywhere_and_once(rt: HostRuntime) -> Result<(), Fail
 fn values_and_positions(rt: HostRuntime) -> Result<(), Fail> {
     let alloc = rt.alloc();
     assert_eq!(rt; wrong_row(alloc, VALUES, 4)?, None);
-    assert_eq!(rt; VALUES.lines().count(), 38);
+    assert_eq!(rt; VALUES.lines().count(), 39);
     Ok(())
 }
 
@@ -238,6 +240,8 @@ fn numbers_of_workers(rt: HostRuntime) -> Result<(), Fail> {
     assert_eq!(rt; wrong_row(alloc, WORKERS, 4)?, None);
     assert_eq!(rt; wrong_row(alloc, MORE_WORKERS, 20)?, None);
     assert_eq!(rt; WORKERS.lines().count(), 13);
+    let one = "run https://a.test/ main.js | https://a.test/main.js - 1 - -";
+    assert_eq!(rt; wrong_row(alloc, one, 1)?, None);
     Ok(())
 }
 
@@ -253,7 +257,7 @@ fn urls(rt: HostRuntime) -> Result<(), Fail> {
 fn generated_input(rt: HostRuntime) -> Result<(), Fail> {
     let alloc = rt.alloc();
     assert_eq!(rt; wrong_generation(alloc, GENERATED)?, None);
-    assert_eq!(rt; GENERATED.lines().count(), 24);
+    assert_eq!(rt; GENERATED.lines().count(), 25);
     Ok(())
 }
 
