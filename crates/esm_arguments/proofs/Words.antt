@@ -3,7 +3,6 @@ use Rattle.std.proofs.lemmas.Bool.Decides.{nat_tests}
 use Rattle.std.proofs.lemmas.Str.Pattern.{starts_text}
 use Rattle.std.proofs.Common.{◌≡◌, ◌∙◌, ◌<◌, ◌≤◌, ◌+◌, ◌-◌, ◌*◌, ℕ, min, nat_le, nat_lt, ap, sym, subst, refl, List, [], ◌∷◌, length, drop, arith, Bool, true, false, ◌||◌}
 use Rattle.std.specs.Prelude.{Option, Some, None, IfSome, if◌then◌else◌}
-use Rattle.std.specs.List.{starts_with}
 use Rattle.std.specs.Option.{MatchOption, option_copied}
 use Rattle.std.specs.Str.{IsCharBoundary}
 use Rattle.std.specs.Str.Pattern.{FindsTextPrefix, StripsPrefix}
@@ -14,7 +13,7 @@ use Rattle.esm_arguments.specs.declared.command.Command.{Command}
 use Rattle.esm_arguments.specs.declared.command.Generation.{Generation}
 use Rattle.esm_arguments.specs.Numbers.{is_outside, number_on, number_of, within}
 use Rattle.esm_arguments.specs.Said.{Said, behind}
-use Rattle.esm_arguments.specs.Commands.{command_by, command_on, command_with, command_said, generation_by, generation_said, generation_with, map_url, threads_by, usable_text, workers_by}
+use Rattle.esm_arguments.specs.Commands.{command_by, command_on, command_with, generation_by, generation_said, generation_with, map_url, threads_by, usable_text, workers_by}
 
 -- what `strip_prefix` gives at a text
 pub behind_is : (front word : List ℕ) (r : Option (Bor (List ℕ))) → MatchOption r (FindsTextPrefix front word None) (λ x. StripsPrefix (FindsTextPrefix front) word x.now) → option_copied r ≡ behind front word
@@ -109,7 +108,6 @@ usable_some t false entry is same = absurd (cc same)
 usable_is : (url : Option Parts) (entry : Text) → usable_text url ≡ Some entry → is_usable entry ≡ true
 usable_is None entry is = absurd (cc is)
 usable_is (Some url) entry is = usable_some (serialize url) (is_usable (serialize url)) entry refl is
-
 
 good_with : (many : ℕ) (base : Parts) (entry : Option Text) (map : Option (Option Text)) (workers : Option ℕ) (said : Said)
     → ((t : Text) → entry ≡ Some t → is_usable t ≡ true) → ((n : ℕ) → workers ≡ Some n → (0 < many → 0 < n) × (n ≤ 16) × (n ≤ many))

@@ -1,5 +1,5 @@
 -- The commands that words are. own, but for URLs
-use Rattle.std.specs.Prelude.{ℕ, min, List, [], ◌∷◌, codes, bytes_eq, Bool, ◌||◌, Option, None, Some, is_some, option_map, if◌then◌else◌}
+use Rattle.std.specs.Prelude.{ℕ, min, List, [], ◌∷◌, codes, bytes_eq, ◌||◌, Option, None, Some, is_some, option_map, if◌then◌else◌}
 use Rattle.url.specs.Parts.{Parts, serialize}
 use Rattle.esm_base.specs.declared.limits.TheConstants.{MAX_SOURCES, MAX_URLS}
 use Rattle.esm_base.specs.Urls.{Text, is_usable, url_of}

@@ -1,5 +1,5 @@
 -- What words say behind the first: two positions, options with their values, and flags. own
-use Rattle.std.specs.Prelude.{ℕ, List, [], ◌∷◌, codes, length, drop, nat_eq, bytes_eq, Bool, true, false, not, ◌||◌, Option, None, Some, is_some, if◌then◌else◌}
+use Rattle.std.specs.Prelude.{List, [], ◌∷◌, codes, length, drop, nat_eq, bytes_eq, Bool, true, false, not, ◌||◌, Option, None, Some, is_some, if◌then◌else◌}
 use Rattle.std.specs.List.{starts_with}
 use Rattle.esm_base.specs.Urls.{Text}
 

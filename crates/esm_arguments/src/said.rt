@@ -133,12 +133,7 @@ fn with_record(said: Said) -> Option<Said>
 }
 
 // The value of an option, as the next word.
-fn with_value(
-    alloc: Global,
-    option: Valued,
-    word: &str,
-    said: Said,
-) -> Result<Option<Said>, Memory>
+fn with_value(alloc: Global, option: Valued, word: &str, said: Said) -> Result<Option<Said>, Memory>
     ensures { IfOk result (λ found. option_map said_of found
         ≡ spec.with_value (valued_of option) word.now (said_of said)) }
 {

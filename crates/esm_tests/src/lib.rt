@@ -29,6 +29,8 @@ mod sites;
 #[cfg(test)]
 mod steps;
 #[cfg(test)]
+mod traces;
+#[cfg(test)]
 mod values;
 #[cfg(test)]
 mod workers;

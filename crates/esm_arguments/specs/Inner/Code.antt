@@ -1,5 +1,5 @@
 -- What the code keeps of the words so far.
-use Rattle.std.specs.Prelude.{Option, option_map}
+use Rattle.std.specs.Prelude.{option_map}
 use Rattle.esm_arguments.specs.declared.said.Said as code
 use Rattle.esm_arguments.specs.declared.said.Valued as options
 use Rattle.esm_arguments.specs.declared.said.Valued.TheVariants as named
