@@ -88,7 +88,7 @@ refused_map map url desk base refusal there came = subst (λ m. MapBy m base des
 -- what was read of the body that the desk answered
 pub comes_read : (r : Result GivenMap (End MapRefusal)) (desk : DeskChange) (base : Parts) (url : Url) (bytes : List ℕ) → WasAsked desk url Body → AreHeld desk.holds url bytes
     → GivesFrom r bytes base → FetchesMap r base url desk
-comes_read (Ok given) desk base url bytes asked held gives = (Read bytes asked held (sym gives.0), (bytes, gives.1, held))
+comes_read (Ok given) desk base url bytes asked held gives = (Read bytes asked held (sym gives.0), (bytes, gives.1, held, gives.0))
 comes_read (Err (ends.Fault refusal)) desk base url bytes asked held gives = Read bytes asked held (sym gives)
 comes_read (Err ends.Memory) desk base url bytes asked held gives = inr asked
 
@@ -97,10 +97,10 @@ pub comes_at : (r : Result GivenMap (End MapRefusal)) (desk : DeskChange) (base 
 comes_at r desk base asked_url url bytes same asked held gives = subst (λ u. FetchesMap r base u desk) same (comes_read r desk base asked_url bytes asked held gives)
 
 -- of a known map there are bytes that the desk answered
-pub given_known : (map : Option Url) (desk : DeskChange) (base : Parts) (maps : Maps) → KnownBy map base desk maps → (bytes : Option (List ℕ)) × AreGiven map desk bytes
+pub given_known : (map : Option Url) (desk : DeskChange) (base : Parts) (maps : Maps) → KnownBy map base desk maps → (bytes : Option (List ℕ)) × AreGiven map base desk maps bytes
 given_known None desk base maps known = (None, refl)
 given_known (Some url) desk base maps known =
     let answer = take MAX_BODY_BYTES known.held in
-    (Some answer, answer, refl,
-    subst (λ holds. AreHeld holds url answer) (sym known.tells)
-    (subst (λ found. IsSomeAnd found (λ held. answer ≡ take MAX_BODY_BYTES held)) (sym known.here) refl))
+    let are : AreHeld desk.holds url answer = subst (λ holds. AreHeld holds url answer) (sym known.tells)
+        (subst (λ found. IsSomeAnd found (λ held. answer ≡ take MAX_BODY_BYTES held)) (sym known.here) refl) in
+    (Some answer, answer, refl, are, held_bytes desk base url maps answer are known)

@@ -89,10 +89,11 @@ KnownBy (Some url) base desk maps = HoldsMap desk base url maps
 abbrev pub KnownMap : Command → DeskChange → Maps → Type 0
 KnownMap command desk maps = KnownBy command.map command.base desk maps
 
--- the bytes of the command's map, as the desk answered them; none without `--map`
-abbrev pub AreGiven : Option Url → DeskChange → Option (List ℕ) → Type 0
-AreGiven None desk bytes = bytes ≡ None
-AreGiven (Some url) desk bytes = (answer : List ℕ) × (bytes ≡ Some answer) × AreHeld desk.holds url answer
+-- the bytes of the import map, as the desk answered them, which say these maps; none without `--map`
+abbrev pub AreGiven : Option Url → Parts → DeskChange → Maps → Option (List ℕ) → Type 0
+AreGiven None base desk maps bytes = bytes ≡ None
+AreGiven (Some url) base desk maps bytes =
+    (answer : List ℕ) × (bytes ≡ Some answer) × AreHeld desk.holds url answer × (map_said answer base ≡ Ok maps)
 
 -- ---- what is written where there is no map
 

@@ -29,7 +29,7 @@ GivesFrom (Err Memory) bytes base = Unit {0}
 
 -- one fetch of the map gives this result: the map with its bytes, or why there is none, unless memory ran out
 abbrev pub FetchesMap : Result GivenMap (End MapRefusal) → Parts → Url → DeskChange → Type 0
-FetchesMap (Ok given) base url desk = ReadsMap desk base url (Ok given.map) × AreGiven (Some url) desk (bytes_of given)
+FetchesMap (Ok given) base url desk = ReadsMap desk base url (Ok given.map) × AreGiven (Some url) base desk given.map (bytes_of given)
 FetchesMap (Err (Fault refusal)) base url desk = ReadsMap desk base url (Err refusal)
 FetchesMap (Err Memory) base url desk = AsksAtMost url desk
 
@@ -39,6 +39,7 @@ MayHaveAsked (Some url) desk = AsksAtMost url desk
 
 -- the result is the import map of the command, or why there is none, unless memory ran out
 abbrev pub GivesMapOf : Result GivenMap (End MapRefusal) → Command → DeskChange → Type 0
-GivesMapOf (Ok given) command desk = MapOf command desk (Ok given.map) × AreGiven command.map desk (bytes_of given)
+GivesMapOf (Ok given) command desk = MapOf command desk (Ok given.map)
+    × AreGiven command.map command.base desk given.map (bytes_of given)
 GivesMapOf (Err (Fault refusal)) command desk = MapOf command desk (Err refusal)
 GivesMapOf (Err Memory) command desk = MayHaveAsked command.map desk
