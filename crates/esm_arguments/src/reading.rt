@@ -139,9 +139,12 @@ fn read_generated(said: &Said) -> Option<Generation>
 pub fn read_generation(alloc: Global, words: &[String]) -> Result<Option<Generation>, Memory>
     ensures told { IfOk result (λ found. found
         ≡ spec.generation_of (map string_bytes words.now)) }
-    ensures start { IfOk result (λ found. IfSome found (λ g. (0 < g.start) × (g.start ≤ MAX_START))) }
-    ensures count { IfOk result (λ found. IfSome found (λ g. (0 < g.count) × (g.count ≤ MAX_URLS))) }
-    ensures workers { IfOk result (λ found. IfSome found (λ g. (0 < g.workers) × (g.workers ≤ MAX_SOURCES))) }
+    ensures start { IfOk result (λ found. IfSome found
+        (λ g. (0 < g.start) × (g.start ≤ MAX_START))) }
+    ensures count { IfOk result (λ found. IfSome found
+        (λ g. (0 < g.count) × (g.count ≤ MAX_URLS))) }
+    ensures workers { IfOk result (λ found. IfSome found
+        (λ g. (0 < g.workers) × (g.workers ≤ MAX_SOURCES))) }
 {
     match words {
         [] => Ok(None),

@@ -23,6 +23,8 @@ mod names;
 #[cfg(test)]
 mod orders;
 #[cfg(test)]
+mod records;
+#[cfg(test)]
 mod runs;
 #[cfg(test)]
 mod sites;
