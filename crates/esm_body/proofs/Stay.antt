@@ -64,8 +64,8 @@ module _ {S : Type 0} (modules : S → Modules ℕ) (linked : S → ℕ → Bool
     standing = stand_on modules linked i j trees engine.standing.items ready.state.standing ready.standing;
   }
 
-  pub stays_ready : StaysReady modules linked fits begins
-  stays_ready = record {
+  pub still_takes_bodies : StaysReady modules linked fits begins
+  still_takes_bodies = record {
     fitting = stays_fitting;
     known = λ engine old new ps qs es fs i j ready trees made whole keeps cells.
         stays_fitting engine old new ps qs es fs i j ready trees made (record {

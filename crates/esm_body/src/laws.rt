@@ -124,6 +124,6 @@ pub fn bodies_keep<A: CallsOfImport>()
 /// What is ready for calls for bodies stays so where a fetch, linking, promises and errors change what lies outside: where
 /// linked modules keep their trees, the scopes are those of the modules, and the state fits. It fits where promises, errors
 /// and modules fit, what was known is known, and each cell has a known value.
-pub fn stays_ready<I: Importer>()
+pub fn still_takes_bodies<I: Importer>()
     ensures { StaysReady I.modules I.linked I.fits I.begins }
 {}

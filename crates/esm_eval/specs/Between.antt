@@ -1,7 +1,7 @@
 -- What holds between two calls of evaluation holds on, whatever else is done, as long as evaluation has come as far.
 use Rattle.std.specs.Prelude.{◌≡◌, ℕ, Bool, false, List}
-use Rattle.esm_eval.specs.Evaluation.{Evaluation}
-use Rattle.esm_eval.specs.Begins.{HaveBegunOnce, IsAsFar}
+use Rattle.esm_eval.specs.Evaluation.{Evaluation, IsAsFar}
+use Rattle.esm_eval.specs.Begins.{HaveBegunOnce}
 use Rattle.esm_eval.specs.Table.{no_nodes, with_one}
 use Rattle.esm_eval.specs.Host.{evaluation}
 use Rattle.esm_eval.specs.declared.host.EvalHost.{EvalHost}

@@ -17,7 +17,7 @@ use Rattle.esm_body.specs.declared.log.Stop.{Stop}
 use Rattle.esm_body.specs.declared.log.Stop.TheVariants as stops
 use Rattle.esm_body.proofs.BodyKeeps.{bodies_keep, runs_body_keeps, starts_body_keeps}
 use Rattle.esm_world.proofs.BodyLives.{LivesOn, limit_at, limit_by, runs_body_lives, starts_body_lives}
-use Rattle.esm_body.specs.Engines.{AreReady as EngineIsReady, KnowsThrown, RanBody, Started}
+use Rattle.esm_body.specs.Engines.{AreReady as TakesBodies, KnowsThrown, RanBody, Started}
 use Rattle.esm_machine.specs.Evaluating.{state_in}
 use Rattle.esm_body.specs.SameScopes.{HaveSameScopes}
 use Rattle.esm_machine.specs.SeenScopes.{AreScopesIn, ScopesStay}
@@ -59,7 +59,7 @@ abbrev pub St : Outside BodyHost → State ℕ Seen
 St o = state_in seen_by errors_by cells_by engine_by o
 
 abbrev pub IsReadyIn : Outside BodyHost → Type 0
-IsReadyIn o = EngineIsReady modules linked Fits Begins o.bodies.engine (scopes_by o.bodies) o.promises o.bodies.errors (seen_by o.bodies)
+IsReadyIn o = TakesBodies modules linked Fits Begins o.bodies.engine (scopes_by o.bodies) o.promises o.bodies.errors (seen_by o.bodies)
 
 pub is_live : (o : Outside BodyHost) → FitsBodies o → limit_at StopOf (St o) ≡ None
 is_live o f = both_none (seen_by o.bodies).loading.stopped (engine_by o.bodies).stopped (live_is o.bodies.imports f.whole) f.live

@@ -16,7 +16,8 @@ use Rattle.esm_world.specs.Sound.{WorldsStaySound}
 use Rattle.esm_machine.specs.Represents.{TurnEnd}
 use Rattle.esm_machine.specs.Seen.{names}
 use Rattle.esm_machine.specs.Steps as steps
-use Rattle.esm_machine.specs.Inner.Leads.{DoesJob, IsJob, LeadsByJob}
+use Rattle.esm_machine.specs.Inner.Leads.{DoesJob, LeadsByJob}
+use Rattle.esm_world.specs.Jobs.{IsJob}
 use Rattle.esm_machine.specs.Inner.Parts.{AreInOrder, AreLive, AreSound, MayDo, seen_in, with_promises}
 use Rattle.esm_machine.specs.Machine.{held_of}
 use Rattle.esm_machine.specs.declared.parts.Parts.{Parts}

@@ -10,7 +10,7 @@ use Rattle.esm_eval.specs.Host.{HostFits, outside}
 use Rattle.esm_eval.specs.Table.{size}
 use Rattle.esm_body.specs.Fits.{AreLinked}
 use Rattle.esm_world.specs.World.{World}
-use Rattle.esm_body.specs.Engines.{AreReady as EngineIsReady}
+use Rattle.esm_body.specs.Engines.{AreReady as TakesBodies}
 use Rattle.esm_machine.specs.FitsById.{FitsById}
 use Rattle.esm_machine.specs.Inner.Below.{below}
 use Rattle.esm_machine.specs.Inner.HostLaws.{outer}
@@ -29,7 +29,7 @@ module _ (p : Parts) (r : AreReady p) where
   pub ready_fits : FitsById (held_of p)
   ready_fits = worlds_fit_by_id (held_of p) r.world r.live.stands r.ready.fit r.order.apart r.order.have_ids
 
-  pub engine_ready : EngineIsReady modules linked Fits Begins p.host.bodies.engine (scopes_by p.host.bodies) p.host.promises p.host.bodies.errors (seen_in p)
+  pub engine_ready : TakesBodies modules linked Fits Begins p.host.bodies.engine (scopes_by p.host.bodies) p.host.promises p.host.bodies.errors (seen_in p)
   engine_ready = record { state = ready_fits.state; made = r.order.scopes.right; standing = r.order.standing }
 
   -- what is linked is there, with all that it requests

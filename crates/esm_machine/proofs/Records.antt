@@ -14,7 +14,7 @@ use Rattle.esm_realm.proofs.Urls.{same_text}
 use Rattle.esm_values.proofs.Numbered.{numbers_urls}
 use Rattle.esm_env.specs.Modules.{entries}
 use Rattle.esm_loads.specs.UrlTable.{Module, targets_in, body_in}
-use Rattle.esm_loads.specs.LoadsView.{tree_at, entries_in, entry_at, module_of, is_past_new}
+use Rattle.esm_loads.specs.LoadsView.{tree_at, entries_in, entry_at, module_of, is_past_new, url_at}
 use Rattle.esm_loads.specs.LoadsAsLoading.{loading_of, trees_of}
 use Rattle.esm_loads.specs.Fits.{FitRecords}
 use Rattle.esm_loads.specs.Loaded.{HaveLoaded}
@@ -23,7 +23,6 @@ use Rattle.esm_loads.proofs.Places.{some_is, get_map, get_within, all_get, at_pl
 use Rattle.esm_loads.proofs.PlacesOfUrls.{listed}
 use Rattle.esm_loads.proofs.NextFacts.{entry_of}
 use Rattle.esm_link.specs.Realm.{is_linked}
-use Rattle.esm_world.specs.World.{url_at}
 use Rattle.esm_machine.specs.ModuleStore.{linked_urls, loaded_or}
 use Rattle.esm_machine.specs.Inner.Numbers.{url, number, number_url}
 use Rattle.esm_machine.specs.Inner.Importing.{or_true, Linked, Named, among, short}

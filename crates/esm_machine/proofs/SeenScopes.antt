@@ -23,7 +23,7 @@ use Rattle.esm_loads.specs.Hosted.{host_of}
 use Rattle.esm_loads.specs.Laws.{Grows}
 use Rattle.esm_loads.specs.Loading.{Loading, is_fetching}
 use Rattle.esm_loads.specs.LoadsAsLoading.{loading_of}
-use Rattle.esm_loads.specs.LoadsView.{every_form, is_unlinked}
+use Rattle.esm_loads.specs.LoadsView.{every_form, is_unlinked, url_at}
 use Rattle.esm_loads.specs.UrlTable.{Entries, TableEntry, Failed, Broken, Module, Found, Nothing, Faulty, Script, found, targets_in, body_in}
 use Rattle.esm_loads.specs.Whole.{is_module}
 use Rattle.esm_loads.specs.declared.loads.Loads.{Loads}
@@ -32,7 +32,6 @@ use Rattle.esm_link.specs.Local.{AgreeOn}
 use Rattle.esm_link.specs.Realm.{modules_of}
 use Rattle.esm_link.specs.Scopes.{ScopesAreLocal, linked_in}
 use Rattle.esm_body.specs.Keeps.{ChangedBy}
-use Rattle.esm_world.specs.World.{url_at}
 use Rattle.esm_world.proofs.FitLists.{place_below, place_names}
 use Rattle.esm_world.proofs.UnlinkedGrows.{unlinked_stays}
 use Rattle.esm_machine.specs.Arrivals.{urls_with}

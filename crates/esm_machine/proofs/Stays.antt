@@ -12,10 +12,9 @@ use Rattle.esm_values.specs.Numbering.{numbering}
 use Rattle.esm_env.specs.Modules.{entries}
 use Rattle.esm_loads.specs.UrlTable.{Entries, targets_in, body_in}
 use Rattle.esm_loads.specs.Loading.{Loading}
-use Rattle.esm_loads.specs.LoadsView.{before_linking, status_before_linking, loaded_before_linking}
+use Rattle.esm_loads.specs.LoadsView.{before_linking, status_before_linking, loaded_before_linking, url_at}
 use Rattle.esm_loads.proofs.Unlinks.{get_stale, long_stale}
 use Rattle.esm_link.specs.Realm.{is_linked}
-use Rattle.esm_world.specs.World.{url_at}
 use Rattle.esm_machine.specs.Seen.{Seen, modules, linked}
 use Rattle.esm_machine.specs.ModuleStore.{linked_urls, loaded_or}
 use Rattle.esm_machine.specs.Kept.{Show}

@@ -25,7 +25,8 @@ use Rattle.esm_body.specs.Bodies.{given_by}
 use Rattle.esm_body.specs.Fits.{AreLinked, Knows}
 use Rattle.esm_body.proofs.SomeAct.{BeginsSome}
 use Rattle.esm_body.proofs.LinkedRead.{linked_read}
-use Rattle.esm_world.specs.World.{modules_in, url_at}
+use Rattle.esm_world.specs.World.{modules_in}
+use Rattle.esm_loads.specs.LoadsView.{url_at}
 use Rattle.esm_world.specs.Fits.{IsLinkedModule, AreModules, IsKnownValue, FitSettled, FitPromises, FitsHost}
 use Rattle.esm_world.proofs.FitLists.{place_below, place_names, made, settled, awaited}
 

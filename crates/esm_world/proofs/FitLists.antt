@@ -11,7 +11,7 @@ use Rattle.esm_promise.specs.Promises.{Settled, Fulfilled, Rejected, Pending, Do
 use Rattle.esm_promise.specs.Reactions.{Reaction, Await}
 use Rattle.esm_loads.specs.UrlTable.{Entries}
 use Rattle.esm_body.specs.Bodies.{await_on}
-use Rattle.esm_world.specs.World.{url_at}
+use Rattle.esm_loads.specs.LoadsView.{url_at}
 use Rattle.esm_world.specs.Fits.{IsLinkedModule, IsKnownValue, FitReaction, FitSettled, FitPromise, FitPromises}
 use Rattle.esm_world.proofs.Each.{pushed, joined, put}
 

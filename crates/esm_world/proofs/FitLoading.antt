@@ -28,7 +28,8 @@ use Rattle.esm_eval.specs.Keeping.{IsNodeOf}
 use Rattle.esm_body.specs.State.{Standing, Event, Begins, Ends, Throws}
 use Rattle.esm_body.specs.Fits.{FitStanding, Knows, of_body}
 use Rattle.esm_body.proofs.Grown.{held_rest}
-use Rattle.esm_world.specs.World.{World, EntryState, Underway, Ended, Failed, url_at, modules_in, host_of, with_host, opening}
+use Rattle.esm_world.specs.World.{World, EntryState, Underway, Ended, Failed, modules_in, host_of, with_host, opening}
+use Rattle.esm_loads.specs.LoadsView.{url_at}
 use Rattle.esm_world.specs.Layers.{with_linked}
 use Rattle.esm_world.specs.Turn.{fetched}
 use Rattle.esm_world.specs.Fits.{IsLinkedModule, AreModules, IsKnownValue, FitReaction, FitSettled, FitPromise, FitPromises, FitsHost, FitEvent, FitEntry, FitsWorld, IsFit}

@@ -16,7 +16,8 @@ use Rattle.esm_eval.specs.Nodes.{was_entered}
 use Rattle.esm_eval.specs.Keeping.{IsNodeOf}
 use Rattle.esm_body.specs.Fits.{IsKnown, FitsState}
 use Rattle.esm_body.specs.State.{Event, Begins, Ends, Throws}
-use Rattle.esm_world.specs.World.{World, EntryState, Underway, Ended, Failed, url_at, modules_in, state_of}
+use Rattle.esm_world.specs.World.{World, EntryState, Underway, Ended, Failed, modules_in, state_of}
+use Rattle.esm_loads.specs.LoadsView.{url_at}
 
 -- over these linked modules and these entries of the table
 module _ (linked : List Url) (entries : Entries) where

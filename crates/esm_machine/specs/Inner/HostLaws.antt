@@ -26,7 +26,7 @@ use Rattle.esm_body.specs.Fits.{IsKnown}
 use Rattle.esm_body.specs.Keeps.{started}
 use Rattle.esm_body.specs.State.{Engine, has_begun}
 use Rattle.esm_body.proofs.BodyKeeps.{Imported, bodies_begin, starts_body_begins, starts_body_keeps, runs_body_begins, runs_body_keeps}
-use Rattle.esm_world.specs.World.{url_at}
+use Rattle.esm_loads.specs.LoadsView.{url_at}
 use Rattle.esm_world.specs.Fits.{FitsHost}
 use Rattle.esm_world.proofs.FitLists.{made}
 use Rattle.esm_machine.specs.Seen.{Seen, names, modules, linked, host, Fits, Begins}

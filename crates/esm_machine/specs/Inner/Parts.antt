@@ -19,7 +19,7 @@ use Rattle.esm_eval.specs.Host.{Outside}
 use Rattle.esm_eval.specs.Table.{Table, size, with_one}
 use Rattle.esm_eval.specs.declared.host.EvalHost.{EvalHost}
 use Rattle.esm_base.specs.declared.limits.Limit.{Limit}
-use Rattle.esm_body.specs.Engines.{AreReady as EngineIsReady, AreStanding}
+use Rattle.esm_body.specs.Engines.{AreReady as TakesBodies, AreStanding}
 use Rattle.esm_body.specs.Fits.{IsKnown}
 use Rattle.esm_body.specs.State.{has_begun}
 use Rattle.esm_world.specs.World.{World}
@@ -55,7 +55,7 @@ KnowsBy b v = IsKnown (modules (seen_by b)) (linked (seen_by b)) v
 pub record FitsBodies (o : Outside BodyHost) : Type 0 where
   pub whole : is_whole o.bodies.imports.condition ≡ true
   pub live : (engine_by o.bodies).stopped ≡ None
-  pub ready : EngineIsReady modules linked Fits Begins o.bodies.engine (scopes_by o.bodies) o.promises o.bodies.errors (seen_by o.bodies)
+  pub ready : TakesBodies modules linked Fits Begins o.bodies.engine (scopes_by o.bodies) o.promises o.bodies.errors (seen_by o.bodies)
   pub scopes : AreScopesIn (seen_by o.bodies) (scopes_by o.bodies)
 
 -- what a call for a body does

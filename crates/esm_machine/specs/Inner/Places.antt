@@ -3,7 +3,7 @@ use Rattle.std.proofs.Common.{◌≡◌, ℕ, zero, suc, ◌+◌, ◌<◌, Bool,
 use Rattle.std.specs.Prelude.{not, bytes_eq}
 use Rattle.esm_base.specs.Urls.{Url}
 use Rattle.esm_ast.specs.Entries.{place_of}
-use Rattle.esm_world.specs.World.{url_at}
+use Rattle.esm_loads.specs.LoadsView.{url_at}
 
 pub url_stays : (us more : List Url) (n : ℕ) → n < length us → url_at (us ++ more) n ≡ url_at us n
 url_stays [] more n h = absurd (omega (arith, h))
