@@ -23,7 +23,7 @@ use Rattle.esm_body.specs.State.{Importing}
 use Rattle.esm_body.specs.BodyRewriting.{On}
 use Rattle.esm_body.specs.BodyRewriting.{RewritesBody as rule}
 use Rattle.esm_body.specs.Fits.{Kind, AreLinked}
-use Rattle.esm_body.specs.Importers.{HasLinked, IsLawful}
+use Rattle.esm_body.specs.Importers.{HasLinked, ImportsAreLawful}
 use Rattle.esm_body.specs.Inner.Chains.{Turns, only}
 use Rattle.esm_body.specs.Contexts.{caught_in}
 use Rattle.esm_body.specs.Inner.Stack.{doing_part}
@@ -62,7 +62,7 @@ module _ {I S : Type 0} (seen : I → S) (modules : S → Modules ℕ) (linked :
     keeps = keeps_itself seen modules linked fits begins y r.made;
   }
 
-  module _ (law : IsLawful modules linked fits begins) (agrees : SharedSetAgrees) (finds : SharedSetEnds) (graphs : I → Graph) (urls : I → ℕ → List ℕ) (has : (i : I) → AreLinked (modules (seen i)) (linked (seen i)) → HasLinked (modules (seen i)) (linked (seen i)) (graphs i) (urls i)) (w : Inside I) (d : Doing) (given : Option Value) where
+  module _ (law : ImportsAreLawful modules linked fits begins) (agrees : SharedSetAgrees) (finds : SharedSetEnds) (graphs : I → Graph) (urls : I → ℕ → List ℕ) (has : (i : I) → AreLinked (modules (seen i)) (linked (seen i)) → HasLinked (modules (seen i)) (linked (seen i)) (graphs i) (urls i)) (w : Inside I) (d : Doing) (given : Option Value) where
     abbrev some : BeginsSome modules linked fits begins
     some = begins_some modules linked fits begins law agrees finds
 

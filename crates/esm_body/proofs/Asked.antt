@@ -31,7 +31,7 @@ use Rattle.esm_body.specs.Scopes.{Scope, in_scopes}
 use Rattle.esm_body.specs.State.{State, Importing, take_steps, steps_by, add_line, line_by}
 use Rattle.esm_body.specs.Acts.{Inner, Performs, Displays, DisplaysAll, ReadsBy, BeginsBy, read_answer, over_scopes}
 use Rattle.esm_body.specs.Fits.{IsKnown, AreLinked}
-use Rattle.esm_body.specs.Importers.{Begun, MayBegin, IsLawful, outer_with}
+use Rattle.esm_body.specs.Importers.{Begun, MayBegin, ImportsAreLawful, outer_with}
 use Rattle.esm_body.specs.View.{engine_of, state_of}
 use Rattle.esm_body.specs.Inner.Log.{TookSteps, AddedLine}
 use Rattle.esm_body.specs.Inner.Names.{reading_in, said_out, told_as, Tells}
@@ -169,7 +169,7 @@ module _ {I : Type 0} (modules : I → Modules ℕ) (linked : I → ℕ → Bool
 
   -- ---- import() of a specifier
 
-  module _ (engine : Engine) (ps : Numbered) (es : Errors) (i : I) (lawful : IsLawful modules linked fits begins) (pending : MadePending) (whole : fits (outer_with ps es i)) where
+  module _ (engine : Engine) (ps : Numbered) (es : Errors) (i : I) (lawful : ImportsAreLawful modules linked fits begins) (pending : MadePending) (whole : fits (outer_with ps es i)) where
     abbrev Made : Outer ℕ I
     Made = outer_with (make ps []) es i
 

@@ -21,7 +21,7 @@ use Rattle.esm_env.specs.Writing.{Writing, writing_of}
 use Rattle.esm_env.specs.Writing.{Writing as writing}
 use Rattle.esm_body.specs.Scopes.{Scope, in_scopes}
 use Rattle.esm_body.specs.Rest.{Rest}
-use Rattle.esm_body.specs.State.{Event, Begins, Ends, Throws, State, Importing, Answered, take_steps, steps_by, add_line, line_by, note, note_by, event_behind, event_line, add_event, begins_at as begins_by}
+use Rattle.esm_body.specs.State.{Event, Begins, Ends, Throws, State, Importing, AnswerWith, take_steps, steps_by, add_line, line_by, note, note_by, event_behind, event_line, add_event, begins_at as begins_by}
 use Rattle.esm_body.specs.Acts.{Inner, Performs, AnswersAct, ReadsMemberOf, BeginsBy, read_answer, set_at, write_in, scope_write, module_write, modules_of}
 use Rattle.esm_body.specs.BodyRewriting.{RewrittenBody, On, Gives, Waits, RewritesBody, own_url}
 use Rattle.esm_body.specs.BodyRewriting.RewritesBody.{begins_at, does, drops, sets, writes, throws, returns, prints, chooses, awaits, inner, inner_end, tries, tries_end}
@@ -58,10 +58,10 @@ module _ {N I : Type 0} where
   abbrev pub seen : State N I → Seen N I
   seen w = (w.outer.imports, started w.engine.events)
 
-  abbrev told_seen : {A : Type 0} → Answered A (State N I) → Seen N I
+  abbrev told_seen : {A : Type 0} → AnswerWith A (State N I) → Seen N I
   told_seen t = seen t.1
 
-  abbrev inner_seen : {A : Type 0} → Answered A (Inner N I) → Seen N I
+  abbrev inner_seen : {A : Type 0} → AnswerWith A (Inner N I) → Seen N I
   inner_seen t = seen t.1.state
 
   by_steps : (w : State N I) (n : ℕ) (b : Bool) → told_seen (steps_by b w n) ≡ seen w
@@ -105,7 +105,7 @@ module _ {N I : Type 0} where
   segment_keeps url m p (Stopped why) w = refl
 
   -- where a body that doesn't await has ended, if it has
-  abbrev IsRan : Option (Answered (Ran (Value N)) (State N I)) → State N I → Type 0
+  abbrev IsRan : Option (AnswerWith (Ran (Value N)) (State N I)) → State N I → Type 0
   IsRan None w = Unit {0}
   IsRan (Some t) w = told_seen t ≡ seen w
 
@@ -119,7 +119,7 @@ module _ {N I : Type 0} where
   body_keeps url m (Awaiting v rest) w = tt
   body_keeps url m (Stopped why) w = refl
 
-  ran_is : (w : State N I) {o : Option (Answered (Ran (Value N)) (State N I))} {t : Answered (Ran (Value N)) (State N I)} → o ≡ Some t → IsRan o w → told_seen t ≡ seen w
+  ran_is : (w : State N I) {o : Option (AnswerWith (Ran (Value N)) (State N I))} {t : AnswerWith (Ran (Value N)) (State N I)} → o ≡ Some t → IsRan o w → told_seen t ≡ seen w
   ran_is w e h = subst (λ o. IsRan o w) e h
 
 -- a relation that stays, goes on, and holds of each import()
@@ -147,10 +147,10 @@ module _ {N I : Type 0} (same : N → N → Bool) (modules : I → Modules N) (b
   KeepInner v w = K (seen v.state) (seen w.state)
 
   module _ (m : N) where
-    by_told : {A : Type 0} (w : Inner N I) {t u : Answered A (Inner N I)} → t ≡ u → inner_seen u ≡ seen w.state → K (seen w.state) (inner_seen t)
+    by_told : {A : Type 0} (w : Inner N I) {t u : AnswerWith A (Inner N I)} → t ≡ u → inner_seen u ≡ seen w.state → K (seen w.state) (inner_seen t)
     by_told w e f = kept (ap (λ t. inner_seen t) e ∙ f)
 
-    member_keeps : (w : Inner N I) (v : Value N) (x : List ℕ) (t : Answered (Completion (Value N)) (Inner N I)) → ReadsMemberOf same modules begins m w v x t → K (seen w.state) (inner_seen t)
+    member_keeps : (w : Inner N I) (v : Value N) (x : List ℕ) (t : AnswerWith (Completion (Value N)) (Inner N I)) → ReadsMemberOf same modules begins m w v x t → K (seen w.state) (inner_seen t)
     member_keeps w Undefined x t p = by_told w p refl
     member_keeps w (Truth b) x t p = by_told w p refl
     member_keeps w (Text s) x t p = by_told w p refl
@@ -159,11 +159,11 @@ module _ {N I : Type 0} (same : N → N → Bool) (modules : I → Modules N) (b
     member_keeps w (Namespace n) x t p = by_told w p.2 (read_keeps w x p.0)
     member_keeps w (Promise i) x t p = by_told w p refl
 
-    begin_keeps : (w : Inner N I) (text : Option (List ℕ)) (t : Answered (Value N) (Inner N I)) → BeginsBy same modules begins m w text t → K (seen w.state) (inner_seen t)
+    begin_keeps : (w : Inner N I) (text : Option (List ℕ)) (t : AnswerWith (Value N) (Inner N I)) → BeginsBy same modules begins m w text t → K (seen w.state) (inner_seen t)
     begin_keeps w None t p = by_told w p refl
     begin_keeps w (Some text) t p = on (record { imports = k.call p.2; starts = refl }) (kept (ap (λ t. inner_seen t) p.3))
 
-    tells_keeps : (w : Inner N I) (a : Act (Value N)) (t : Answered (AnswerTo a) (Inner N I)) → AnswersAct same modules begins m w a t → K (seen w.state) (inner_seen t)
+    tells_keeps : (w : Inner N I) (a : Act (Value N)) (t : AnswerWith (AnswerTo a) (Inner N I)) → AnswersAct same modules begins m w a t → K (seen w.state) (inner_seen t)
     tells_keeps w (act.Read x) t p = by_told w p.2 (read_keeps w x p.0)
     tells_keeps w (act.Member of x) t p = member_keeps w of x t p
     tells_keeps w (act.Display of) t p = by_told w p.2 refl
@@ -267,7 +267,7 @@ module _ {N I : Type 0} (same : N → N → Bool) (modules : I → Modules N) (b
   begun_on m Begun.not q = record { imports = q.imports; starts = inl q.starts }
   begun_on m Begun.begun q = record { imports = q.imports; starts = inr q.starts }
 
-  noted : (url : N → List ℕ) (w : State N I) (m : N) {t : Answered (Unit {0}) (State N I)} → note url w (Begins m) ≡ t → Begun m (seen w) (told_seen t)
+  noted : (url : N → List ℕ) (w : State N I) (m : N) {t : AnswerWith (Unit {0}) (State N I)} → note url w (Begins m) ≡ t → Begun m (seen w) (told_seen t)
   noted url w m e = subst (λ t. Begun m (seen w) (told_seen t)) e (note_begins url w m w.engine.trace)
 
   pub starts_body_keeps : {v : State N I} {m : N} {done : ℕ} {a : Result (Unit {0}) Limit} {w : State N I} → StartsBody same modules begins v m done a w → Called m (seen v) (seen w)

@@ -12,7 +12,7 @@ use Rattle.esm_body.specs.Rest.{Rest}
 use Rattle.esm_body.specs.State.{State, Importing}
 use Rattle.esm_body.specs.Segment.{Active, Ended, Segment}
 use Rattle.esm_body.specs.Bodies.{StartsBody, RunsBody, ResumesBody, given_by}
-use Rattle.esm_body.specs.Fits.{Knows, FitsState, FitsRun, FitsEnd, StaysFit}
+use Rattle.esm_body.specs.Fits.{Knows, FitsState, FitsRun, FitsEnd, FitsAfter}
 use Rattle.esm_body.proofs.OneAct.{BeginsOne}
 use Rattle.esm_body.proofs.OneSegment.{runs_one, starts_body_one, runs_body_one, resumes_body_one}
 use Rattle.esm_body.proofs.SomeAct.{BeginsSome}
@@ -24,7 +24,7 @@ module _ {N I : Type 0} (same : N → N → Bool) (modules : I → Modules N) (l
   W = State N I
 
   abbrev Stays : W → W → Type 0
-  Stays w after = StaysFit modules linked Whole w after
+  Stays w after = FitsAfter modules linked Whole w after
 
   pub segment_fits : (awaits : Bool) (w : W) (m : N) (r : Rest (Value N)) (cs : List (Active N)) (how : Ended N) (after : W) → FitsRun modules linked Whole w m awaits r cs → Segment same modules begins w m r cs how after
       → FitsEnd modules linked Whole w awaits how after

@@ -24,7 +24,7 @@ use Rattle.esm_body.specs.BodyRewriting.{RewrittenBody, On}
 use Rattle.esm_body.specs.BodyRewriting.{RewritesBody as rule}
 use Rattle.esm_body.specs.Segment.{Segment, next_by}
 use Rattle.esm_body.specs.Segment.{Ended as ends}
-use Rattle.esm_body.specs.Importers.{IsLawful}
+use Rattle.esm_body.specs.Importers.{ImportsAreLawful}
 use Rattle.esm_body.specs.Inner.Chains.{Comes, here, only, EndsSo, IsFitNext}
 use Rattle.esm_body.specs.Contexts.{caught_in, surrounded}
 use Rattle.esm_body.specs.Sets.{IsNameOf, SetsMove}
@@ -146,7 +146,7 @@ module _ {I S : Type 0} (seen : I → S) (modules : S → Modules ℕ) (linked :
 
   -- ---- behind an await
 
-  module _ (agrees : SharedSetAgrees) (ended : SharedSetEnds) (lawful : IsLawful modules linked fits begins) where
+  module _ (agrees : SharedSetAgrees) (ended : SharedSetEnds) (lawful : ImportsAreLawful modules linked fits begins) where
     some : BeginsSome modules linked fits begins
     some = lawful_some modules linked fits begins agrees ended lawful
 

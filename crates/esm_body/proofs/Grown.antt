@@ -18,7 +18,7 @@ use Rattle.esm_expr_eval.specs.Ready.{Holds, HoldAll, HoldCompared, HoldLinks}
 use Rattle.esm_expr_eval.proofs.HasRewriting as expr
 use Rattle.esm_expr_eval.specs.Sizes.{size, size_all, size_compared, size_links}
 use Rattle.esm_body.specs.Scopes.{Scope, unset, scope_of}
-use Rattle.esm_body.specs.Rest.{Use, Part, Rest, count, end, more, whole, does_init, does_bindings, block, begin, branch, fill_part, fill_rest}
+use Rattle.esm_body.specs.Rest.{Use, Part, Rest, stmt_count, end, more, whole, does_init, does_bindings, block, begin, branch, fill_part, fill_rest}
 use Rattle.esm_body.specs.Rest.Use.{Drops, Sets, Writes, Throws, Returns, Prints, Chooses, Awaits}
 use Rattle.esm_body.specs.Rest.Part.{Whole, Does, Stands, In, Tries}
 use Rattle.esm_body.specs.Fits.{Kind, FitsStmt, FitsStmts, FitsUse, HoldsValue, HoldsScope, HoldScopes, HoldsPart, HoldsRest}
@@ -119,7 +119,7 @@ size_use (Writes x) = 0
 size_use Throws = 0
 size_use Returns = 0
 size_use Prints = 0
-size_use (Chooses ss others) = suc (count ss + count others)
+size_use (Chooses ss others) = suc (stmt_count ss + stmt_count others)
 size_use (Awaits purpose) = 0
 
 abbrev mutual
@@ -128,7 +128,7 @@ abbrev mutual
   size_part (Does u e) = size_use u + size e
   size_part (Stands u) = size_use u + 1
   size_part (In scope rest) = suc (size_rest rest)
-  size_part (Tries rest x handler) = suc (suc (size_rest rest + count handler))
+  size_part (Tries rest x handler) = suc (suc (size_rest rest + stmt_count handler))
 
   pub size_rest : {V : Type 0} → Rest V → ℕ
   size_rest end = 0
@@ -150,7 +150,7 @@ size_positive (NewError e) = omega arith
 size_positive (Import e) = omega arith
 size_positive OwnUrl = omega arith
 
-pub size_whole : (V : Type 0) (ss : Stmts) → size_rest {V = V} (whole ss) ≡ count ss
+pub size_whole : (V : Type 0) (ss : Stmts) → size_rest {V = V} (whole ss) ≡ stmt_count ss
 size_whole V nothing = refl
 size_whole V (first s ss) = let r = size_whole V ss in omega (arith, r)
 
@@ -191,7 +191,7 @@ module _ {V : Type 0} (given : Term V) (one : size given ≡ 1) where
     same_part (Does u e) = λ i. size_use u + same_size e i
     same_part (Stands u) = λ i. size_use u + one i
     same_part (In scope rest) = ap suc (same_rest rest)
-    same_part (Tries rest x handler) = λ i. suc (suc (same_rest rest i + count handler))
+    same_part (Tries rest x handler) = λ i. suc (suc (same_rest rest i + stmt_count handler))
 
     pub same_rest : (r : Rest V) → size_rest (fill_rest given r) ≡ size_rest r
     same_rest end = refl

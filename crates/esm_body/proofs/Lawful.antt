@@ -6,12 +6,12 @@ use Rattle.esm_promise.specs.Outer.{Outer}
 use Rattle.esm_env.specs.Modules.{Modules}
 use Rattle.esm_body.specs.State.{Importing}
 use Rattle.esm_body.specs.Fits.{AreLinked}
-use Rattle.esm_body.specs.Importers.{HasLinked, IsLawful}
+use Rattle.esm_body.specs.Importers.{HasLinked, ImportsAreLawful}
 use Rattle.esm_body.proofs.LinkedRead.{linked_read}
 use Rattle.esm_body.proofs.OneAct.{BeginsOne}
 use Rattle.esm_body.proofs.SomeAct.{BeginsSome}
 
-module _ {I : Type 0} (modules : I → Modules ℕ) (linked : I → ℕ → Bool) (fits : Outer ℕ I → Type 0) (begins : Importing ℕ I) (law : IsLawful modules linked fits begins) where
+module _ {I : Type 0} (modules : I → Modules ℕ) (linked : I → ℕ → Bool) (fits : Outer ℕ I → Type 0) (begins : Importing ℕ I) (law : ImportsAreLawful modules linked fits begins) where
   pub begins_some : SharedSetAgrees → SharedSetEnds → BeginsSome modules linked fits begins
   begins_some a e = record {
     readable = λ o h. linked_read (modules o.imports) (linked o.imports) a e (law.links o h);

@@ -31,7 +31,7 @@ use Rattle.esm_env.specs.Writing.{Writing as writing}
 use Rattle.esm_env.specs.Naming.{AreNamed, renamed_reading, renamed_writing, WritesFollow}
 use Rattle.esm_env.proofs.Named as env
 use Rattle.esm_body.specs.Scopes.{Scope, in_scopes}
-use Rattle.esm_body.specs.State.{State, Importing, Answered, steps_by, add_line, line_by}
+use Rattle.esm_body.specs.State.{State, Importing, AnswerWith, steps_by, add_line, line_by}
 use Rattle.esm_body.specs.Acts.{Inner, Displays, DisplaysAll, ReadsBy, ReadsMemberOf, BeginsBy, AnswersAct, Performs, modules_of, member_by, read_answer, over_scopes, import_answer, with_outer, refuse_import, set_at, write_in, write_name, scope_write, module_write}
 use Rattle.esm_body.specs.Naming.{mapped_scope, renamed_outer, renamed_state, ImportsFollow}
 use Rattle.esm_body.proofs.NamedRests.{of_cell, in_scopes_follow, set_follows, set_scopes_follow}
@@ -123,7 +123,7 @@ module _ {M N I J : Type 0} (names : Naming M N) (image : I → J) (same : M →
   abbrev pub ren_inner : Inner M I → Inner N J
   ren_inner w = record { scopes = map (mapped_scope V) w.scopes; state = ren w.state }
 
-  abbrev told : (a : Act (Value M)) → Answered (AnswerTo a) (Inner M I) → Answered (AnswerTo (mapped_act V a)) (Inner N J)
+  abbrev told : (a : Act (Value M)) → AnswerWith (AnswerTo a) (Inner M I) → AnswerWith (AnswerTo (mapped_act V a)) (Inner N J)
   told a t = (mapped_result V a t.0, ren_inner t.1)
 
   -- what import() reads and writes is good
@@ -153,7 +153,7 @@ module _ {M N I J : Type 0} (names : Naming M N) (image : I → J) (same : M →
   members_by false true errors id = refl
   members_by false false errors id = refl
 
-  members : (m : M) (w : Inner M I) → Inside w → (v : Value M) (x : List ℕ) (r : Answered (Completion (Value M)) (Inner M I)) → ReadsMemberOf same modules begins m w v x r
+  members : (m : M) (w : Inner M I) → Inside w → (v : Value M) (x : List ℕ) (r : AnswerWith (Completion (Value M)) (Inner M I)) → ReadsMemberOf same modules begins m w v x r
       → ReadsMemberOf other images others (names.name m) (ren_inner w) (V v) x (told (act.Member v x) r)
   members m w g Undefined x r p = ap (told (act.Member Undefined x)) p
   members m w g (Truth b) x r p = ap (told (act.Member (Truth b) x)) p
@@ -183,7 +183,7 @@ module _ {M N I J : Type 0} (names : Naming M N) (image : I → J) (same : M →
   displays_all w g [] ts p = p
   displays_all w g (v ∷ vs) ts p = (p.0, p.1, displays w g v p.0 p.2, displays_all w g vs p.1 p.3, p.4)
 
-  abbrev unit_told : Answered (Unit {0}) (State M I) → Answered (Unit {0}) (State N J)
+  abbrev unit_told : AnswerWith (Unit {0}) (State M I) → AnswerWith (Unit {0}) (State N J)
   unit_told t = (t.0, ren t.1)
 
   line_told : (w : State M I) (text : List ℕ) (b : Bool) → unit_told (line_by b w text) ≡ line_by b (ren w) text
@@ -220,7 +220,7 @@ module _ {M N I J : Type 0} (names : Naming M N) (image : I → J) (same : M →
   imported w v after (Ok done) = λ i. (Ok (Promise (next_is w.state.outer.promises i)), record (ren_inner w) { state = with_outer (ren w.state) (renamed_outer names image after) })
   imported w v after (Err why) = refl
 
-  begins_by : (m : M) (w : Inner M I) → Inside w → (v : Value M) (o : Option (List ℕ)) (r : Answered (Value M) (Inner M I)) → BeginsBy same modules begins m w o r
+  begins_by : (m : M) (w : Inner M I) → Inside w → (v : Value M) (o : Option (List ℕ)) (r : AnswerWith (Value M) (Inner M I)) → BeginsBy same modules begins m w o r
       → BeginsBy other images others (names.name m) (ren_inner w) o (told (act.Import v) r)
   begins_by m w g v None r p =
       ap (told (act.Import v)) p
@@ -236,7 +236,7 @@ module _ {M N I J : Type 0} (names : Naming M N) (image : I → J) (same : M →
 
   -- ---- calls on the world
 
-  answers : (m : M) (w : Inner M I) → Inside w → (a : Act (Value M)) (r : Answered (AnswerTo a) (Inner M I)) → AnswersAct same modules begins m w a r
+  answers : (m : M) (w : Inner M I) → Inside w → (a : Act (Value M)) (r : AnswerWith (AnswerTo a) (Inner M I)) → AnswersAct same modules begins m w a r
       → AnswersAct other images others (names.name m) (ren_inner w) (mapped_act V a) (told a r)
   answers m w g (act.Read x) r p = (
     renamed_reading names p.0,
@@ -254,7 +254,7 @@ module _ {M N I J : Type 0} (names : Naming M N) (image : I → J) (same : M →
 
   -- ---- what is good stays so
 
-  abbrev Stays : (A : Type 0) → Answered A (Inner M I) → Type 0
+  abbrev Stays : (A : Type 0) → AnswerWith A (Inner M I) → Type 0
   Stays A t = Inside t.1
 
   read_stays : (w : Inner M I) → Inside w → (x : List ℕ) (r : Reading (Value M)) → Stays (Completion (Value M)) (read_answer w x r)
@@ -262,7 +262,7 @@ module _ {M N I J : Type 0} (names : Naming M N) (image : I → J) (same : M →
   read_stays w g x reading.Unset = g
   read_stays w g x reading.Undeclared = g
 
-  member_stays : (m : M) (w : Inner M I) → Inside w → (v : Value M) (x : List ℕ) (r : Answered (Completion (Value M)) (Inner M I)) → ReadsMemberOf same modules begins m w v x r → Stays (Completion (Value M)) r
+  member_stays : (m : M) (w : Inner M I) → Inside w → (v : Value M) (x : List ℕ) (r : AnswerWith (Completion (Value M)) (Inner M I)) → ReadsMemberOf same modules begins m w v x r → Stays (Completion (Value M)) r
   member_stays m w g Undefined x r p = subst (Stays (Completion (Value M))) (sym p) g
   member_stays m w g (Truth b) x r p = subst (Stays (Completion (Value M))) (sym p) g
   member_stays m w g (Text u) x r p = subst (Stays (Completion (Value M))) (sym p) g
@@ -279,11 +279,11 @@ module _ {M N I J : Type 0} (names : Naming M N) (image : I → J) (same : M →
   step_stays w g n true = g
   step_stays w g n false = g
 
-  import_stays : (m : M) (w : Inner M I) → Inside w → (o : Option (List ℕ)) (r : Answered (Value M) (Inner M I)) → BeginsBy same modules begins m w o r → Stays (Value M) r
+  import_stays : (m : M) (w : Inner M I) → Inside w → (o : Option (List ℕ)) (r : AnswerWith (Value M) (Inner M I)) → BeginsBy same modules begins m w o r → Stays (Value M) r
   import_stays m w g None r p = subst (Stays (Value M)) (sym p) g
   import_stays m w g (Some text) r p = subst (Stays (Value M)) (sym p.3) ((imports _ p.1 m text (next_promise w.state.outer.promises) p.0 g p.2).1)
 
-  acts_stay : (m : M) (w : Inner M I) → Inside w → (a : Act (Value M)) (r : Answered (AnswerTo a) (Inner M I)) → AnswersAct same modules begins m w a r → Stays (AnswerTo a) r
+  acts_stay : (m : M) (w : Inner M I) → Inside w → (a : Act (Value M)) (r : AnswerWith (AnswerTo a) (Inner M I)) → AnswersAct same modules begins m w a r → Stays (AnswerTo a) r
   acts_stay m w g (act.Read x) r p = subst (Stays (Completion (Value M))) (sym p.2) (read_stays w g x p.0)
   acts_stay m w g (act.Member v x) r p = member_stays m w g v x r p
   acts_stay m w g (act.Display v) r p = subst (Stays (List ℕ)) (sym p.2) g

@@ -21,7 +21,7 @@ use Rattle.esm_env.specs.Modules.{Modules}
 use Rattle.esm_env.specs.Naming.{AreNamed}
 use Rattle.esm_env.proofs.Named as env
 use Rattle.esm_body.specs.Rest.{Rest, whole, fill_rest}
-use Rattle.esm_body.specs.State.{Event, Begins, Ends, Throws, Standing, State, Importing, Answered, event_line, line_by, add_line, event_behind, note_by, note}
+use Rattle.esm_body.specs.State.{Event, Begins, Ends, Throws, Standing, State, Importing, AnswerWith, event_line, line_by, add_line, event_behind, note_by, note}
 use Rattle.esm_body.specs.Acts.{modules_of}
 use Rattle.esm_body.specs.Segment.{Ended, Normal, Thrown, Awaiting, Stopped, Segment}
 use Rattle.esm_body.specs.Bodies.{Taken, behind, take_by, take_standing, await_on, stand, settle_done, segment_end, ran_by, body_end, given_by, url_in, whole_body, StartsBody, RunsBody, ResumesBody}
@@ -50,7 +50,7 @@ module _ {M N I J : Type 0} (names : Naming M N) (image : I → J) (same : M →
   abbrev St : Standing M → Standing N
   St x = renamed_standing names x
 
-  abbrev told : Answered (Unit {0}) (State M I) → Answered (Unit {0}) (State N J)
+  abbrev told : AnswerWith (Unit {0}) (State M I) → AnswerWith (Unit {0}) (State N J)
   told a = (a.0, W a.1)
 
   abbrev Ps : Type 0
@@ -111,7 +111,7 @@ module _ {M N I J : Type 0} (names : Naming M N) (image : I → J) (same : M →
     end_follows m done (Awaiting v rest) w = ap (λ u. (Ok tt, u)) (stand_follows w m done v rest)
     end_follows m done (Stopped why) w = refl
 
-    abbrev told_ran : Answered (Ran (Value M)) (State M I) → Answered (Ran (Value N)) (State N J)
+    abbrev told_ran : AnswerWith (Ran (Value M)) (State M I) → AnswerWith (Ran (Value N)) (State N J)
     told_ran a = (mapped_end V a.0, W a.1)
 
     abbrev ran_of : Ran (Value M) → Ran (Value N)
@@ -131,7 +131,7 @@ module _ {M N I J : Type 0} (names : Naming M N) (image : I → J) (same : M →
 
   -- ---- what is good stays so
 
-  abbrev Stays : (A : Type 0) → Answered A (State M I) → Type 0
+  abbrev Stays : (A : Type 0) → AnswerWith A (State M I) → Type 0
   Stays A a = Good_in a.1
 
   line_stays : (w : State M I) → Good_in w → (e : Event M) (text : List ℕ) (b : Bool) → Stays (Unit {0}) (event_behind e (line_by b w text))
@@ -145,7 +145,7 @@ module _ {M N I J : Type 0} (names : Naming M N) (image : I → J) (same : M →
   noted : (url : M → List ℕ) (w : State M I) → Good_in w → (e : Event M) → Stays (Unit {0}) (note url w e)
   noted url w g e = note_stays url w g e w.engine.trace
 
-  done_stays : (p : ℕ) (how : Settled (Value M)) (a : Answered (Unit {0}) (State M I)) → Stays (Unit {0}) a → Stays (Unit {0}) (settle_done p how a)
+  done_stays : (p : ℕ) (how : Settled (Value M)) (a : AnswerWith (Unit {0}) (State M I)) → Stays (Unit {0}) a → Stays (Unit {0}) (settle_done p how a)
   done_stays p how (Ok done, w) g = g
   done_stays p how (Err why, w) g = g
 
@@ -155,11 +155,11 @@ module _ {M N I J : Type 0} (names : Naming M N) (image : I → J) (same : M →
   end_stays url m done (Awaiting v rest) w g = g
   end_stays url m done (Stopped why) w g = g
 
-  abbrev EndStays : Option (Answered (Ran (Value M)) (State M I)) → Type 0
+  abbrev EndStays : Option (AnswerWith (Ran (Value M)) (State M I)) → Type 0
   EndStays None = Unit {0}
   EndStays (Some a) = Stays (Ran (Value M)) a
 
-  ran_stays : (how : Ran (Value M)) (a : Answered (Unit {0}) (State M I)) → Stays (Unit {0}) a → EndStays (ran_by how a)
+  ran_stays : (how : Ran (Value M)) (a : AnswerWith (Unit {0}) (State M I)) → Stays (Unit {0}) a → EndStays (ran_by how a)
   ran_stays how (Ok done, w) g = g
   ran_stays how (Err why, w) g = g
 

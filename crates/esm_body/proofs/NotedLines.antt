@@ -12,7 +12,7 @@ use Rattle.esm_promise.specs.Code.{Numbered}
 use Rattle.esm_promise.specs.Promises.{Settled, settle}
 use Rattle.esm_env.specs.Scopes.{Scopes}
 use Rattle.esm_body.specs.State as state
-use Rattle.esm_body.specs.State.{State, Answered, add_line, line_by, event_behind, event_line, note, note_by}
+use Rattle.esm_body.specs.State.{State, AnswerWith, add_line, line_by, event_behind, event_line, note, note_by}
 use Rattle.esm_body.specs.Bodies.{settle_done}
 use Rattle.esm_body.specs.Noted.{event_of}
 use Rattle.esm_body.specs.View.{engine_of, state_of}
@@ -87,13 +87,13 @@ module _ {I : Type 0} (old : Engine) (e : Scopes) (ps : Numbered) (es : Errors) 
   abbrev At : List (state.Event ℕ) → List ℕ → ℕ → Option Limit → State ℕ I
   At evs log steps stopped = record (St old) { engine = record (engine_of old) { events = evs; log = log; steps = steps; stopped = stopped } }
 
-  abbrev Said : State ℕ I → Answered (Unit {0}) (State ℕ I)
+  abbrev Said : State ℕ I → AnswerWith (Unit {0}) (State ℕ I)
   Said w = (Ok tt, w)
 
-  abbrev Refused : Limit → State ℕ I → Answered (Unit {0}) (State ℕ I)
+  abbrev Refused : Limit → State ℕ I → AnswerWith (Unit {0}) (State ℕ I)
   Refused limit w = (Err limit, w)
 
-  abbrev Behind : Answered (Unit {0}) (State ℕ I) → Answered (Unit {0}) (State ℕ I)
+  abbrev Behind : AnswerWith (Unit {0}) (State ℕ I) → AnswerWith (Unit {0}) (State ℕ I)
   Behind t = event_behind (event_of event) t
 
   more : map event_of (old.events ++ event ∷ []) ≡ map event_of old.events ++ event_of event ∷ []
@@ -123,7 +123,7 @@ module _ {I : Type 0} (old : Engine) (e : Scopes) (ps : Numbered) (es : Errors) 
   pub notes_stop : (new : Engine) (limit : Limit) → TracesTo old event text (Err (stops.Limit limit)) new → note url (St old) (event_of event) ≡ (Err limit, St new)
   notes_stop new limit h = stopped_by old.trace limit new.log h.line ∙ ap (λ (n : Engine). Refused limit (St n)) (sym h.rest)
 
-  abbrev Settles : Settled (Value ℕ) → ℕ → Answered (Unit {0}) (State ℕ I) → Answered (Unit {0}) (State ℕ I)
+  abbrev Settles : Settled (Value ℕ) → ℕ → AnswerWith (Unit {0}) (State ℕ I) → AnswerWith (Unit {0}) (State ℕ I)
   Settles how done t = settle_done done how t
 
   -- the end of a body is noted, and its promise is settled

@@ -15,7 +15,7 @@ use Rattle.esm_env.specs.Cells.{Cell, Reading}
 use Rattle.esm_env.proofs.OneRead.{reads_one, member_one}
 use Rattle.esm_body.specs.Scopes.{in_scopes}
 use Rattle.esm_promise.specs.Outer.{Outer}
-use Rattle.esm_body.specs.State.{State, Importing, Answered}
+use Rattle.esm_body.specs.State.{State, Importing, AnswerWith}
 use Rattle.esm_body.specs.Acts.{Inner, Performs, AnswersAct, Displays, DisplaysAll, ReadsBy, ReadsMemberOf, BeginsBy, read_answer, over_scopes, with_state, with_outer, import_answer}
 use Rattle.esm_body.specs.State.{add_line}
 use Rattle.esm_promise.specs.Promises.{next_promise}
@@ -46,7 +46,7 @@ module _ {N I : Type 0} (same : N → N → Bool) (modules : I → Modules N) (b
   reads_by_one w x (Some c) p q = q ∙ sym p
   reads_by_one w x None p q = reads_one _ p q
 
-  members_one : (w : Inner N I) (v : Value N) (x : List ℕ) {t u : Answered (Completion (Value N)) (Inner N I)} → ReadsMemberOf same modules begins m w v x t → ReadsMemberOf same modules begins m w v x u → u ≡ t
+  members_one : (w : Inner N I) (v : Value N) (x : List ℕ) {t u : AnswerWith (Completion (Value N)) (Inner N I)} → ReadsMemberOf same modules begins m w v x t → ReadsMemberOf same modules begins m w v x u → u ≡ t
   members_one w Undefined x p q = q ∙ sym p
   members_one w (Truth b) x p q = q ∙ sym p
   members_one w (Text s) x p q = q ∙ sym p
@@ -55,13 +55,13 @@ module _ {N I : Type 0} (same : N → N → Bool) (modules : I → Modules N) (b
   members_one w (Namespace k) x p q = q.2 ∙ ap (read_answer w x) (member_one _ p.1 q.1) ∙ sym p.2
   members_one w (Promise i) x p q = q ∙ sym p
 
-  begun_one : (w : Inner N I) (text : Option (List ℕ)) {t u : Answered (Value N) (Inner N I)} → BeginsBy same modules begins m w text t → BeginsBy same modules begins m w text u → u ≡ t
+  begun_one : (w : Inner N I) (text : Option (List ℕ)) {t u : AnswerWith (Value N) (Inner N I)} → BeginsBy same modules begins m w text t → BeginsBy same modules begins m w text u → u ≡ t
   begun_one w None p q = q ∙ sym p
   begun_one w (Some text) p q =
       let k = one.one p.2 q.2 in
       q.3 ∙ (λ i. (import_answer (next_promise w.state.outer.promises) (k.0 i), with_state w (with_outer w.state (k.1 i)))) ∙ sym p.3
 
-  tells_one : (w : Inner N I) (a : Act (Value N)) {t u : Answered (AnswerTo a) (Inner N I)} → AnswersAct same modules begins m w a t → AnswersAct same modules begins m w a u → u ≡ t
+  tells_one : (w : Inner N I) (a : Act (Value N)) {t u : AnswerWith (AnswerTo a) (Inner N I)} → AnswersAct same modules begins m w a t → AnswersAct same modules begins m w a u → u ≡ t
   tells_one w (act.Read x) p q = q.2 ∙ ap (read_answer w x) (reads_by_one w.state x (in_scopes w.scopes x) p.1 q.1) ∙ sym p.2
   tells_one w (act.Member of x) p q = members_one w of x p q
   tells_one w (act.Display of) p q = q.2 ∙ ap (λ t. (Ok t, w)) (displays_one modules w.state of p.1 q.1) ∙ sym p.2

@@ -4,12 +4,12 @@ use Rattle.std.specs.Prelude.{nat_eq}
 use Rattle.esm_env.specs.Modules.{Modules}
 use Rattle.esm_resolve.specs.SharedSet.{SharedSetAgrees, SharedSetEnds}
 use Rattle.esm_body.proofs.LinkedRead.{linked_read}
-use Rattle.esm_body.specs.Laws.{Importer, imports_by, itself, KeepsLinked, KeepsModules, HasSegment, HaveOutcomes}
+use Rattle.esm_body.specs.Laws.{Importer, imports_by, itself, KeepsLinked, ImportsKeepModules, HasSegment, HaveOutcomes}
 use Rattle.esm_body.proofs.SomeAct.{BeginsSome}
 use Rattle.esm_body.proofs.SomeSegment.{some_segment}
 use Rattle.esm_body.proofs.SomeBody.{some_start, some_run, some_resume}
 
-begins_some : SharedSetAgrees → SharedSetEnds → (linked : Modules ℕ → ℕ → Bool) (f : Importer) → KeepsModules linked f → BeginsSome itself linked (KeepsLinked linked) (imports_by f)
+begins_some : SharedSetAgrees → SharedSetEnds → (linked : Modules ℕ → ℕ → Bool) (f : Importer) → ImportsKeepModules linked f → BeginsSome itself linked (KeepsLinked linked) (imports_by f)
 begins_some a e linked f k = record {
   readable = λ o h. linked_read o.imports (linked o.imports) a e h;
   errors = λ o es h. h;

@@ -21,9 +21,9 @@ use Rattle.esm_body.specs.State.{State, Importing}
 use Rattle.esm_body.specs.Bodies.{ResumesBody, Taken, take_standing, given_by, segment_end, url_in, without_standing}
 use Rattle.esm_body.specs.Segment.{Ended, Segment}
 use Rattle.esm_body.specs.Segment.{Ended as over}
-use Rattle.esm_body.specs.Engines.{AreReady, AreStanding, IsStanding, Resumed}
+use Rattle.esm_body.specs.Engines.{TakesBodies, AreStanding, IsStanding, Resumed}
 use Rattle.esm_body.specs.Fits.{AreLinked, FitsRun, FitStanding, IsKnown, Knows, of_body}
-use Rattle.esm_body.specs.Importers.{HasLinked, IsLawful}
+use Rattle.esm_body.specs.Importers.{HasLinked, ImportsAreLawful}
 use Rattle.esm_body.specs.View.{state_of, standing_of}
 use Rattle.esm_body.specs.Sets.{IsNameOf}
 use Rattle.esm_body.specs.Inner.Going.{FitsBody, Halts, WentOn, EndsSegment, StandsBehind, behind_rest}
@@ -46,8 +46,8 @@ use Rattle.esm_body.proofs.Stay.{stand_at, stand_behind, stand_on, stand_others}
 use Rattle.esm_body.proofs.WaitLemmas.{The}
 
 module _ {C S : Type 0} (seen : C → S) (graphs : C → Graph) (urls : C → ℕ → List ℕ) (modules : S → Modules ℕ) (linked : S → ℕ → Bool) (fits : Outer ℕ S → Type 0) (begins : Importing ℕ S)
-    (has : (c : C) → AreLinked (modules (seen c)) (linked (seen c)) → HasLinked (modules (seen c)) (linked (seen c)) (graphs c) (urls c)) (agrees : SharedSetAgrees) (ends : SharedSetEnds) (lawful : IsLawful modules linked fits begins)
-    (old mid : Engine) (sc : Scopes) (ps : Numbered) (es : Errors) (c : C) (id : ModuleId) (at : ℕ) (s : Standing) (how : Settled (Value ℕ)) (ready : AreReady modules linked fits begins old sc ps es (seen c)) (home : linked (seen c) id.0 ≡ true)
+    (has : (c : C) → AreLinked (modules (seen c)) (linked (seen c)) → HasLinked (modules (seen c)) (linked (seen c)) (graphs c) (urls c)) (agrees : SharedSetAgrees) (ends : SharedSetEnds) (lawful : ImportsAreLawful modules linked fits begins)
+    (old mid : Engine) (sc : Scopes) (ps : Numbered) (es : Errors) (c : C) (id : ModuleId) (at : ℕ) (s : Standing) (how : Settled (Value ℕ)) (ready : TakesBodies modules linked fits begins old sc ps es (seen c)) (home : linked (seen c) id.0 ≡ true)
     (stands : StandsAt old.standing.items id.0 (Some at)) (knows : Holds (IsKnown (modules (seen c)) (linked (seen c))) ⊥ (given_by how)) (is : s ≡ get_or old.standing.items at s)
     (rest : mid ≡ record old { standing = mid.standing }) (items : mid.standing.items ≡ remove old.standing.items at) where
   some : BeginsSome modules linked fits begins
@@ -154,7 +154,7 @@ module _ {C S : Type 0} (seen : C → S) (graphs : C → Graph) (urls : C → �
         (subst (AreStanding modules (seen c)) (sym same) (stand_others modules (seen c) old.standing.items at ready.standing))
 
     pub resumes_ready : (new : Engine) (ps'' : Numbered) (result : Result (Unit {0}) Stop) → late.standing ≡ mid.standing → Resumed modules linked fits begins Old id.0 how result (New new ps'')
-        → OnOk result (StandsBehind late.standing.items s.done hlt.ended hlt.body new.standing.items) → OnOk result (AreReady modules linked fits begins new sc' ps'' es' (seen c'))
+        → OnOk result (StandsBehind late.standing.items s.done hlt.ended hlt.body new.standing.items) → OnOk result (TakesBodies modules linked fits begins new sc' ps'' es' (seen c'))
     resumes_ready new ps'' (Ok u) e h b = record {
       state = (lawful_resume modules linked fits begins agrees ends lawful Old id.0 how (Ok tt) (New new ps'') ready.state home knows h).fits;
       made = halts.made;

@@ -13,7 +13,7 @@ use Rattle.esm_env.specs.declared.envs.Envs.{Envs}
 use Rattle.esm_body.specs.SameScopes.{HaveSameScopes}
 use Rattle.esm_body.specs.Rest.{Rest}
 use Rattle.esm_body.specs.State.{State, Importing}
-use Rattle.esm_body.specs.Importers.{IsLawful}
+use Rattle.esm_body.specs.Importers.{ImportsAreLawful}
 use Rattle.esm_body.specs.View.{state_of}
 use Rattle.esm_body.specs.Inner.Going.{MayGoOn, Halts, WentOn, CameTo}
 use Rattle.esm_body.specs.Inner.Running.{RanBehind}
@@ -110,7 +110,7 @@ module _ {I S : Type 0} (seen : I → S) (modules : S → Modules ℕ) (linked :
 
   -- ---- behind an await
 
-  module _ (agrees : SharedSetAgrees) (ended : SharedSetEnds) (lawful : IsLawful modules linked fits begins)
+  module _ (agrees : SharedSetAgrees) (ended : SharedSetEnds) (lawful : ImportsAreLawful modules linked fits begins)
       (x : Inside I) (out : Outcome) (came : CameTo seen modules begins w rest out x) where
     pub halts_behind_back : (end : Ended) (body : Activation) (r : Result Ended Stop) → Ran x out r → r ≡ Ok end → (SameLoans w y → body ≡ y.code.now) → HaltsAt (halt end body) Then envs
     halts_behind_back end body r h is e =

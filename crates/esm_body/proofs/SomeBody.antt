@@ -16,10 +16,10 @@ use Rattle.esm_promise.specs.Outer.{Outer}
 use Rattle.esm_env.specs.Modules.{Modules, entries}
 use Rattle.esm_expr_eval.specs.Ready.{Holds}
 use Rattle.esm_body.specs.Rest.{Rest, fill_rest}
-use Rattle.esm_body.specs.State.{State, Standing, Importing, Answered, Event, Begins, Ends, Throws, note, note_by, event_behind, event_line, line_by}
+use Rattle.esm_body.specs.State.{State, Standing, Importing, AnswerWith, Event, Begins, Ends, Throws, note, note_by, event_behind, event_line, line_by}
 use Rattle.esm_body.specs.Segment.{Ended, Normal, Thrown, Awaiting, Stopped}
 use Rattle.esm_body.specs.Bodies.{StartsBody, RunsBody, ResumesBody, Taken, take_by, take_standing, given_by, url_in, whole_body, settle_done, segment_end, body_end, ran_by, without_standing}
-use Rattle.esm_body.specs.Fits.{of_body, FitsState, FitsRun, FitsEnd, FitStanding, StaysFit, HoldsRest, Knows}
+use Rattle.esm_body.specs.Fits.{of_body, FitsState, FitsRun, FitsEnd, FitStanding, FitsAfter, HoldsRest, Knows}
 use Rattle.esm_body.proofs.Grown.{new_whole, filled_rest, held_rest}
 use Rattle.esm_body.proofs.SomeAct.{BeginsSome}
 use Rattle.esm_body.proofs.SomeSegment.{some_segment}
@@ -52,7 +52,7 @@ module _ {N I : Type 0} (same : N → N → Bool) (modules : I → Modules N) (l
   Run w m awaits r = FitsRun modules linked Whole w m awaits r []
 
   abbrev Stays : W → W → Type 0
-  Stays w after = StaysFit modules linked Whole w after
+  Stays w after = FitsAfter modules linked Whole w after
 
   -- ---- what a body notes and settles
 
@@ -70,7 +70,7 @@ module _ {N I : Type 0} (same : N → N → Bool) (modules : I → Modules N) (l
   both : {w mid after : W} → Stays w mid → Stays mid after → Stays w after
   both a b = record { fits = b.fits; keeps = λ v k. b.keeps v (a.keeps v k) }
 
-  settles : (done : ℕ) (how : Settled (Value N)) (w : W) (told : Answered (Unit {0}) W) → Stays w told.1 → Holds (Knows modules linked told.1.outer.imports) ⊥ (given_by how) → Stays w (settle_done done how told).1
+  settles : (done : ℕ) (how : Settled (Value N)) (w : W) (told : AnswerWith (Unit {0}) W) → Stays w told.1 → Holds (Knows modules linked told.1.outer.imports) ⊥ (given_by how) → Stays w (settle_done done how told).1
   settles done how w (Ok noted, mid) s h = record { fits = record { whole = some.settles mid.outer done how h s.fits.whole; cells = s.fits.cells; standing = s.fits.standing }; keeps = s.keeps }
   settles done how w (Err why, mid) s h = s
 
@@ -136,14 +136,14 @@ module _ {N I : Type 0} (same : N → N → Bool) (modules : I → Modules N) (l
   abbrev pub Runs : W → N → Type 0
   Runs w m = (end : Result (Ran (Value N)) Limit) × ((after : W) × (RunsBody same modules begins w m end after × (Stays w after × RanKnown after.outer.imports end)))
 
-  abbrev Ran' : W → (Option (Answered (Ran (Value N)) W)) → Type 0
-  Ran' w o = (x : Answered (Ran (Value N)) W) × ((o ≡ Some x) × (Stays w x.1 × RanKnown x.1.outer.imports x.0))
+  abbrev Ran' : W → (Option (AnswerWith (Ran (Value N)) W)) → Type 0
+  Ran' w o = (x : AnswerWith (Ran (Value N)) W) × ((o ≡ Some x) × (Stays w x.1 × RanKnown x.1.outer.imports x.0))
 
-  ran_normal : (w : W) (t : Answered (Unit {0}) W) → Stays w t.1 → Ran' w (ran_by ran.Normal t)
+  ran_normal : (w : W) (t : AnswerWith (Unit {0}) W) → Stays w t.1 → Ran' w (ran_by ran.Normal t)
   ran_normal w (Ok done, mid) s = ((Ok ran.Normal, mid), (refl, (s, tt)))
   ran_normal w (Err why, mid) s = ((Err why, mid), (refl, (s, tt)))
 
-  ran_thrown : (w : W) (v : Value N) (t : Answered (Unit {0}) W) → Stays w t.1 → Knows modules linked t.1.outer.imports v → Ran' w (ran_by (ran.Thrown v) t)
+  ran_thrown : (w : W) (v : Value N) (t : AnswerWith (Unit {0}) W) → Stays w t.1 → Knows modules linked t.1.outer.imports v → Ran' w (ran_by (ran.Thrown v) t)
   ran_thrown w v (Ok done, mid) s k = ((Ok (ran.Thrown v), mid), (refl, (s, k)))
   ran_thrown w v (Err why, mid) s k = ((Err why, mid), (refl, (s, tt)))
 

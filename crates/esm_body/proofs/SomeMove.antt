@@ -25,7 +25,7 @@ use Rattle.esm_env.specs.Modules.{Modules}
 use Rattle.esm_env.specs.Cells.{Cell, Cells, write_cell}
 use Rattle.esm_env.specs.Writing.{write_at, write_by, constant_by}
 use Rattle.esm_body.specs.Scopes.{Scope, scope_of, handler_scope, set_in, set_by, set_in_scopes, set_where, in_scope, in_scopes}
-use Rattle.esm_body.specs.Rest.{Use, Part, Rest, end, more, begin, branch, count}
+use Rattle.esm_body.specs.Rest.{Use, Part, Rest, end, more, begin, branch, stmt_count}
 use Rattle.esm_body.specs.Rest.Part.{Whole, Does, Stands, In, Tries}
 use Rattle.esm_body.specs.Rest.Use.{Drops, Sets, Writes, Throws, Returns, Prints, Chooses, Awaits}
 use Rattle.esm_body.specs.State.{State, Importing}
@@ -241,7 +241,7 @@ module _ {N I : Type 0} (same : N → N → Bool) (modules : I → Modules N) (l
       → Comes' view' (values same) (own_url same modules begins m) (acts same modules linked Fit begins some m) (lives same modules linked Fit begins some m) w e → Moves k w (more (Does u e) rest)
   expression_moves k w u e rest f r (comes c after h l) = moves _ after (does h) (arrives_fits k w u e rest f r c after l)
 
-  chosen : (V' : Type 0) (b : Bool) (ss others : Stmts) → size_part (branch {V = V} (values same) b ss others) < suc (suc (count ss + count others))
+  chosen : (V' : Type 0) (b : Bool) (ss others : Stmts) → size_part (branch {V = V} (values same) b ss others) < suc (suc (stmt_count ss + stmt_count others))
   chosen V' true ss others = let e = size_whole V ss in omega (arith, e)
   chosen V' false ss others = let e = size_whole V others in omega (arith, e)
 

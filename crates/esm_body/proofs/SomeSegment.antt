@@ -25,7 +25,7 @@ use Rattle.esm_body.specs.State.{State, Importing, new_error}
 use Rattle.esm_body.specs.BodyRewriting.{RewrittenBody, On, Gives, Waits, RewritesBody}
 use Rattle.esm_body.specs.Segment.{Active, active, Ended, Normal, Thrown, Awaiting, Stopped, Goes, Segment, RewritesOutermost, next_by, called, called_by, call_by, too_deep}
 use Rattle.esm_body.specs.Segment.Segment.{ends, returns, goes, over}
-use Rattle.esm_body.specs.Fits.{Kind, of_function, FitsStmts, HoldsScope, HoldsRest, FitsState, Knows, kind_by, FitCallers, FitsRun, StaysFit, FitsEnd}
+use Rattle.esm_body.specs.Fits.{Kind, of_function, FitsStmts, HoldsScope, HoldsRest, FitsState, Knows, kind_by, FitCallers, FitsRun, FitsAfter, FitsEnd}
 use Rattle.esm_body.proofs.Grown.{held_rest, filled_rest, same_rest, size_rest, new_whole, new_scope_of}
 use Rattle.esm_body.proofs.SomeAct.{BeginsSome, Took}
 use Rattle.esm_body.proofs.SomeMove.{Left, Fits', Moves, moves, shape, some_move}
@@ -168,7 +168,7 @@ module _ {N I : Type 0} (same : N → N → Bool) (modules : I → Modules N) (l
 
     -- ---- each move
 
-    stays : (w mid : W) (m : N) (steps : ℕ) → Left same modules linked Whole begins some m (record { scopes = []; state = w }) steps (record { scopes = []; state = mid }) → StaysFit modules linked Whole w mid
+    stays : (w mid : W) (m : N) (steps : ℕ) → Left same modules linked Whole begins some m (record { scopes = []; state = w }) steps (record { scopes = []; state = mid }) → FitsAfter modules linked Whole w mid
     stays w mid m steps l = record { fits = l.fits.state; keeps = l.keeps }
 
     goes_on : (w : W) (m : N) (p : Rest V) (cs : List (Active N)) → Run w m p cs → MAX_STEPS < w.engine.steps + k → measure p cs < suc n → (move : RewrittenBody V Limit) (mid : W) → RewritesOutermost same modules begins m w p move mid

@@ -19,12 +19,12 @@ use Rattle.esm_env.specs.Declarations.{body_of}
 use Rattle.esm_env.specs.Modules.{Modules, entries}
 use Rattle.esm_env.specs.Scopes.{Scopes}
 use Rattle.esm_body.specs.Rest.{Rest, whole}
-use Rattle.esm_body.specs.State.{Begins, State, Importing, Answered, note}
+use Rattle.esm_body.specs.State.{Begins, State, Importing, AnswerWith, note}
 use Rattle.esm_body.specs.Bodies.{StartsBody, RunsBody, url_in, whole_body}
 use Rattle.esm_body.specs.Segment.{Ended, Normal, Thrown, Awaiting, Stopped, Segment}
-use Rattle.esm_body.specs.Engines.{AreReady, AreStanding, Started, RanBody, KnowsThrown}
-use Rattle.esm_body.specs.Fits.{AreLinked, FitsState, FitsRun, FitsEnd, FitStanding, StaysFit}
-use Rattle.esm_body.specs.Importers.{HasLinked, IsLawful}
+use Rattle.esm_body.specs.Engines.{TakesBodies, AreStanding, Started, RanBody, KnowsThrown}
+use Rattle.esm_body.specs.Fits.{AreLinked, FitsState, FitsRun, FitsEnd, FitStanding, FitsAfter}
+use Rattle.esm_body.specs.Importers.{HasLinked, ImportsAreLawful}
 use Rattle.esm_body.specs.View.{state_of, standing_of}
 use Rattle.esm_body.specs.Sets.{IsNameOf, SetsRest}
 use Rattle.esm_body.specs.Inner.Going.{IsBegun, FitsBody, Halts, WentOn, EndsSegment, EndsBody, IsFinal, StandsBehind}
@@ -55,7 +55,7 @@ use Rattle.esm_body.proofs.Stay.{stand_behind, stand_on}
 use Rattle.esm_body.proofs.UrlStays.{url_stays}
 
 module _ {C S : Type 0} (seen : C → S) (graphs : C → Graph) (urls : C → ℕ → List ℕ) (modules : S → Modules ℕ) (linked : S → ℕ → Bool) (fits : Outer ℕ S → Type 0) (begins : Importing ℕ S)
-    (has : (c : C) → AreLinked (modules (seen c)) (linked (seen c)) → HasLinked (modules (seen c)) (linked (seen c)) (graphs c) (urls c)) (agrees : SharedSetAgrees) (ends : SharedSetEnds) (lawful : IsLawful modules linked fits begins) where
+    (has : (c : C) → AreLinked (modules (seen c)) (linked (seen c)) → HasLinked (modules (seen c)) (linked (seen c)) (graphs c) (urls c)) (agrees : SharedSetAgrees) (ends : SharedSetEnds) (lawful : ImportsAreLawful modules linked fits begins) where
   some : BeginsSome modules linked fits begins
   some = lawful_some modules linked fits begins agrees ends lawful
 
@@ -69,7 +69,7 @@ module _ {C S : Type 0} (seen : C → S) (graphs : C → Graph) (urls : C → �
   shows : (w : W) (c : C) (m : ℕ) → w.outer.imports ≡ seen c → FitsState modules linked fits w → linked (seen c) m ≡ true → urls c m ≡ (modules (seen c)).url m
   shows w c m same f k = shows_urls modules linked fits begins lawful seen graphs urls has w.outer c m (subst (λ (i : S). fits (record w.outer { imports = i })) same f.whole) k
 
-  stays_end : (awaits : Bool) (w : W) (how : Ended ℕ) (after : W) → FitsEnd modules linked fits w awaits how after → StaysFit modules linked fits w after
+  stays_end : (awaits : Bool) (w : W) (how : Ended ℕ) (after : W) → FitsEnd modules linked fits w awaits how after → FitsAfter modules linked fits w after
   stays_end awaits w Normal after h = h
   stays_end awaits w (Thrown v) after h = h.0
   stays_end awaits w (Awaiting v rest) after h = h.0
@@ -85,7 +85,7 @@ module _ {C S : Type 0} (seen : C → S) (graphs : C → Graph) (urls : C → �
 
   -- ---- the start of a body
 
-  module _ (old : Engine) (sc : Scopes) (ps : Numbered) (es : Errors) (c : C) (id : ModuleId) (ready : AreReady modules linked fits begins old sc ps es (seen c)) (home : linked (seen c) id.0 ≡ true) where
+  module _ (old : Engine) (sc : Scopes) (ps : Numbered) (es : Errors) (c : C) (id : ModuleId) (ready : TakesBodies modules linked fits begins old sc ps es (seen c)) (home : linked (seen c) id.0 ≡ true) where
     abbrev Old : W
     Old = state_of old sc ps es (seen c)
 
@@ -134,7 +134,7 @@ module _ {C S : Type 0} (seen : C → S) (graphs : C → Graph) (urls : C → �
       module _ (mid : Engine) (noted : NotesTo old (events.Begins id) (urls c id.0) mid) (awaits : Bool) (still : awaits ≡ false → (entries (modules (seen c)) id.0).awaits ≡ false) where
         run_body : FitsRun modules linked fits (Mid mid) id.0 awaits Body []
         run_body =
-            subst (λ (t : Answered (Unit {0}) W). FitsRun modules linked fits t.1 id.0 awaits Body []) (notes_begin mid noted)
+            subst (λ (t : AnswerWith (Unit {0}) W). FitsRun modules linked fits t.1 id.0 awaits Body []) (notes_begin mid noted)
             (noted_fits nat_eq modules linked fits begins some Old id.0 awaits ready.state home (λ q. no_await ((modules (seen c)).tree id.0) (still q)))
 
         pub begun_fits : FitsBody modules linked fits (Mid mid) sc a (code_rest a) awaits
@@ -196,7 +196,7 @@ module _ {C S : Type 0} (seen : C → S) (graphs : C → Graph) (urls : C → �
               stand_on modules linked (seen c) (seen c') halts.trees late.standing.items fit here
 
           pub starts_ready : (new : Engine) (ps'' : Numbered) (done : PromiseId) (result : Result (Unit {0}) Stop) → late.standing ≡ mid.standing → Started modules linked fits begins Old id.0 done.0 result (New new ps'')
-              → OnOk result (StandsBehind late.standing.items done hlt.ended hlt.body new.standing.items) → OnOk result (AreReady modules linked fits begins new sc' ps'' es' (seen c'))
+              → OnOk result (StandsBehind late.standing.items done hlt.ended hlt.body new.standing.items) → OnOk result (TakesBodies modules linked fits begins new sc' ps'' es' (seen c'))
           starts_ready new ps'' done (Ok u) e h b = record {
             state = (lawful_start modules linked fits begins agrees ends lawful Old id.0 done.0 (Ok tt) (New new ps'') ready.state home h).fits;
             made = halts.made;
@@ -205,7 +205,7 @@ module _ {C S : Type 0} (seen : C → S) (graphs : C → Graph) (urls : C → �
           starts_ready new ps'' done (Err stop) e h b = tt
 
           pub runs_ready : (new : Engine) (result : Result Ran Stop) → late.standing ≡ mid.standing → (entries (modules (seen c)) id.0).awaits ≡ false → RanBody modules linked fits begins Old id.0 result (New new ps')
-              → OnOk result (new.standing ≡ late.standing) → OnOk result (AreReady modules linked fits begins new sc' ps' es' (seen c'))
+              → OnOk result (new.standing ≡ late.standing) → OnOk result (TakesBodies modules linked fits begins new sc' ps' es' (seen c'))
           runs_ready new (Ok how) e q h b = record {
             state = (lawful_run modules linked fits begins agrees ends lawful Old id.0 (Ok (ran_of how)) (New new ps') ready.state home q h).0.fits;
             made = halts.made;

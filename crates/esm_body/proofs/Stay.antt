@@ -9,7 +9,7 @@ use Rattle.esm_promise.specs.Outer.{Outer}
 use Rattle.esm_env.specs.Faithful.{AreScopesOf}
 use Rattle.esm_env.specs.Modules.{Modules}
 use Rattle.esm_env.specs.Scopes.{Scopes}
-use Rattle.esm_body.specs.Engines.{AreReady, AreStanding, IsStanding, KeepTrees, StaysReady}
+use Rattle.esm_body.specs.Engines.{TakesBodies, AreStanding, IsStanding, KeepTrees, StillTakesBodies}
 use Rattle.esm_body.specs.Fits.{FitStanding, FitsState}
 use Rattle.esm_body.specs.State.{Importing}
 use Rattle.esm_body.specs.View.{standing_of, state_of}
@@ -56,15 +56,15 @@ stand_on modules linked i j trees (s ∷ ss) f h =
 
 -- what was ready stays so
 module _ {S : Type 0} (modules : S → Modules ℕ) (linked : S → ℕ → Bool) (fits : Outer ℕ S → Type 0) (begins : Importing ℕ S) where
-  stays_fitting : (engine : Engine) (old new : Scopes) (ps qs : Numbered) (es fs : Errors) (i j : S) → AreReady modules linked fits begins engine old ps es i → KeepTrees modules linked fits begins i j → AreScopesOf (modules j) (linked j) new
-      → FitsState modules linked fits (state_of engine new qs fs j) → AreReady modules linked fits begins engine new qs fs j
+  stays_fitting : (engine : Engine) (old new : Scopes) (ps qs : Numbered) (es fs : Errors) (i j : S) → TakesBodies modules linked fits begins engine old ps es i → KeepTrees modules linked fits begins i j → AreScopesOf (modules j) (linked j) new
+      → FitsState modules linked fits (state_of engine new qs fs j) → TakesBodies modules linked fits begins engine new qs fs j
   stays_fitting engine old new ps qs es fs i j ready trees made state = record {
     state = state;
     made = made;
     standing = stand_on modules linked i j trees engine.standing.items ready.state.standing ready.standing;
   }
 
-  pub still_takes_bodies : StaysReady modules linked fits begins
+  pub still_takes_bodies : StillTakesBodies modules linked fits begins
   still_takes_bodies = record {
     fitting = stays_fitting;
     known = λ engine old new ps qs es fs i j ready trees made whole keeps cells.

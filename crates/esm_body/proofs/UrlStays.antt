@@ -8,13 +8,13 @@ use Rattle.esm_body.specs.Rest.{Rest}
 use Rattle.esm_body.specs.State.{State, Importing}
 use Rattle.esm_body.specs.Segment.{Ended, Normal, Thrown, Awaiting, Stopped, Segment}
 use Rattle.esm_body.specs.Fits.{FitsRun, FitsEnd}
-use Rattle.esm_body.specs.Importers.{IsLawful}
+use Rattle.esm_body.specs.Importers.{ImportsAreLawful}
 use Rattle.esm_body.proofs.FitOutcomes.{segment_fits}
 use Rattle.esm_body.proofs.Lawful.{begins_one}
 use Rattle.esm_body.proofs.LinkedRead.{linked_read}
 use Rattle.esm_body.proofs.SomeAct.{BeginsSome}
 
-module _ {S : Type 0} (modules : S → Modules ℕ) (linked : S → ℕ → Bool) (fits : Outer ℕ S → Type 0) (begins : Importing ℕ S) (agrees : SharedSetAgrees) (ends : SharedSetEnds) (lawful : IsLawful modules linked fits begins) (m : ℕ) (u : List ℕ) where
+module _ {S : Type 0} (modules : S → Modules ℕ) (linked : S → ℕ → Bool) (fits : Outer ℕ S → Type 0) (begins : Importing ℕ S) (agrees : SharedSetAgrees) (ends : SharedSetEnds) (lawful : ImportsAreLawful modules linked fits begins) (m : ℕ) (u : List ℕ) where
   -- the module is linked, and has this URL
   pub record Has (o : Outer ℕ S) : Type 0 where
     pub whole : fits o

@@ -18,7 +18,7 @@ use Rattle.esm_env.specs.Modules.{Modules}
 use Rattle.esm_env.specs.Calls.{scopes_of}
 use Rattle.esm_env.specs.Laws.{ReadsRight}
 use Rattle.esm_body.specs.State.{Importing}
-use Rattle.esm_body.specs.Importers.{IsLawful, outer_with}
+use Rattle.esm_body.specs.Importers.{ImportsAreLawful, outer_with}
 use Rattle.esm_body.specs.Fits.{AreLinked}
 use Rattle.esm_body.specs.Inner.Stack.{scopes_round}
 use Rattle.esm_body.specs.Inner.Log.{TookSteps, AddedLine}
@@ -57,7 +57,7 @@ all_same : {I : Type 0} (w : Inside I) → IsSame w w
 all_same w = record { now = refl; code = refl; alloc = refl; engine = refl; standing = refl; errors = refl; envs = refl; promises = refl; imports = refl }
 
 module _ {I S : Type 0} (seen : I → S) (modules : S → Modules ℕ) (linked : S → ℕ → Bool) (fits : Outer ℕ S → Type 0) (begins : Importing ℕ S) (w : Inside I) where
-  links : IsLawful modules linked fits begins → CodeIsWhole seen modules linked fits begins w → AreLinked (modules (seen w.imports.now)) (linked (seen w.imports.now))
+  links : ImportsAreLawful modules linked fits begins → CodeIsWhole seen modules linked fits begins w → AreLinked (modules (seen w.imports.now)) (linked (seen w.imports.now))
   links lawful ready = lawful.links (state_in seen w).outer ready.state.whole
 
   pub reads : (x : List ℕ) (out : Out) (new : Errors) → ReadsRight
@@ -72,7 +72,7 @@ module _ {I S : Type 0} (seen : I → S) (modules : S → Modules ℕ) (linked :
     ),
   )
 
-  pub members : (v : CodeValue) (x : List ℕ) (out : Out) (new : Errors) → IsLawful modules linked fits begins
+  pub members : (v : CodeValue) (x : List ℕ) (out : Out) (new : Errors) → ImportsAreLawful modules linked fits begins
       → MemberTold (modules (seen w.imports.now)) (linked (seen w.imports.now)) (scopes_of w.envs.now) w.errors.now v x (Ok out) new
       → ActsInside seen modules linked fits begins w (act.Member v x) (said (Ok out)) (Errs w new)
   members v x out new lawful h = member_acts seen modules linked fits begins w (Errs w new) v x out (
@@ -84,7 +84,7 @@ module _ {I S : Type 0} (seen : I → S) (modules : S → Modules ℕ) (linked :
     ),
   )
 
-  pub displays : (v : CodeValue) (text : List ℕ) → IsLawful modules linked fits begins
+  pub displays : (v : CodeValue) (text : List ℕ) → ImportsAreLawful modules linked fits begins
       → IsShown (modules (seen w.imports.now)) (linked (seen w.imports.now)) (scopes_of w.envs.now) w.errors.now v text
       → ActsInside seen modules linked fits begins w (act.Display v) (Ok text) w
   displays v text lawful h = (
@@ -93,7 +93,7 @@ module _ {I S : Type 0} (seen : I → S) (modules : S → Modules ℕ) (linked :
         ((text, shows_there modules (state_in seen w) v text (h ready.made (links lawful ready) known), refl), ready.made),
   )
 
-  pub prints : (vs : List CodeValue) (texts : List (List ℕ)) (r : Result (Unit {0}) Stop) (new : Log) → IsLawful modules linked fits begins
+  pub prints : (vs : List CodeValue) (texts : List (List ℕ)) (r : Result (Unit {0}) Stop) (new : Log) → ImportsAreLawful modules linked fits begins
       → AreShown (modules (seen w.imports.now)) (linked (seen w.imports.now)) (scopes_of w.envs.now) w.errors.now vs texts
       → AddedLine w.engine.now.log (printed_line texts) r new → ActsInside seen modules linked fits begins w (act.Print vs) r (Logs w new)
   prints vs texts (Ok u) new lawful shown h = (
@@ -159,7 +159,7 @@ module _ {I S : Type 0} (seen : I → S) (modules : S → Modules ℕ) (linked :
     ),
   )
 
-  pub begins_import : (v : CodeValue) (text : List ℕ) (r : Result Value Stop) (late : Numbered) (new : Errors) (k : I) → IsLawful modules linked fits begins → MadePending
+  pub begins_import : (v : CodeValue) (text : List ℕ) (r : Result Value Stop) (late : Numbered) (new : Errors) (k : I) → ImportsAreLawful modules linked fits begins → MadePending
       → IsSpecifier w.errors.now v (Some text)
       → BeginsTold modules linked fits begins (outer_with w.promises.now w.errors.now (seen w.imports.now)) w.code.now.at.0 text r (outer_with late new (seen k))
       → ActsInside seen modules linked fits begins w (act.Import v) (valued r) (Outs w late new k)

@@ -23,7 +23,7 @@ use Rattle.esm_env.specs.Reading.{IsReadingOf, IsMemberOf}
 use Rattle.esm_env.specs.Writing.{Writing, writing_of}
 use Rattle.esm_env.specs.Writing.{Writing as writing}
 use Rattle.esm_body.specs.Scopes.{Scope, in_scopes, set_in, set_in_scopes}
-use Rattle.esm_body.specs.State.{State, Importing, Answered, take_steps, add_line, new_error, with_error, with_promises}
+use Rattle.esm_body.specs.State.{State, Importing, AnswerWith, take_steps, add_line, new_error, with_error, with_promises}
 
 -- the scopes round the code, the innermost first, over the state in which its module has its cells
 pub record Inner (N I : Type 0) : Type 0 where
@@ -77,19 +77,19 @@ module _ {N I : Type 0} where
   with_new w kind message = with_state w (with_error w.state (fault kind message))
 
   -- a new error is thrown
-  abbrev pub throws_new : Inner N I → FaultKind → List ℕ → Answered (Completion (Value N)) (Inner N I)
+  abbrev pub throws_new : Inner N I → FaultKind → List ℕ → AnswerWith (Completion (Value N)) (Inner N I)
   throws_new w kind message = (Ok (Throw (new_error w.state)), with_new w kind message)
 
-  abbrev pub gives : Inner N I → Value N → Answered (Completion (Value N)) (Inner N I)
+  abbrev pub gives : Inner N I → Value N → AnswerWith (Completion (Value N)) (Inner N I)
   gives w v = (Ok (Normal v), w)
 
   -- ECMA-262, GetBindingValue: an unset name, and one that isn't declared, throws a ReferenceError
-  abbrev pub read_answer : Inner N I → List ℕ → Reading (Value N) → Answered (Completion (Value N)) (Inner N I)
+  abbrev pub read_answer : Inner N I → List ℕ → Reading (Value N) → AnswerWith (Completion (Value N)) (Inner N I)
   read_answer w x (reading.Value v) = gives w v
   read_answer w x reading.Unset = throws_new w kinds.ReferenceError (not_initialized x)
   read_answer w x reading.Undeclared = throws_new w kinds.ReferenceError (not_defined x)
 
-  abbrev pub over_scopes : {A : Type 0} → Inner N I → Answered A (State N I) → Answered A (Inner N I)
+  abbrev pub over_scopes : {A : Type 0} → Inner N I → AnswerWith A (State N I) → AnswerWith A (Inner N I)
   over_scopes w (answer, s) = (answer, with_state w s)
 
   -- ---- import()
@@ -117,21 +117,21 @@ module _ {N I : Type 0} (same : N → N → Bool) (modules : I → Modules N) (b
   ReadsName w x read = ReadsBy w.state x (in_scopes w.scopes x) read
 
   -- own: other values than namespaces and errors have no members
-  abbrev pub ReadsMemberOf : Inner N I → Value N → List ℕ → Answered (Completion (Value N)) (Inner N I) → Type 0
+  abbrev pub ReadsMemberOf : Inner N I → Value N → List ℕ → AnswerWith (Completion (Value N)) (Inner N I) → Type 0
   ReadsMemberOf w (Namespace k) x told =
       (read : Reading (Value N)) × IsMemberOf (modules_of modules w.state) w.state.cells k x read × (told ≡ read_answer w x read)
   ReadsMemberOf w (Error id) x told = told ≡ gives w (error_member w.state.outer.errors id x)
   ReadsMemberOf w v x told = told ≡ throws_new w kinds.TypeError (codes "no members")
 
   -- ECMA-262, EvaluateImportCall: a new promise; without a text it is rejected at once
-  abbrev pub BeginsBy : Inner N I → Option (List ℕ) → Answered (Value N) (Inner N I) → Type 0
+  abbrev pub BeginsBy : Inner N I → Option (List ℕ) → AnswerWith (Value N) (Inner N I) → Type 0
   BeginsBy w None told = told ≡ (Ok (Promise (next_promise w.state.outer.promises)), with_state w (refuse_import w.state))
   BeginsBy w (Some specifier) told = (end : Result (Unit {0}) Limit) × (after : Outer N I)
       × begins (with_promise w.state).outer m specifier (next_promise w.state.outer.promises) end after
       × (told ≡ (import_answer (next_promise w.state.outer.promises) end, with_state w (with_outer w.state after)))
 
   -- each call on the world and its answer
-  abbrev pub AnswersAct : Inner N I → (a : Act (Value N)) → Answered (AnswerTo a) (Inner N I) → Type 0
+  abbrev pub AnswersAct : Inner N I → (a : Act (Value N)) → AnswerWith (AnswerTo a) (Inner N I) → Type 0
   AnswersAct w (act.Read x) told = (read : Reading (Value N)) × ReadsName w x read × (told ≡ read_answer w x read)
   AnswersAct w (act.Member of x) told = ReadsMemberOf w of x told
   AnswersAct w (act.Display of) told = (text : List ℕ) × Displays modules w.state of text × (told ≡ (Ok text, w))

@@ -12,7 +12,7 @@ use Rattle.esm_promise.specs.Promises.Settled.{Fulfilled, Rejected}
 use Rattle.esm_promise.specs.Reactions.{Reaction, Await}
 use Rattle.esm_env.specs.Modules.{Modules}
 use Rattle.esm_body.specs.Rest.{Rest, whole, fill_rest}
-use Rattle.esm_body.specs.State.{Begins, Ends, Throws, Standing, State, Importing, Answered, note, with_promises}
+use Rattle.esm_body.specs.State.{Begins, Ends, Throws, Standing, State, Importing, AnswerWith, note, with_promises}
 use Rattle.esm_body.specs.Acts.{modules_of}
 use Rattle.esm_body.specs.Segment.{Ended, Normal, Thrown, Awaiting, Stopped, Segment}
 
@@ -48,23 +48,23 @@ module _ {N I : Type 0} where
     };
   }) (await_on w.outer.promises v m)
 
-  abbrev pub settle_done : ℕ → Settled (Value N) → Answered (Unit {0}) (State N I) → Answered (Unit {0}) (State N I)
+  abbrev pub settle_done : ℕ → Settled (Value N) → AnswerWith (Unit {0}) (State N I) → AnswerWith (Unit {0}) (State N I)
   settle_done done how (Ok noted, w) = (Ok tt, with_promises w (settle w.outer.promises done how))
   settle_done done how (Err why, w) = (Err why, w)
 
   -- where a segment of a body that awaits has ended
-  abbrev pub segment_end : (N → List ℕ) → N → ℕ → Ended N → State N I → Answered (Unit {0}) (State N I)
+  abbrev pub segment_end : (N → List ℕ) → N → ℕ → Ended N → State N I → AnswerWith (Unit {0}) (State N I)
   segment_end url m done Normal w = settle_done done (Fulfilled Undefined) (note url w (Ends m))
   segment_end url m done (Thrown v) w = settle_done done (Rejected v) (note url w (Throws m))
   segment_end url m done (Awaiting v rest) w = (Ok tt, stand w m done v rest)
   segment_end url m done (Stopped why) w = (Err why, w)
 
-  abbrev pub ran_by : Ran (Value N) → Answered (Unit {0}) (State N I) → Option (Answered (Ran (Value N)) (State N I))
+  abbrev pub ran_by : Ran (Value N) → AnswerWith (Unit {0}) (State N I) → Option (AnswerWith (Ran (Value N)) (State N I))
   ran_by how (Ok noted, w) = Some (Ok how, w)
   ran_by how (Err why, w) = Some (Err why, w)
 
   -- where a body that doesn't await has ended. It stands at no await, so there is no such end
-  abbrev pub body_end : (N → List ℕ) → N → Ended N → State N I → Option (Answered (Ran (Value N)) (State N I))
+  abbrev pub body_end : (N → List ℕ) → N → Ended N → State N I → Option (AnswerWith (Ran (Value N)) (State N I))
   body_end url m Normal w = ran_by ran.Normal (note url w (Ends m))
   body_end url m (Thrown v) w = ran_by (ran.Thrown v) (note url w (Throws m))
   body_end url m (Awaiting v rest) w = None

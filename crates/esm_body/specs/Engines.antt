@@ -36,7 +36,7 @@ module _ {S : Type 0} (modules : S → Modules ℕ) where
 
 module _ {S : Type 0} (modules : S → Modules ℕ) (linked : S → ℕ → Bool) (fits : Outer ℕ S → Type 0) (begins : Importing ℕ S) where
   -- the state fits, the scopes are those of the modules, and the bodies at their awaits are of them
-  pub record AreReady (engine : Engine) (scopes : Scopes) (promises : Numbered) (errors : Errors) (i : S) : Type 0 where
+  pub record TakesBodies (engine : Engine) (scopes : Scopes) (promises : Numbered) (errors : Errors) (i : S) : Type 0 where
     pub state : FitsState modules linked fits (state_of engine scopes promises errors i)
     pub made : AreScopesOf (modules i) (linked i) scopes
     pub standing : AreStanding modules i engine.standing.items
@@ -45,17 +45,17 @@ module _ {S : Type 0} (modules : S → Modules ℕ) (linked : S → ℕ → Bool
   abbrev pub KeepTrees : S → S → Type 0
   KeepTrees i j = (m : ℕ) → linked i m ≡ true → (modules j).tree m ≡ (modules i).tree m
 
-  -- between two calls for bodies promises, errors, scopes and modules may change. What was ready is so still, where linked modules keep
-  -- their trees, the scopes are those of the modules, and the state fits
-  pub record StaysReady : Type 0 where
+  -- between two calls for bodies promises, errors, scopes and modules may change. What takes bodies does so still, where linked modules
+  -- keep their trees, the scopes are those of the modules, and the state fits
+  pub record StillTakesBodies : Type 0 where
     pub fitting : (engine : Engine) (old new : Scopes) (ps qs : Numbered) (es fs : Errors) (i j : S)
-        → AreReady engine old ps es i → KeepTrees i j → AreScopesOf (modules j) (linked j) new
-        → FitsState modules linked fits (state_of engine new qs fs j) → AreReady engine new qs fs j
+        → TakesBodies engine old ps es i → KeepTrees i j → AreScopesOf (modules j) (linked j) new
+        → FitsState modules linked fits (state_of engine new qs fs j) → TakesBodies engine new qs fs j
     -- which it does where promises, errors and modules fit, what was known is known still, and each cell has a known value
     pub known : (engine : Engine) (old new : Scopes) (ps qs : Numbered) (es fs : Errors) (i j : S)
-        → AreReady engine old ps es i → KeepTrees i j → AreScopesOf (modules j) (linked j) new
+        → TakesBodies engine old ps es i → KeepTrees i j → AreScopesOf (modules j) (linked j) new
         → fits (outer_with qs fs j) → ((v : Value ℕ) → Knows modules linked i v → Knows modules linked j v)
-        → AreKnownCells (modules j) (linked j) (cells_of new) → AreReady engine new qs fs j
+        → AreKnownCells (modules j) (linked j) (cells_of new) → TakesBodies engine new qs fs j
 
   -- the body starts, or a limit is passed, just as the definitions have it; where memory ran out, nothing is said
   abbrev pub Started : State ℕ S → ℕ → ℕ → Result (Unit {0}) Stop → State ℕ S → Type 0

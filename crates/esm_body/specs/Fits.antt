@@ -141,14 +141,14 @@ module _ {N I : Type 0} (modules : I → Modules N) (linked : I → N → Bool) 
       pub before : FitCallers w.outer.imports awaits callers
 
     -- the state fits still, and what was known is known still
-    pub record StaysFit (w after : State N I) : Type 0 where
+    pub record FitsAfter (w after : State N I) : Type 0 where
       pub fits : FitsState after
       pub keeps : (v : Value N) → Knows w.outer.imports v → Knows after.outer.imports v
 
     -- how a segment ends: only a body that awaits stands at an await, with a rest that fits
     abbrev pub FitsEnd : State N I → Bool → Ended N → State N I → Type 0
-    FitsEnd w awaits Normal after = StaysFit w after
-    FitsEnd w awaits (Thrown v) after = StaysFit w after × Knows after.outer.imports v
-    FitsEnd w awaits (Awaiting v rest) after = StaysFit w after × (awaits ≡ true) × Knows after.outer.imports v
+    FitsEnd w awaits Normal after = FitsAfter w after
+    FitsEnd w awaits (Thrown v) after = FitsAfter w after × Knows after.outer.imports v
+    FitsEnd w awaits (Awaiting v rest) after = FitsAfter w after × (awaits ≡ true) × Knows after.outer.imports v
         × HoldsRest (Knows after.outer.imports) ⊤ (of_body awaits) rest
-    FitsEnd w awaits (Stopped why) after = StaysFit w after
+    FitsEnd w awaits (Stopped why) after = FitsAfter w after

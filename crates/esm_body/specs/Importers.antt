@@ -42,7 +42,7 @@ module _ {I : Type 0} (modules : I → Modules ℕ) (linked : I → ℕ → Bool
     pub urls : (m : ℕ) → linked o.imports m ≡ true → (modules after.imports).url m ≡ (modules o.imports).url m
 
   -- what bodies rely on: what fits stays so by all that bodies do to promises and errors, and import() has one outcome
-  pub record IsLawful : Type 0 where
+  pub record ImportsAreLawful : Type 0 where
     pub links : (o : Outer ℕ I) → fits o → AreLinked (modules o.imports) (linked o.imports)
     pub errors : (o : Outer ℕ I) (es : Errors) → fits o → fits (record o { errors = es })
     pub makes : (o : Outer ℕ I) → fits o → fits (record o { promises = make o.promises [] })

@@ -30,7 +30,7 @@ pub record BeginsNone {N I : Type 0} (begins : Importing N I) (old new : State N
   pub starts : started new.engine.events ≡ started old.engine.events
 
 -- import() alone was called, and the body of this module has begun, or none
-pub record BeginsItsOwn {N I : Type 0} (begins : Importing N I) (m : N) (old new : State N I) : Type 0 where
+pub record BeginsOwnBody {N I : Type 0} (begins : Importing N I) (m : N) (old new : State N I) : Type 0 where
   pub imports : ChangedBy begins old.outer.imports new.outer.imports
   pub starts : (started new.engine.events ≡ started old.engine.events)
       ⊎ (started new.engine.events ≡ started old.engine.events ++ m ∷ [])
@@ -39,9 +39,9 @@ module _ {N I : Type 0} (same : N → N → Bool) (modules : I → Modules N) (b
   -- a body that starts or runs begins no other, and one that goes on behind its await begins none
   pub record BodiesKeep : Type 0 where
     pub start : (w after : State N I) (m : N) (done : ℕ) (end : Result (Unit {0}) Limit)
-        → StartsBody same modules begins w m done end after → BeginsItsOwn begins m w after
+        → StartsBody same modules begins w m done end after → BeginsOwnBody begins m w after
     pub run : (w after : State N I) (m : N) (end : Result (Ran (Value N)) Limit)
-        → RunsBody same modules begins w m end after → BeginsItsOwn begins m w after
+        → RunsBody same modules begins w m end after → BeginsOwnBody begins m w after
     pub resume : (w after : State N I) (m : N) (how : Settled (Value N)) (end : Result (Unit {0}) Limit)
         → ResumesBody same modules begins w m how end after → BeginsNone begins w after
 

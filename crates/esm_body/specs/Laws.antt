@@ -18,7 +18,7 @@ use Rattle.esm_body.specs.State.{State, Importing}
 use Rattle.esm_body.specs.Acts.{Inner, read_answer, throws_new, not_initialized}
 use Rattle.esm_body.specs.BodyRewriting.{RewrittenBody, On, RewritesBody}
 use Rattle.esm_body.specs.Segment.{Active, Ended, Segment}
-use Rattle.esm_body.specs.Fits.{AreLinked, IsKnown, FitsState, FitsRun, FitsEnd, StaysFit}
+use Rattle.esm_body.specs.Fits.{AreLinked, IsKnown, FitsState, FitsRun, FitsEnd, FitsAfter}
 use Rattle.esm_expr_eval.specs.Ready.{Holds}
 use Rattle.esm_body.specs.Bodies.{StartsBody, RunsBody, ResumesBody, Taken, take_standing, given_by}
 
@@ -79,31 +79,31 @@ abbrev pub KeepsLinked : (Modules ℕ → ℕ → Bool) → Around → Type 0
 KeepsLinked linked o = AreLinked o.imports (linked o.imports)
 
 -- import() leaves what is linked so, and what is known
-abbrev pub KeepsModules : (Modules ℕ → ℕ → Bool) → Importer → Type 0
-KeepsModules linked f = (o : Around) (m : ℕ) (text : List ℕ) (p : ℕ) → KeepsLinked linked o → KeepsLinked linked (f o m text p).1
+abbrev pub ImportsKeepModules : (Modules ℕ → ℕ → Bool) → Importer → Type 0
+ImportsKeepModules linked f = (o : Around) (m : ℕ) (text : List ℕ) (p : ℕ) → KeepsLinked linked o → KeepsLinked linked (f o m text p).1
     × ((v : Value ℕ) → IsKnown o.imports (linked o.imports) v → IsKnown (f o m text p).1.imports (linked (f o m text p).1.imports) v)
 
 -- from each state that fits, a segment has an outcome, and what it leaves fits
 abbrev pub HasSegment : Type 0
-HasSegment = (linked : Modules ℕ → ℕ → Bool) (f : Importer) → KeepsModules linked f → (w : Here) (m : ℕ) (awaits : Bool)
+HasSegment = (linked : Modules ℕ → ℕ → Bool) (f : Importer) → ImportsKeepModules linked f → (w : Here) (m : ℕ) (awaits : Bool)
     (r : Rest (Value ℕ)) (callers : List (Active ℕ)) → FitsRun itself linked (KeepsLinked linked) w m awaits r callers
     → (how : Ended ℕ) × ((after : Here) × (Segment nat_eq itself (imports_by f) w m r callers how after
     × FitsEnd itself linked (KeepsLinked linked) w awaits how after))
 
 -- so do the calls for a body, from each state that fits
 pub record HaveOutcomes : Type 0 where
-  pub start : (linked : Modules ℕ → ℕ → Bool) (f : Importer) → KeepsModules linked f → (w : Here) (m done : ℕ)
+  pub start : (linked : Modules ℕ → ℕ → Bool) (f : Importer) → ImportsKeepModules linked f → (w : Here) (m done : ℕ)
       → FitsState itself linked (KeepsLinked linked) w → linked w.outer.imports m ≡ true
       → (end : Result (Unit {0}) Limit) × ((after : Here) × (StartsBody nat_eq itself (imports_by f) w m done end after
-      × StaysFit itself linked (KeepsLinked linked) w after))
-  pub run : (linked : Modules ℕ → ℕ → Bool) (f : Importer) → KeepsModules linked f → (w : Here) (m : ℕ)
+      × FitsAfter itself linked (KeepsLinked linked) w after))
+  pub run : (linked : Modules ℕ → ℕ → Bool) (f : Importer) → ImportsKeepModules linked f → (w : Here) (m : ℕ)
       → FitsState itself linked (KeepsLinked linked) w → linked w.outer.imports m ≡ true
       → (entries w.outer.imports m).awaits ≡ false
       → (end : Result (Ran (Value ℕ)) Limit) × ((after : Here) × (RunsBody nat_eq itself (imports_by f) w m end after
-      × StaysFit itself linked (KeepsLinked linked) w after))
-  pub resume : (linked : Modules ℕ → ℕ → Bool) (f : Importer) → KeepsModules linked f → (w : Here) (m : ℕ) (t : Taken ℕ)
+      × FitsAfter itself linked (KeepsLinked linked) w after))
+  pub resume : (linked : Modules ℕ → ℕ → Bool) (f : Importer) → ImportsKeepModules linked f → (w : Here) (m : ℕ) (t : Taken ℕ)
       (how : Settled (Value ℕ)) → FitsState itself linked (KeepsLinked linked) w → linked w.outer.imports m ≡ true
       → take_standing nat_eq w.engine.standing m ≡ Some t
       → Holds (IsKnown w.outer.imports (linked w.outer.imports)) ⊥ (given_by how)
       → (end : Result (Unit {0}) Limit) × ((after : Here) × (ResumesBody nat_eq itself (imports_by f) w m how end after
-      × StaysFit itself linked (KeepsLinked linked) w after))
+      × FitsAfter itself linked (KeepsLinked linked) w after))

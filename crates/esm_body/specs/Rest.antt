@@ -42,9 +42,9 @@ whole nothing = end
 whole (first s ss) = more (Whole s) (whole ss)
 
 -- how many statements these are
-abbrev pub count : Stmts → ℕ
-count nothing = 0
-count (first s ss) = suc (count ss)
+abbrev pub stmt_count : Stmts → ℕ
+stmt_count nothing = 0
+stmt_count (first s ss) = suc (stmt_count ss)
 
 module _ {V : Type 0} (values : Values V) where
   -- ECMA-262, LexicalDeclaration: `let x` sets undefined

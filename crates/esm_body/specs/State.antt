@@ -52,8 +52,8 @@ abbrev pub Importing : Type 0 → Type 0 → Type 1
 Importing N I = Outer N I → N → List ℕ → ℕ → Result (Unit {0}) Limit → Outer N I → Type 0
 
 -- an answer, or a limit that was passed, and the state then
-abbrev pub Answered : Type 0 → Type 0 → Type 0
-Answered A W = Result A Limit × W
+abbrev pub AnswerWith : Type 0 → Type 0 → Type 0
+AnswerWith A W = Result A Limit × W
 
 -- own: the trace line of an event
 abbrev pub event_line : {N : Type 0} → (N → List ℕ) → Event N → List ℕ
@@ -65,20 +65,20 @@ module _ {N I : Type 0} where
   abbrev pub stop : State N I → Limit → State N I
   stop w limit = record w { engine = record w.engine { stopped = Some limit } }
 
-  abbrev pub steps_by : Bool → State N I → ℕ → Answered (Unit {0}) (State N I)
+  abbrev pub steps_by : Bool → State N I → ℕ → AnswerWith (Unit {0}) (State N I)
   steps_by true w n = (Err L3, stop w L3)
   steps_by false w n = (Ok tt, record w { engine = record w.engine { steps = w.engine.steps + n } })
 
   -- own: no more than MAX_STEPS steps are taken
-  abbrev pub take_steps : State N I → ℕ → Answered (Unit {0}) (State N I)
+  abbrev pub take_steps : State N I → ℕ → AnswerWith (Unit {0}) (State N I)
   take_steps w n = steps_by (nat_lt MAX_STEPS (w.engine.steps + n)) w n
 
-  abbrev pub line_by : Bool → State N I → List ℕ → Answered (Unit {0}) (State N I)
+  abbrev pub line_by : Bool → State N I → List ℕ → AnswerWith (Unit {0}) (State N I)
   line_by true w text = (Err L5, stop w L5)
   line_by false w text = (Ok tt, record w { engine = record w.engine { log = w.engine.log ++ text ++ 10 ∷ [] } })
 
   -- own: a text and a line feed are added to the log, which has no more than MAX_LOG_BYTES
-  abbrev pub add_line : State N I → List ℕ → Answered (Unit {0}) (State N I)
+  abbrev pub add_line : State N I → List ℕ → AnswerWith (Unit {0}) (State N I)
   add_line w text = line_by (nat_lt MAX_LOG_BYTES (length w.engine.log + length text + 1)) w text
 
   -- the value of the error that is made next
@@ -94,16 +94,16 @@ module _ {N I : Type 0} where
   abbrev pub add_event : Event N → State N I → State N I
   add_event event w = record w { engine = record w.engine { events = w.engine.events ++ event ∷ [] } }
 
-  abbrev pub event_behind : Event N → Answered (Unit {0}) (State N I) → Answered (Unit {0}) (State N I)
+  abbrev pub event_behind : Event N → AnswerWith (Unit {0}) (State N I) → AnswerWith (Unit {0}) (State N I)
   event_behind event (Ok done, w) = (Ok tt, add_event event w)
   event_behind event (Err limit, w) = (Err limit, w)
 
-  abbrev pub note_by : Bool → (N → List ℕ) → State N I → Event N → Answered (Unit {0}) (State N I)
+  abbrev pub note_by : Bool → (N → List ℕ) → State N I → Event N → AnswerWith (Unit {0}) (State N I)
   note_by true url w event = event_behind event (add_line w (event_line url event))
   note_by false url w event = (Ok tt, add_event event w)
 
   -- the event is added, with its line before it where they are written
-  abbrev pub note : (N → List ℕ) → State N I → Event N → Answered (Unit {0}) (State N I)
+  abbrev pub note : (N → List ℕ) → State N I → Event N → AnswerWith (Unit {0}) (State N I)
   note url w event = note_by w.engine.trace url w event
 
 abbrev pub begins_at : {N : Type 0} → (N → N → Bool) → N → Event N → Bool

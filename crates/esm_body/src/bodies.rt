@@ -5,7 +5,7 @@ ghost use Rattle.esm_env.specs.Modules.{entries};
 ghost use Rattle.esm_expr_eval.specs.Ready.{Holds};
 ghost use Rattle.esm_promise.specs.Code.{settled_of};
 ghost use Rattle.esm_body.specs.Bodies.{Taken, take_standing, given_by};
-ghost use Rattle.esm_body.specs.Engines.{AreReady, Started, RanBody, Resumed, KnowsThrown};
+ghost use Rattle.esm_body.specs.Engines.{TakesBodies, Started, RanBody, Resumed, KnowsThrown};
 ghost use Rattle.esm_body.specs.Fits.{IsKnown};
 ghost use Rattle.esm_body.specs.Inner.Noting.{StandsAt};
 ghost use Rattle.esm_body.specs.Noted.{event_of};
@@ -85,15 +85,15 @@ impl Engine {
         m: ModuleId,
         done: PromiseId,
     ) -> Result<(), Stop>
-        requires ready { AreReady I.modules I.linked I.fits I.begins self.old (scopes_of envs.old)
-            promises.old errors.old (I.seen imports.old) }
+        requires ready { TakesBodies I.modules I.linked I.fits I.begins self.old
+            (scopes_of envs.old) promises.old errors.old (I.seen imports.old) }
         requires home { I.linked (I.seen imports.old) m.0 ≡ true }
         ensures tells { Started I.modules I.linked I.fits I.begins
             (state_of self.old (scopes_of envs.old) promises.old errors.old (I.seen imports.old))
             m.0 done.0 result
             (state_of self.new (scopes_of envs.new) promises.new errors.new (I.seen imports.new)) }
         ensures scopes { OnOk result (HaveSameScopes (scopes_of envs.old) (scopes_of envs.new)) }
-        ensures ready { OnOk result (AreReady I.modules I.linked I.fits I.begins self.new
+        ensures ready { OnOk result (TakesBodies I.modules I.linked I.fits I.begins self.new
             (scopes_of envs.new) promises.new errors.new (I.seen imports.new)) }
     {
         esm_resolve::laws::shared_set();
@@ -120,8 +120,8 @@ impl Engine {
         imports: &mut I,
         m: ModuleId,
     ) -> Result<Ran, Stop>
-        requires ready { AreReady I.modules I.linked I.fits I.begins self.old (scopes_of envs.old)
-            promises.old errors.old (I.seen imports.old) }
+        requires ready { TakesBodies I.modules I.linked I.fits I.begins self.old
+            (scopes_of envs.old) promises.old errors.old (I.seen imports.old) }
         requires home { I.linked (I.seen imports.old) m.0 ≡ true }
         requires ends { (entries (I.modules (I.seen imports.old)) m.0).awaits ≡ false }
         ensures tells { RanBody I.modules I.linked I.fits I.begins
@@ -129,7 +129,7 @@ impl Engine {
             m.0 result
             (state_of self.new (scopes_of envs.new) promises.new errors.new (I.seen imports.new)) }
         ensures scopes { OnOk result (HaveSameScopes (scopes_of envs.old) (scopes_of envs.new)) }
-        ensures ready { OnOk result (AreReady I.modules I.linked I.fits I.begins self.new
+        ensures ready { OnOk result (TakesBodies I.modules I.linked I.fits I.begins self.new
             (scopes_of envs.new) promises.new errors.new (I.seen imports.new)) }
         ensures knows { IfOk result (KnowsThrown I.modules I.linked I.fits I.begins
             (I.seen imports.new)) }
@@ -159,8 +159,8 @@ impl Engine {
         m: ModuleId,
         how: Settled,
     ) -> Result<(), Stop>
-        requires ready { AreReady I.modules I.linked I.fits I.begins self.old (scopes_of envs.old)
-            promises.old errors.old (I.seen imports.old) }
+        requires ready { TakesBodies I.modules I.linked I.fits I.begins self.old
+            (scopes_of envs.old) promises.old errors.old (I.seen imports.old) }
         requires home { I.linked (I.seen imports.old) m.0 ≡ true }
         requires stands { (t : Taken ℕ) × (take_standing nat_eq (engine_of self.old).standing m.0
             ≡ Some t) }
@@ -171,7 +171,7 @@ impl Engine {
             m.0 (settled_of how) result
             (state_of self.new (scopes_of envs.new) promises.new errors.new (I.seen imports.new)) }
         ensures scopes { OnOk result (HaveSameScopes (scopes_of envs.old) (scopes_of envs.new)) }
-        ensures ready { OnOk result (AreReady I.modules I.linked I.fits I.begins self.new
+        ensures ready { OnOk result (TakesBodies I.modules I.linked I.fits I.begins self.new
             (scopes_of envs.new) promises.new errors.new (I.seen imports.new)) }
     {
         match self.standing_at(m) {
@@ -191,8 +191,8 @@ impl Engine {
         at: usize,
         how: Settled,
     ) -> Result<(), Stop>
-        requires ready { AreReady I.modules I.linked I.fits I.begins self.old (scopes_of envs.old)
-            promises.old errors.old (I.seen imports.old) }
+        requires ready { TakesBodies I.modules I.linked I.fits I.begins self.old
+            (scopes_of envs.old) promises.old errors.old (I.seen imports.old) }
         requires home { I.linked (I.seen imports.old) m.0 ≡ true }
         requires stands { StandsAt self.old.standing.items m.0 (Some at) }
         requires knows { Holds (IsKnown (I.modules (I.seen imports.old))
@@ -202,7 +202,7 @@ impl Engine {
             m.0 (settled_of how) result
             (state_of self.new (scopes_of envs.new) promises.new errors.new (I.seen imports.new)) }
         ensures scopes { OnOk result (HaveSameScopes (scopes_of envs.old) (scopes_of envs.new)) }
-        ensures ready { OnOk result (AreReady I.modules I.linked I.fits I.begins self.new
+        ensures ready { OnOk result (TakesBodies I.modules I.linked I.fits I.begins self.new
             (scopes_of envs.new) promises.new errors.new (I.seen imports.new)) }
     {
         esm_resolve::laws::shared_set();

@@ -17,7 +17,7 @@ pub trait Importer: ExportGraph + Drop {
     ghost use Rattle.esm_promise.specs.Outer.{Outer};
     ghost use Rattle.std.specs.Prelude.{Result};
     ghost use Rattle.esm_base.specs.declared.limits.Limit.{Limit};
-    ghost use Rattle.esm_body.specs.Importers.{Begun, MayBegin, outer_with, HasLinked, IsLawful};
+    ghost use Rattle.esm_body.specs.Importers.{Begun, MayBegin, outer_with, HasLinked, ImportsAreLawful};
 
     /// What contracts see of it.
     ghost Seen: { Type 0 };
@@ -69,5 +69,5 @@ pub trait Importer: ExportGraph + Drop {
     ghost sound: { (i : Self) → AreAllSound (Self.graph i) };
 
     /// What bodies rely on.
-    ghost lawful: { IsLawful modules linked fits begins };
+    ghost lawful: { ImportsAreLawful modules linked fits begins };
 }

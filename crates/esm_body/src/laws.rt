@@ -3,7 +3,7 @@ ghost use Rattle.esm_body.specs.Laws.{HaveOneOutcome, StatementsTakeSteps, Stops
 ghost use Rattle.esm_body.specs.Examples.{ThrowLeaves, AwaitDivides};
 ghost use Rattle.esm_body.specs.Naming.{FollowsNames};
 ghost use Rattle.esm_body.specs.Keeps.{BodiesBegin, BodiesKeep};
-ghost use Rattle.esm_body.specs.Engines.{StaysReady};
+ghost use Rattle.esm_body.specs.Engines.{StillTakesBodies};
 
 use crate::importer::Importer;
 
@@ -121,9 +121,9 @@ pub fn bodies_keep<A: CallsOfImport>()
     ensures begins { BodiesBegin A.same A.modules A.begins }
 {}
 
-/// What is ready for calls for bodies stays so where a fetch, linking, promises and errors change what lies outside: where
+/// What takes bodies takes them still where a fetch, linking, promises and errors change what lies outside: where
 /// linked modules keep their trees, the scopes are those of the modules, and the state fits. It fits where promises, errors
 /// and modules fit, what was known is known, and each cell has a known value.
 pub fn still_takes_bodies<I: Importer>()
-    ensures { StaysReady I.modules I.linked I.fits I.begins }
+    ensures { StillTakesBodies I.modules I.linked I.fits I.begins }
 {}

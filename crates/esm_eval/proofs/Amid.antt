@@ -118,7 +118,7 @@ module _ {N V W : Type 0} (E : Evaluation N V W) where
   grown_on u v w k l = record { stamps = l.stamps ∙ k.stamps; begun = λ y h. l.begun y (k.begun y h) }
 
   pub grown_alike : (w v : W) → IsAlike E w v → HasGrown w v
-  grown_alike w v a = record { stamps = a.stamps; begun = λ y h. a.begun y ∙ h }
+  grown_alike w v a = record { stamps = a.far.stamps; begun = λ y h. a.far.begun y ∙ h }
 
   pub open_wait_like : (w v : W) → IsLike w v → (x : N) → HasOpenWait E w x → HasOpenWait E v x
   open_wait_like w v l x h = (h.0, in_like _ (sym (l.all_waits x)) h.1, l.dones h.0 ∙ h.2)

@@ -4,7 +4,7 @@ use Rattle.std.specs.Option.{unwrap_or}
 use Rattle.esm_base.specs.Lists.{EachOnce, is_in}
 use Rattle.esm_values.specs.Code.{CodeValue}
 use Rattle.esm_eval.specs.Nodes.{BodyCalls, Node, untouched}
-use Rattle.esm_eval.specs.Evaluation.{Evaluation, phase, root_of, IsAsFar}
+use Rattle.esm_eval.specs.Evaluation.{Evaluation, IsAsFar, phase, root_of}
 use Rattle.esm_eval.specs.Waiting.{HasOpenWait}
 use Rattle.esm_eval.specs.Begins.{HaveBegunOnce}
 use Rattle.esm_eval.specs.Table.{node_at, node_by, no_nodes}

@@ -94,7 +94,7 @@ module _ {N V W S : Type 0} (E : Evaluation N V W) (acts : BodyCalls N V W S) (L
   may_start : (w : W) (x : N) → Entered E L w x → IsLinked x → E.awaits w x ≡ true → MayCall E IsLinked (E.make_body_promise w x) (Start x (E.next_promise w))
   may_start w x b m o =
       let l = L.make_body_promise w x in
-      record { linked = m; entered = onwards_nodes E L w (E.make_body_promise w x) l.nodes x b; awaits = l.awaits x ∙ o }
+      record { linked = m; entered = onwards_nodes E L w (E.make_body_promise w x) l.far.nodes x b; awaits = l.awaits x ∙ o }
 
   start_due : {w : W} {x : N} {end : WalkEnd V S} {mid : W} → ExecutesAsync E acts w x end mid → Entered E L w x → IsLinked x → E.awaits w x ≡ true → ExecutesAsync E Calls w x end mid
   start_due {w} {x} (ExecutesAsync.starts p) b m o = ExecutesAsync.starts (may_start w x b m o, p)
@@ -106,8 +106,8 @@ module _ {N V W S : Type 0} (E : Evaluation N V W) (acts : BodyCalls N V W S) (L
   run_onwards {w} {mid = mid} (Executes.stops why p) = onwards_nodes E L w mid (steady.call _ _ _ _ p).nodes
 
   start_onwards : {w : W} {x : N} {end : WalkEnd V S} {mid : W} → ExecutesAsync E acts w x end mid → Onwards E L w mid
-  start_onwards {w} {x} {mid = mid} (ExecutesAsync.starts p) = let s = steady.call _ _ _ _ p in onwards_nodes E L w mid (λ y. s.nodes y ∙ (L.make_body_promise w x).nodes y)
-  start_onwards {w} {x} {mid = mid} (ExecutesAsync.stops why p) = let s = steady.call _ _ _ _ p in onwards_nodes E L w mid (λ y. s.nodes y ∙ (L.make_body_promise w x).nodes y)
+  start_onwards {w} {x} {mid = mid} (ExecutesAsync.starts p) = let s = steady.call _ _ _ _ p in onwards_nodes E L w mid (λ y. s.nodes y ∙ (L.make_body_promise w x).far.nodes y)
+  start_onwards {w} {x} {mid = mid} (ExecutesAsync.stops why p) = let s = steady.call _ _ _ _ p in onwards_nodes E L w mid (λ y. s.nodes y ∙ (L.make_body_promise w x).far.nodes y)
 
   leave_due : {w : W} {x : N} {end : WalkEnd V S} {mid : W} → Leaves E acts w x end mid → Entered E L w x → IsLinked x → Leaves E Calls w x end mid
   leave_due (Leaves.runs n o r) b m = Leaves.runs n o (run_due r b m o)

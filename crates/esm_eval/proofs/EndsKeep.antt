@@ -56,7 +56,7 @@ module _ {N V W : Type 0} (E : Evaluation N V W) where
   }
 
   later_alike : (w v : W) → IsAlike E w v → Later w v
-  later_alike w v l = later_nodes w v l.nodes (record { stamps = l.stamps; begun = λ y h. l.begun y ∙ h }) (λ y h. l.awaits y)
+  later_alike w v l = later_nodes w v l.far.nodes (record { stamps = l.far.stamps; begun = λ y h. l.far.begun y ∙ h }) (λ y h. l.awaits y)
 
   later_same : (w : W) → Later w w
   later_same w = later_nodes w w (λ y. refl) (record { stamps = refl; begun = λ y h. h }) (λ y h. refl)
@@ -76,11 +76,11 @@ module _ {N V W : Type 0} (E : Evaluation N V W) where
 
   module _ (L : IsLawful E) where
     pub kept_alike : (w : W) (p : Option ℕ) → IsAlike E w (fulfill_kept E w p)
-    kept_alike w None = record { nodes = λ y. refl; stamps = refl; begun = λ y. refl; awaits = λ y. refl }
+    kept_alike w None = record { far = record { nodes = λ y. refl; stamps = refl; begun = λ y. refl }; awaits = λ y. refl }
     kept_alike w (Some p) = L.fulfill w p
 
     pub refused_alike : (w : W) (p : Option ℕ) (v : V) → IsAlike E w (reject_kept E w p v)
-    refused_alike w None v = record { nodes = λ y. refl; stamps = refl; begun = λ y. refl; awaits = λ y. refl }
+    refused_alike w None v = record { far = record { nodes = λ y. refl; stamps = refl; begun = λ y. refl }; awaits = λ y. refl }
     refused_alike w (Some p) v = L.reject w p v
 
     -- a put at x that makes it Evaluated and done
@@ -111,8 +111,8 @@ module _ {N V W : Type 0} (E : Evaluation N V W) where
     pub finished : (w : W) (x : N) → Finished w (finish E w x) x
     finished w x = record {
       later = later_on w (E.put w x n) (finish E w x) (later_put w x n refl refl refl refl (λ h. h)) (later_alike (E.put w x n) (finish E w x) l);
-      now = ap (λ m. m.phase) (l.nodes x) ∙ over_put w x n refl;
-      dones = λ y h. done_put w x n y (sym (ap (λ m. m.done) (l.nodes y)) ∙ h);
+      now = ap (λ m. m.phase) (l.far.nodes x) ∙ over_put w x n refl;
+      dones = λ y h. done_put w x n y (sym (ap (λ m. m.done) (l.far.nodes y)) ∙ h);
     }
       where
         n : Node N V
@@ -124,8 +124,8 @@ module _ {N V W : Type 0} (E : Evaluation N V W) where
     refused : (w : W) (x : N) (v : V) → Finished w (refuse E w x v) x
     refused w x v = record {
       later = later_on w (E.put w x n) (refuse E w x v) (later_put w x n refl refl refl refl (λ h. cc)) (later_alike (E.put w x n) (refuse E w x v) l);
-      now = ap (λ m. m.phase) (l.nodes x) ∙ over_put w x n refl;
-      dones = λ y h. done_put w x n y (sym (ap (λ m. m.done) (l.nodes y)) ∙ h);
+      now = ap (λ m. m.phase) (l.far.nodes x) ∙ over_put w x n refl;
+      dones = λ y h. done_put w x n y (sym (ap (λ m. m.done) (l.far.nodes y)) ∙ h);
     }
       where
         n : Node N V
@@ -264,7 +264,7 @@ module _ {N V W S : Type 0} (E : Evaluation N V W) (acts : BodyCalls N V W S) (L
       record {
         later = later_on E w (E.make_body_promise w x) v (later_alike E w (E.make_body_promise w x) l) (later_call (E.make_body_promise w x) v x s);
         now = inr (steady.starts _ _ _ _ p);
-        dones = λ y h. inl (sym (ap (λ n. n.done) (s.nodes y ∙ l.nodes y)) ∙ h);
+        dones = λ y h. inl (sym (ap (λ n. n.done) (s.nodes y ∙ l.far.nodes y)) ∙ h);
       }
 
   one_run : (w v : W) (x : N) → E.awaits w x ≡ false → Executes E acts w x Ends v → One E L w (finish E v x) x

@@ -119,7 +119,7 @@ module _ {N V W S : Type 0} (E : Evaluation N V W) (acts : BodyCalls N V W S) (F
 
       kept : (p : Option ℕ) → phase E (reject_kept E mid p v) y ≡ phase E mid y
       kept None = refl
-      kept (Some p) = ap (λ n. n.phase) ((L.reject mid p v).nodes y)
+      kept (Some p) = ap (λ n. n.phase) ((L.reject mid p v).far.nodes y)
 
       by : (p : Option ℕ) → ((y ≡ x) × (E.node mid y ≡ record (E.node w x) { phase = Evaluated; error = Some v; done = true })) ⊎ ((E.same y x ≡ false) × (E.node mid y ≡ E.node w y))
           → ((y ≡ x) × (phase E (reject_kept E mid p v) y ≡ Evaluated)) ⊎ ((E.same y x ≡ false) × (phase E (reject_kept E mid p v) y ≡ phase E w y))

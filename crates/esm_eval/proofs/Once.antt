@@ -35,7 +35,7 @@ module _ {N V W : Type 0} (E : Evaluation N V W) (L : IsLawful E) where
   quiet_same w = record { stamps = refl; begun = λ y. refl }
 
   pub quiet_alike : (w v : W) → IsAlike E w v → IsQuiet w v
-  quiet_alike w v a = record { stamps = a.stamps; begun = a.begun }
+  quiet_alike w v a = record { stamps = a.far.stamps; begun = a.far.begun }
 
   pub quiet_close : (x : N) (ys : List N) (w : W) → IsQuiet w (close E w x ys)
   quiet_close x [] w = quiet_same w
@@ -152,8 +152,8 @@ module _ {N V W S : Type 0} (E : Evaluation N V W) (acts : BodyCalls N V W S) (L
   once_run (Executes.stops why p) b = Executes.stops why (b, p)
 
   pub once_start : {w : W} {x : N} {end : WalkEnd V S} {mid : W} → ExecutesAsync E acts w x end mid → E.begun w x ≡ false → ExecutesAsync E (First E acts) w x end mid
-  once_start {w} {x} (ExecutesAsync.starts p) b = ExecutesAsync.starts ((L.make_body_promise w x).begun x ∙ b, p)
-  once_start {w} {x} (ExecutesAsync.stops why p) b = ExecutesAsync.stops why ((L.make_body_promise w x).begun x ∙ b, p)
+  once_start {w} {x} (ExecutesAsync.starts p) b = ExecutesAsync.starts ((L.make_body_promise w x).far.begun x ∙ b, p)
+  once_start {w} {x} (ExecutesAsync.stops why p) b = ExecutesAsync.stops why ((L.make_body_promise w x).far.begun x ∙ b, p)
 
   once_leave : {w : W} {x : N} {end : WalkEnd V S} {mid : W} → Leaves E acts w x end mid → E.begun w x ≡ false → Leaves E (First E acts) w x end mid
   once_leave (Leaves.runs n o r) b = Leaves.runs n o (once_run r b)
@@ -175,9 +175,9 @@ module _ {N V W S : Type 0} (E : Evaluation N V W) (acts : BodyCalls N V W S) (L
   behind_promise w v x c =
       let l = L.make_body_promise w x in
       record {
-        nodes = λ y. c.nodes y ∙ l.nodes y;
-        stamps = c.stamps ∙ l.stamps;
-        begun = λ y h. either (c.begun y h) (λ k. inl (sym (l.begun y) ∙ k)) inr;
+        nodes = λ y. c.nodes y ∙ l.far.nodes y;
+        stamps = c.stamps ∙ l.far.stamps;
+        begun = λ y h. either (c.begun y h) (λ k. inl (sym (l.far.begun y) ∙ k)) inr;
       }
 
   pub start_of : {w : W} {x : N} {end : WalkEnd V S} {mid : W} → ExecutesAsync E acts w x end mid → CallOf w mid x
@@ -279,7 +279,7 @@ module _ {N V W S : Type 0} (E : Evaluation N V W) (acts : BodyCalls N V W S) (L
   calm_of w u = record { unbegun = u.unbegun; unstamped = u.between.unstamped; still = λ y h. cc; distinct = u.distinct }
 
   calm_alike : (w v : W) → IsAlike E w v → Calm E L w [] → Calm E L v []
-  calm_alike w v l c = calm_on E L w v [] (quiet_alike E L w v l) (λ y h. sym (ap (λ n. n.phase) (l.nodes y)) ∙ h) c
+  calm_alike w v l c = calm_on E L w v [] (quiet_alike E L w v l) (λ y h. sym (ap (λ n. n.phase) (l.far.nodes y)) ∙ h) c
 
   calm_keep : (w : W) (m : N) → Calm E L w [] → Calm E L (keep E w m) []
   calm_keep w m c = calm_on E L w (keep E w m) [] (quiet_on E L w (E.make_promise w) (keep E w m) (quiet_alike E L w (E.make_promise w) (L.make_promise w)) (quiet_put E L (E.make_promise w) m (record (E.node w m) { promise = Some (E.next_promise w) })))

@@ -58,10 +58,10 @@ module _ (targets : Name → List Name) (awaits : Name → Bool) where
     names = record { own = own; equal = equal };
     put = λ w x n. record { node = read_back w.nodes x n; stamps = refl; begun = λ y. refl; awaits = λ y. refl };
     add_stamp = λ w x. record { nodes = λ y. refl; stamps = refl; begun = λ y. refl; awaits = λ y. refl };
-    make_promise = λ w. record { nodes = λ y. refl; stamps = refl; begun = λ y. refl; awaits = λ y. refl };
-    make_body_promise = λ w x. record { nodes = λ y. refl; stamps = refl; begun = λ y. refl; awaits = λ y. refl };
-    fulfill = λ w p. record { nodes = λ y. refl; stamps = refl; begun = λ y. refl; awaits = λ y. refl };
-    reject = λ w p v. record { nodes = λ y. refl; stamps = refl; begun = λ y. refl; awaits = λ y. refl };
+    make_promise = λ w. record { far = record { nodes = λ y. refl; stamps = refl; begun = λ y. refl }; awaits = λ y. refl };
+    make_body_promise = λ w x. record { far = record { nodes = λ y. refl; stamps = refl; begun = λ y. refl }; awaits = λ y. refl };
+    fulfill = λ w p. record { far = record { nodes = λ y. refl; stamps = refl; begun = λ y. refl }; awaits = λ y. refl };
+    reject = λ w p v. record { far = record { nodes = λ y. refl; stamps = refl; begun = λ y. refl }; awaits = λ y. refl };
   }
 
   line_is_steady : (w : Small) (m : Name) → IsSteadyCall (small targets awaits) w m (with_line w m)

@@ -48,9 +48,9 @@ module _ {N V W S : Type 0} (E : Evaluation N V W) (acts : BodyCalls N V W S) (L
   start_step w v x opened c begins b a =
       let s = L.add_stamp w x in
       let p = L.make_body_promise (E.add_stamp w x) x in
-      let nodes : (z : N) → E.node v z ≡ E.node w z = λ z. c.nodes z ∙ p.nodes z ∙ s.nodes z in
+      let nodes : (z : N) → E.node v z ≡ E.node w z = λ z. c.nodes z ∙ p.far.nodes z ∙ s.nodes z in
       record {
-        amid = amid_stamp E w v opened x L (like_nodes E w v nodes) (c.stamps ∙ p.stamps ∙ s.stamps) (λ z h. c.begun z (p.begun z ∙ s.begun z ∙ h)) b (inl begins) a;
+        amid = amid_stamp E w v opened x L (like_nodes E w v nodes) (c.stamps ∙ p.far.stamps ∙ s.stamps) (λ z h. c.begun z (p.far.begun z ∙ s.begun z ∙ h)) b (inl begins) a;
         known = λ z. ap (λ n. was_entered n.phase) (nodes z);
       }
 
@@ -111,15 +111,15 @@ module _ {N V W S : Type 0} (E : Evaluation N V W) (acts : BodyCalls N V W S) (L
   keep_like w m =
       let p = L.make_promise w in
       let n : Node N V = record (E.node w m) { promise = Some (E.next_promise w) } in
-      like_on E w (E.make_promise w) (keep E w m) (like_nodes E w (E.make_promise w) p.nodes)
-      (put_like E L (E.make_promise w) m n (sym (ap (λ k. k.phase) (p.nodes m))) (sym (ap (λ k. k.error) (p.nodes m))) (sym (ap (λ k. k.cycle_root) (p.nodes m)))
-      (sym (ap (λ k. k.done) (p.nodes m))) (sym (ap (λ k. k.waits) (p.nodes m))) (sym (ap (λ k. k.waiters) (p.nodes m))))
+      like_on E w (E.make_promise w) (keep E w m) (like_nodes E w (E.make_promise w) p.far.nodes)
+      (put_like E L (E.make_promise w) m n (sym (ap (λ k. k.phase) (p.far.nodes m))) (sym (ap (λ k. k.error) (p.far.nodes m))) (sym (ap (λ k. k.cycle_root) (p.far.nodes m)))
+      (sym (ap (λ k. k.done) (p.far.nodes m))) (sym (ap (λ k. k.waits) (p.far.nodes m))) (sym (ap (λ k. k.waiters) (p.far.nodes m))))
 
   keep_grown : (w : W) (m : N) → HasGrown E w (keep E w m)
   keep_grown w m = grown_on E w (E.make_promise w) (keep E w m) (grown_alike E w (E.make_promise w) (L.make_promise w)) (put_grown E L (E.make_promise w) m (record (E.node w m) { promise = Some (E.next_promise w) }))
 
   pub alike_keeps : (w v : W) → IsAlike E w v → Amid E w [] → Amid E v []
-  alike_keeps w v l a = amid_like E w v [] (like_nodes E w v l.nodes) (grown_alike E w v l) a
+  alike_keeps w v l a = amid_like E w v [] (like_nodes E w v l.far.nodes) (grown_alike E w v l) a
 
   pub keep_keeps : (w : W) (m : N) → Amid E w [] → Amid E (keep E w m) []
   keep_keeps w m a = amid_like E w (keep E w m) [] (keep_like w m) (keep_grown w m) a

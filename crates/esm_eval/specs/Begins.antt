@@ -20,9 +20,3 @@ pub record HaveBegunOnce {N V W : Type 0} (E : Evaluation N V W) (w : W) : Type 
   pub between : IsBetweenCalls E w
   pub unbegun : (x : N) → phase E w x ≡ NotEntered → E.begun w x ≡ false
   pub distinct : EachOnce E.same (E.stamps w)
-
--- evaluation has come as far in v as in w: the same was written of modules, and the same bodies have begun
-pub record IsAsFar {N V W : Type 0} (E : Evaluation N V W) (w v : W) : Type 0 where
-  pub nodes : (x : N) → E.node v x ≡ E.node w x
-  pub stamps : E.stamps v ≡ E.stamps w
-  pub begun : (x : N) → E.begun v x ≡ E.begun w x

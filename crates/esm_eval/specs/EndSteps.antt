@@ -19,8 +19,8 @@ pub record Stays {W : Type 0} (linked : W → ℕ → Bool) (knows : W → CodeV
   pub know : (u : CodeValue) → knows w u → knows v u
 
 -- these modules are linked
-abbrev pub AreLinked : {W : Type 0} → (W → ℕ → Bool) → W → List ℕ → Type 0
-AreLinked linked w xs = (y : ℕ) → is_in nat_eq xs y ≡ true → linked w y ≡ true
+abbrev pub EachIsLinked : {W : Type 0} → (W → ℕ → Bool) → W → List ℕ → Type 0
+EachIsLinked linked w xs = (y : ℕ) → is_in nat_eq xs y ≡ true → linked w y ≡ true
 
 -- what a body threw is known
 abbrev pub RanKnown : {W : Type 0} → (W → CodeValue → Type 0) → Ran → W → Type 0

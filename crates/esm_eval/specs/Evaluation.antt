@@ -83,11 +83,15 @@ module _ {N V W : Type 0} (E : Evaluation N V W) where
   add_wait w x None = w
   add_wait w x (Some y) = put_waiter (put_wait w x y) x y
 
-  -- v has the same nodes, stamps and begun bodies as w, and whether they await is as it was
-  pub record IsAlike (w v : W) : Type 0 where
+  -- evaluation has come as far in v as in w: the same was written of modules, and the same bodies have begun
+  pub record IsAsFar (w v : W) : Type 0 where
     pub nodes : (x : N) → E.node v x ≡ E.node w x
     pub stamps : E.stamps v ≡ E.stamps w
     pub begun : (x : N) → E.begun v x ≡ E.begun w x
+
+  -- and whether modules await is as it was
+  pub record IsAlike (w v : W) : Type 0 where
+    pub far : IsAsFar w v
     pub awaits : (x : N) → E.awaits v x ≡ E.awaits w x
 
   pub record IsPut (w : W) (x : N) (n : Node N V) (v : W) : Type 0 where

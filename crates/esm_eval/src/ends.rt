@@ -19,7 +19,7 @@ pub trait Late: Drop {
     ghost use Rattle.esm_eval.specs.Begins.{BeginsOne};
     ghost use Rattle.esm_eval.specs.BodyEnd as end;
     ghost use Rattle.esm_eval.specs.Calls.{CodeCalls, CodeEvaluation, numbered};
-    ghost use Rattle.esm_eval.specs.EndSteps.{AreLinked, Begins, IsEvaluated, IsFinished, RunFits, Runs, SameWaiters, Says, Stays};
+    ghost use Rattle.esm_eval.specs.EndSteps.{EachIsLinked, Begins, IsEvaluated, IsFinished, RunFits, Runs, SameWaiters, Says, Stays};
 
     /// Why a call for a body stops.
     type Stop: Drop;
@@ -95,7 +95,7 @@ pub trait Late: Drop {
         requires fits { fits self.now }
         ensures ready { IfOk result
             (λ xs. end.ReadyAmong (numbered lens) self.now (lens.stamps self.now) xs.items) }
-        ensures linked { IfOk result (λ xs. AreLinked linked self.now xs.items) };
+        ensures linked { IfOk result (λ xs. EachIsLinked linked self.now xs.items) };
 
     /// The body of the module, which awaits and hasn't begun, begins.
     fn start(&mut self, x: u32) -> Result<(), EvalEnd<Self::Stop>>

@@ -13,7 +13,7 @@ use Rattle.esm_loads.specs.LoadsView.{every_form}
 use Rattle.esm_world.specs.Laws.{FewDeliveries, HasStandardRun}
 use Rattle.esm_world.specs.Run.{Shown, StandardRun}
 use Rattle.esm_ast.specs.Deliveries.{Delivery, completed}
-use Rattle.esm_machine.specs.Represents.{TurnEnd, State, MayTake, MayTakeBy, asks_of, asks_by_stop, Represents, RepresentsOn, ShownBy}
+use Rattle.esm_machine.specs.Represents.{TurnEnd, MachineState, MayTake, MayTakeBy, asks_of, asks_by_stop, Represents, RepresentsOn, ShownBy}
 use Rattle.esm_examples.specs.Fetches.{Files, ComesFrom, IsRunOver}
 use Rattle.esm_examples.specs.declared.fetches.Ran.{Ran}
 use Rattle.esm_examples.specs.Inner.Driving.{IsOpen, IsDriven}
@@ -23,14 +23,14 @@ may_take_by : (stop : Option TurnEnd) (l : Loading) (u : Url) → has (asks_by_s
 may_take_by None l u open_ask = open_ask
 may_take_by (Some end) l u open_ask = tt
 
-pub may_take : (m : State) (u : Url) → has (asks_of m) u ≡ true → MayTake m u
+pub may_take : (m : MachineState) (u : Url) → has (asks_of m) u ≡ true → MayTake m u
 may_take m u open_ask = may_take_by m.stopped m.held.seen.loading u open_ask
 
 live_by : (stop : Option TurnEnd) (l : Loading) (u : Url) → has (asks_by_stop stop l) u ≡ true → stop ≡ None
 live_by None l u open_ask = refl
 live_by (Some end) l u open_ask = absurd (cc open_ask)
 
-pub live_of : (m : State) (u : Url) → has (asks_of m) u ≡ true → m.stopped ≡ None
+pub live_of : (m : MachineState) (u : Url) → has (asks_of m) u ≡ true → m.stopped ≡ None
 live_of m u open_ask = live_by m.stopped m.held.seen.loading u open_ask
 
 -- a copy of the first of some asks is among them
@@ -40,7 +40,7 @@ has_first asks (u ∷ us) first copy same some is copied =
     let own : has (u ∷ us) u ≡ true = rw ((bytes_eq-Decides u u).1 refl) refl in
     subst (λ l. has l copy ≡ true) same (subst (λ x. has (u ∷ us) x ≡ true) (sym (copied ∙ is)) own)
 
-pub driven_new : (maps : Maps) (entry : Url) (files : Files) (m : State) (urls : List Url) → Represents maps entry false m [] → urls ≡ [] → IsDriven maps entry files m urls
+pub driven_new : (maps : Maps) (entry : Url) (files : Files) (m : MachineState) (urls : List Url) → Represents maps entry false m [] → urls ≡ [] → IsDriven maps entry files m urls
 driven_new maps entry files m urls represents none = record {
   deliveries = [];
   represents = represents;
@@ -48,7 +48,7 @@ driven_new maps entry files m urls represents none = record {
 }
 
 -- one fetch more
-pub driven_more : (maps : Maps) (entry : Url) (files : Files) (m n : State) (urls more : List Url) (url : Url) (outcome : OutcomeView)
+pub driven_more : (maps : Maps) (entry : Url) (files : Files) (m n : MachineState) (urls more : List Url) (url : Url) (outcome : OutcomeView)
     → RepresentsOn m url outcome n → ComesFrom files url outcome → more ≡ urls ++ url ∷ [] → IsDriven maps entry files m urls → IsDriven maps entry files n more
 driven_more maps entry files m n urls more url outcome on comes added d =
     let P : Delivery → Type 0 = λ d. ComesFrom files d.url d.outcome in
@@ -63,12 +63,12 @@ driven_more maps entry files m n urls more url outcome on comes added d =
     }
 
 -- a driven machine's deliveries have a standard run
-run_of : HasStandardRun → (maps : Maps) (entry : Url) (files : Files) (m : State) (urls : List Url) (d : IsDriven maps entry files m urls)
+run_of : HasStandardRun → (maps : Maps) (entry : Url) (files : Files) (m : MachineState) (urls : List Url) (d : IsDriven maps entry files m urls)
     → (what : Shown) × StandardRun maps every_form entry false d.deliveries what
 run_of has_run maps entry files m urls d = has_run maps every_form entry false d.deliveries d.represents.0 d.represents.1
 
 -- while an ask is open, fewer than 4,096 URLs were fetched
-pub few_fetched : FewDeliveries → HasStandardRun → (maps : Maps) (entry : Url) (files : Files) (m : State) (urls : List Url) (url : Url) → IsDriven maps entry files m urls → IsOpen m url → length urls < 4096
+pub few_fetched : FewDeliveries → HasStandardRun → (maps : Maps) (entry : Url) (files : Files) (m : MachineState) (urls : List Url) (url : Url) → IsDriven maps entry files m urls → IsOpen m url → length urls < 4096
 few_fetched few has_run maps entry files m urls url d is_open =
     let found = run_of has_run maps entry files m urls d in
     let what = found.0 in
@@ -78,7 +78,7 @@ few_fetched few has_run maps entry files m urls url d is_open =
     omega (arith, length-map d.deliveries first, ap length d.fetches.urls_are, less)
 
 -- a run that has ended is that of what was fetched
-pub ends : HasStandardRun → (maps : Maps) (entry : Url) (files : Files) (m : State) (ran : Ran) (end : Option Status) → IsDriven maps entry files m ran.fetched.items
+pub ends : HasStandardRun → (maps : Maps) (entry : Url) (files : Files) (m : MachineState) (ran : Ran) (end : Option Status) → IsDriven maps entry files m ran.fetched.items
     → end ≡ Some ran.status → ShownBy m (λ what. end ≡ what.status) → ShownBy m (λ what. is_some end ≡ what.ended)
     → ShownBy m (λ what. ran.log.items ≡ what.log) → ShownBy m (λ what. ran.last_line ≡ what.last_line) → IsRunOver maps entry files ran
 ends has_run maps entry files m ran end d is status ended log last =

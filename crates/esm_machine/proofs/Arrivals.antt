@@ -30,10 +30,10 @@ use Rattle.esm_world.specs.Turn.{fetched}
 use Rattle.esm_world.proofs.HasTurnSteps.{worlds_stay_sound}
 use Rattle.esm_world.proofs.ToldWorld.{stays_told, stays_complete}
 use Rattle.esm_machine.specs.Seen.{names}
-use Rattle.esm_machine.specs.Held.{Held, StandsFor, IsHeld, RecordsCover, entry_by, with_host, world_of}
+use Rattle.esm_machine.specs.Held.{Held, StandsFor, IsHeld, RecordsCover, renamed_entry, with_host, world_of}
 use Rattle.esm_machine.specs.Represents.{IsLive}
 use Rattle.esm_machine.specs.Arrivals.{urls_with, HasArrived, StopsAs, IsAnswered, ArrivalsAreOfTheWorld}
-use Rattle.esm_machine.specs.Steps.{Leaves}
+use Rattle.esm_machine.specs.Steps.{LeavesHeld}
 use Rattle.esm_machine.proofs.Grown.{records_are_added}
 use Rattle.esm_machine.specs.Inner.Numbers.{number}
 use Rattle.esm_machine.proofs.Opens.{loading_is_of_the_world}
@@ -75,7 +75,7 @@ module _ (h : Held) (w : World) (s : IsLive h w) where
     in_world : AnswersNext (world.host_of w) Behind
     in_world = subst (λ o. AnswersNext o Behind) (sym host_is) a
 
-    answers : (end : Result (Unit {0}) Limit) → StopsAs end l → Leaves end (IsAnswered w Behind) (with_host h promises errors l)
+    answers : (end : Result (Unit {0}) Limit) → StopsAs end l → LeavesHeld end (IsAnswered w Behind) (with_host h promises errors l)
     answers (Ok done) live = (
       world.with_host w Behind,
       (in_world, refl),
@@ -89,7 +89,7 @@ module _ (h : Held) (w : World) (s : IsLive h w) where
 
   fetch_stops : (u : Url) (c : OutcomeView) (limit : Limit)
       → (after_fetch (host_of name h.promises h.errors h.seen.loading) u c).imports.stopped ≡ Some limit
-      → Leaves (Err limit) (λ v. v ≡ fetched w u c) h
+      → LeavesHeld (Err limit) (λ v. v ≡ fetched w u c) h
   fetch_stops u c limit halted = (
     fetched w u c,
     refl,
@@ -141,8 +141,7 @@ module _ (agrees : SharedSetAgrees) (ends : SharedSetEnds) (h after : Held) (w :
   early_held = record {
     fits = early_fit;
     covered = record {
-      apart = k.apart;
-      have_ids = λ v e. k.have_ids v (sym (s.stands.linked v) ∙ e);
+      ids = record { apart = k.ids.apart; have_ids = λ v e. k.ids.have_ids v (sym (s.stands.linked v) ∙ e) };
       nodes = k.nodes;
       cells = k.cells;
     };
@@ -169,7 +168,7 @@ module _ (agrees : SharedSetAgrees) (ends : SharedSetEnds) (h after : Held) (w :
         errors = after.errors;
         cells = renamed_cells n (sym r.cells i);
         engine = renamed_engine n (sym r.engine i);
-        entry = entry_by n.name (sym r.entry i);
+        entry = renamed_entry n.name (sym r.entry i);
       }
 
   arrives : after.seen.loading.stopped ≡ None → IsLive after (fetched w u c)

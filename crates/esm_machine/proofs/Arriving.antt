@@ -51,13 +51,12 @@ module _ (p : Parts) (s : AreSound p) where
   -- nothing was written in what has no record
   unwritten_past : (m : ℕ) (x : List ℕ) → length (seen_in p).urls ≤ m → cells_by p.host.bodies m x ≡ None
   unwritten_past m x far = s.order.scopes.right.unwritten m x (not_true (linked (seen_in p) m) (λ l.
-      let lt : m < length (seen_in p).urls = below (seen_in p).urls m (s.order.have_ids _ l) in
+      let lt : m < length (seen_in p).urls = below (seen_in p).urls m (s.order.ids.have_ids _ l) in
       absurd (omega (arith, lt, far))))
 
   pub have_records : RecordsCover (held_of p) (held_of p).seen.linked
   have_records = record {
-    apart = s.order.apart;
-    have_ids = s.order.have_ids;
+    ids = s.order.ids;
     nodes = omega (arith, s.order.nodes);
     cells = unwritten_past;
   }
@@ -173,9 +172,11 @@ module _ (p : Parts) (u : Url) (c : OutcomeView) (es : Errors) (i : Imported) wh
       whole = whole;
       nodes = subst (λ us. size (nodes_behind (nat_lt had (length us)) p.host.nodes) ≡ length us) (sym urls)
           (size_behind p.host.nodes had (seen_in p).urls u (found p.host.bodies.imports.maps every_form u c) counted s.order.nodes);
-      apart = subst (EachOnce same_url) (sym urls)
-          (apart_with (seen_in p).urls u (found p.host.bodies.imports.maps every_form u c) s.order.apart fresh);
-      have_ids = λ v l. linked_have_ids i v l;
+      ids = record {
+        apart = subst (EachOnce same_url) (sym urls)
+            (apart_with (seen_in p).urls u (found p.host.bodies.imports.maps every_form u c) s.order.ids.apart fresh);
+        have_ids = λ v l. linked_have_ids i v l;
+      };
       scopes = scopes_behind stay;
       standing = standing_on p s.order s.world s.live s.sound.ready.fit p.host.promises es i (scopes_behind stay);
       between = begun_alike ByIds p.host Last.host (nodes_same (nat_lt had (length (seen_of i).urls)) p.host.nodes).nodes

@@ -24,7 +24,7 @@ use Rattle.esm_loads.specs.Whole.{IsWhole}
 use Rattle.esm_loads.specs.declared.loads.Loads.{Loads}
 use Rattle.esm_body.specs.Importers.{Begun, outer_with}
 use Rattle.esm_body.specs.declared.log.Stop.{Stop}
-use Rattle.esm_machine.specs.Seen.{Begins}
+use Rattle.esm_machine.specs.Seen.{BeginsById}
 use Rattle.esm_machine.specs.ModuleStore.{imported, seen_of, linked_urls, is_whole, condition_by, stop_by}
 use Rattle.esm_machine.specs.Kept.{Show, GoesOn, IsKept}
 use Rattle.esm_machine.specs.declared.condition.Condition.{Condition}
@@ -86,7 +86,7 @@ module _ (R S : List RecordParts) (t l : Loads) (maps : Maps) (same : map before
     Left k = host_of (Named R) promises_after errors_after k
 
     begins : (m : ℕ) (text : Text) (p : ℕ) (end : Result (Unit {0}) Limit) (k : Loading) → IsSound R → m < length R → BeginsImport H (url_at R m) text p end (Left k)
-        → Begins (outer_with promises errors (record { loading = Before; urls = map url_of R; linked = linked_urls R })) m text p end
+        → BeginsById (outer_with promises errors (record { loading = Before; urls = map url_of R; linked = linked_urls R })) m text p end
         (outer_with promises_after errors_after (record { loading = k; urls = map url_of S; linked = linked_urls S }))
     begins m text p end k s lt b = record {
       urls = urls_stay R S same;
@@ -98,23 +98,23 @@ module _ (R S : List RecordParts) (t l : Loads) (maps : Maps) (same : map before
 
     pub begun_ok : (c : Condition) (m : ℕ) (text : Text) (p : ℕ) → is_whole c ≡ true → IsKept (imported R t maps c) → m < length R
         → IsImport H (url_at R m) text p (Ok tt) (Left After)
-        → Begun Begins (outer_with promises errors (seen_of (imported R t maps c))) m text p (Ok tt) (outer_with promises_after errors_after (seen_of (imported S l maps c)))
+        → Begun BeginsById (outer_with promises errors (seen_of (imported R t maps c))) m text p (Ok tt) (outer_with promises_after errors_after (seen_of (imported S l maps c)))
     begun_ok conditions.Whole m text p w k lt i = begins m text p (Ok tt) After k.sound lt i.begins
     begun_ok (conditions.Stopped limit) m text p w k lt i = cc
     begun_ok conditions.Lost m text p w k lt i = cc
 
     begun_by : (end : End Limit) (m : ℕ) (text : Text) (p : ℕ) → IsSound R → m < length R → IsImport H (url_at R m) text p (Err end) (Left After)
-        → Begun Begins (outer_with promises errors (seen_of (imported R t maps conditions.Whole))) m text p (Err (stop_by end))
+        → Begun BeginsById (outer_with promises errors (seen_of (imported R t maps conditions.Whole))) m text p (Err (stop_by end))
         (outer_with promises_after errors_after (seen_of (imported S l maps (condition_by end))))
     begun_by (ends.Fault limit) m text p s lt i = begins m text p (Err limit) (stopped_by After limit) s lt (i.limit limit refl)
     begun_by ends.Memory m text p s lt i = tt
 
     pub begun_err : (c d : Condition) (stop : Stop) (end : End Limit) (m : ℕ) (text : Text) (p : ℕ) → is_whole c ≡ true → d ≡ condition_by end → stop ≡ stop_by end
         → IsKept (imported R t maps c) → m < length R → IsImport H (url_at R m) text p (Err end) (Left After)
-        → Begun Begins (outer_with promises errors (seen_of (imported R t maps c))) m text p (Err stop) (outer_with promises_after errors_after (seen_of (imported S l maps d)))
+        → Begun BeginsById (outer_with promises errors (seen_of (imported R t maps c))) m text p (Err stop) (outer_with promises_after errors_after (seen_of (imported S l maps d)))
     begun_err conditions.Whole d stop end m text p w e f k lt i =
-        subst (λ d. Begun Begins (outer_with promises errors (seen_of (imported R t maps conditions.Whole))) m text p (Err stop) (outer_with promises_after errors_after (seen_of (imported S l maps d)))) (sym e)
-        (subst (λ stop. Begun Begins (outer_with promises errors (seen_of (imported R t maps conditions.Whole))) m text p (Err stop) (outer_with promises_after errors_after (seen_of (imported S l maps (condition_by end))))) (sym f)
+        subst (λ d. Begun BeginsById (outer_with promises errors (seen_of (imported R t maps conditions.Whole))) m text p (Err stop) (outer_with promises_after errors_after (seen_of (imported S l maps d)))) (sym e)
+        (subst (λ stop. Begun BeginsById (outer_with promises errors (seen_of (imported R t maps conditions.Whole))) m text p (Err stop) (outer_with promises_after errors_after (seen_of (imported S l maps (condition_by end))))) (sym f)
         (begun_by end m text p k.sound lt i))
     begun_err (conditions.Stopped limit) d stop end m text p w e f k lt i = cc
     begun_err conditions.Lost d stop end m text p w e f k lt i = cc

@@ -23,7 +23,7 @@ use Rattle.esm_machine.specs.Evaluating.{IsLinkedNumber, world_in}
 use Rattle.esm_machine.specs.Inner.Stops.{turn_end_by}
 use Rattle.esm_machine.specs.Inner.HostLaws.{begins_its_own, leaves_modules}
 use Rattle.esm_machine.specs.Inner.Leads.{DoesJob}
-use Rattle.esm_machine.specs.Inner.Parts.{AreLive, AreReady, ByIds, CallsBodies, FitsBodies, KnowsBy, awaits_by, begun_by, linked_by, seen_in, targets_by}
+use Rattle.esm_machine.specs.Inner.Parts.{AreLive, TakeCalls, ByIds, CallsBodies, FitsBodies, KnowsBy, awaits_by, begun_by, linked_by, seen_in, targets_by}
 use Rattle.esm_machine.specs.Machine.{cells_by, engine_by, entry_held, errors_by, seen_by}
 use Rattle.esm_machine.specs.declared.host.BodyHost.{BodyHost}
 use Rattle.esm_machine.specs.declared.parts.Parts.{Parts}
@@ -45,7 +45,7 @@ one = hosts.begins_one targets_by awaits_by begun_by CallsBodies begins_its_own
 abbrev pub with_host : Parts → EvalHost BodyHost → Parts
 with_host p h = record p { host = h }
 
-module _ (p : Parts) (r : AreReady p) (h : EvalHost BodyHost) (m : ℕ) where
+module _ (p : Parts) (r : TakeCalls p) (h : EvalHost BodyHost) (m : ℕ) where
   -- a module with an order is linked in each world
   stamped : (w : World) → AreLive p w → (x : ℕ) → is_stamped ByIds p.host x ≡ true → IsLinkedNumber (seen_in p).urls w.linked x
   stamped w live x s = live.stands.linked _ ∙ stamped_linked targets_by awaits_by begun_by linked_by KnowsBy FitsBodies p.host x (host_fits p r) s

@@ -13,11 +13,11 @@ use Rattle.esm_world.specs.World.{World}
 use Rattle.esm_world.specs.World.{EntryState as entry_state}
 use Rattle.esm_world.specs.Jobs as jobs
 use Rattle.esm_world.specs.Jobs.{Reacts, link_failed, with_reaction}
-use Rattle.esm_machine.specs.Held.{EntryHeld, Ended, Failed, entry_by}
+use Rattle.esm_machine.specs.Held.{EntryHeld, Ended, Failed, renamed_entry}
 use Rattle.esm_machine.specs.Represents.{IsLive, TurnEnd}
 use Rattle.esm_machine.specs.Seen.{names}
-use Rattle.esm_machine.specs.Steps.{with_entry}
-use Rattle.esm_machine.specs.Inner.Parts.{AreInOrder, AreLive, AreReady, MayDo, seen_in, value_in, with_promises}
+use Rattle.esm_machine.specs.Steps.{with_entry_state}
+use Rattle.esm_machine.specs.Inner.Parts.{AreInOrder, AreLive, TakeCalls, MayDo, seen_in, value_in, parts_with_promises}
 use Rattle.esm_machine.specs.Machine.{entry_held, held_of}
 use Rattle.esm_machine.specs.Inner.Leads.{DoesJob, LinksAndEvaluates, TakesEntry, entry_after}
 use Rattle.esm_machine.specs.declared.linking.Linked.{Linked}
@@ -33,7 +33,7 @@ use Rattle.esm_machine.proofs.Steps.{steps_are_of_the_world}
 pub loading_is : (p : Parts) (w : World) → AreLive p w → w.loading ≡ (seen_in p).loading
 loading_is p w live = ap (λ (v : World). v.loading) live.stands.world
 
-pub job_ready : (p : Parts) (r : Reaction ℕ) (how : Settled (Value ℕ)) → MayDo p r how → AreReady p
+pub job_ready : (p : Parts) (r : Reaction ℕ) (how : Settled (Value ℕ)) → MayDo p r how → TakeCalls p
 job_ready p r how m = record { world = m.world; live = m.live; ready = m.may.ready; order = m.order }
 
 pub entry_complete : (p : Parts) (v : Value ℕ) → MayDo p EntryLoaded (Fulfilled v) → is_some (root_of_load (seen_in p).loading 0) ≡ true
@@ -45,22 +45,22 @@ entry_complete p v m =
 module _ (p : Parts) where
   pub entry_refused : (v : Held) → DoesJob p EntryLoaded (Rejected (value_of v)) (Ok tt) (record p { entry = states.Failed v })
   entry_refused v = λ w live.
-      (jobs.with_entry w (entry_state.Failed (value_in p (value_of v))), Reacts.entry_refused, steps_are_of_the_world.entry (held_of p) w (Failed (value_of v)) live)
+      (jobs.with_entry_state w (entry_state.Failed (value_in p (value_of v))), Reacts.entry_refused, steps_are_of_the_world.entry (held_of p) w (Failed (value_of v)) live)
 
   entry_stands : (e : EntryState) (h : EntryHeld) → entry_held e ≡ h → (w : World) → AreLive p w
-      → AreLive (record p { entry = e }) (jobs.with_entry w (entry_by (names (seen_in p)).name h))
+      → AreLive (record p { entry = e }) (jobs.with_entry_state w (renamed_entry (names (seen_in p)).name h))
   entry_stands e h same w live =
-      subst (λ x. IsLive (with_entry (held_of p) x) (jobs.with_entry w (entry_by (names (seen_in p)).name h))) (sym same) (steps_are_of_the_world.entry (held_of p) w h live)
+      subst (λ x. IsLive (with_entry_state (held_of p) x) (jobs.with_entry_state w (renamed_entry (names (seen_in p)).name h))) (sym same) (steps_are_of_the_world.entry (held_of p) w h live)
 
   pub entry_ends : (e : EntryState) (how : Settled (Value ℕ)) → entry_held e ≡ entry_after how → DoesJob p EntryDone how (Ok tt) (record p { entry = e })
-  entry_ends e (Fulfilled v) same = λ w live. (jobs.with_entry w entry_state.Ended, Reacts.entry_ended, entry_stands e Ended same w live)
+  entry_ends e (Fulfilled v) same = λ w live. (jobs.with_entry_state w entry_state.Ended, Reacts.entry_ended, entry_stands e Ended same w live)
   entry_ends e (Rejected v) same = λ w live.
-      (jobs.with_entry w (entry_state.Failed (value_in p v)), Reacts.entry_threw, entry_stands e (Failed v) same w live)
+      (jobs.with_entry_state w (entry_state.Failed (value_in p v)), Reacts.entry_threw, entry_stands e (Failed v) same w live)
 
 -- ---- the entry is linked and evaluated
 
 -- a reaction that has no module is registered
-pub registered : (p new : Parts) (promise : PromiseId) (w : World) → AreLive p w → new ≡ with_promises p (register p.host.promises promise.0 EntryDone)
+pub registered : (p new : Parts) (promise : PromiseId) (w : World) → AreLive p w → new ≡ parts_with_promises p (register p.host.promises promise.0 EntryDone)
     → AreLive new (with_reaction w promise.0 EntryDone)
 registered p new promise w live e =
     subst (λ q. AreLive q (with_reaction w promise.0 EntryDone)) (sym e) (steps_are_of_the_world.registers (held_of p) w promise.0 EntryDone live)
@@ -76,11 +76,11 @@ module _ (p mid : Parts) (v : Value ℕ) where
   entry_goes_on new (outcomes.Fault u) (Ok done) comes e = λ w live.
       let c = comes w live in
       let failed : World = link_failed w c.1 c.2 in
-      let there : Reacts w EntryLoaded (Fulfilled (value_in p v)) (jobs.with_entry failed (entry_state.Failed (value_in mid (value_of u)))) =
-      subst (λ x. Reacts w EntryLoaded (Fulfilled (value_in p v)) (jobs.with_entry failed (entry_state.Failed x))) (sym c.4) (Reacts.entry_fault c.0 c.1 c.2 c.3) in (
-        jobs.with_entry failed (entry_state.Failed (value_in mid (value_of u))),
+      let there : Reacts w EntryLoaded (Fulfilled (value_in p v)) (jobs.with_entry_state failed (entry_state.Failed (value_in mid (value_of u)))) =
+      subst (λ x. Reacts w EntryLoaded (Fulfilled (value_in p v)) (jobs.with_entry_state failed (entry_state.Failed x))) (sym c.4) (Reacts.entry_fault c.0 c.1 c.2 c.3) in (
+        jobs.with_entry_state failed (entry_state.Failed (value_in mid (value_of u))),
         there,
-        subst (λ q. AreLive q (jobs.with_entry failed (entry_state.Failed (value_in mid (value_of u))))) (sym e) (steps_are_of_the_world.entry (held_of mid) failed (Failed (value_of u)) c.5),
+        subst (λ q. AreLive q (jobs.with_entry_state failed (entry_state.Failed (value_in mid (value_of u))))) (sym e) (steps_are_of_the_world.entry (held_of mid) failed (Failed (value_of u)) c.5),
       )
   entry_goes_on new (outcomes.Fault u) (Err end) comes e = absurd e
 

@@ -21,8 +21,8 @@ use Rattle.esm_world.specs.World.{World}
 use Rattle.esm_machine.specs.Evaluating.{IsLinkedNumber, world_in}
 use Rattle.esm_machine.specs.Seen.{linked, modules}
 use Rattle.esm_machine.specs.Inner.Stops.{turn_end_by}
-use Rattle.esm_machine.specs.Inner.Leads.{EvaluatesRoot}
-use Rattle.esm_machine.specs.Inner.Parts.{AreLive, AreReady, ByIds, CallsBodies, seen_in, url_in}
+use Rattle.esm_machine.specs.Inner.Leads.{EvaluatesModule}
+use Rattle.esm_machine.specs.Inner.Parts.{AreLive, TakeCalls, ByIds, CallsBodies, seen_in, url_in}
 use Rattle.esm_machine.specs.Machine.{cells_by, engine_by, entry_held, errors_by, seen_by}
 use Rattle.esm_machine.specs.declared.host.BodyHost.{BodyHost}
 use Rattle.esm_machine.specs.declared.parts.Parts.{Parts}
@@ -46,7 +46,7 @@ or_own : {A : Type 0} (P : A → Type 0) (o : Option A) (d : A) → IfSome o P �
 or_own P None d h k = k
 or_own P (Some a) d h k = h
 
-module _ (p : Parts) (a : AreReady p) where
+module _ (p : Parts) (a : TakeCalls p) where
   pub target_linked : (m t : ℕ) → linked (seen_in p) m ≡ true → is_in nat_eq (targets (modules (seen_in p)) m) t ≡ true → linked (seen_in p) t ≡ true
   target_linked m t l i = among_targets (modules (seen_in p)) (λ x. linked (seen_in p) x ≡ true) m 0 (entries (modules (seen_in p)) m).requests
       (λ j le lt. (all_linked p a).targets m j l (omega (arith, lt))) t i
@@ -67,7 +67,7 @@ module _ (p : Parts) (a : AreReady p) where
     After w = world_in seen_by errors_by cells_by engine_by (entry_held p.entry) w.linked h
 
     pub evaluates_ok : (promise : PromiseId) → Evaluates ByIds (calls CallsBodies) p.host m (Ok promise.0) h
-        → (w : World) → AreLive p w → EvaluatesRoot w (url_in p m) (Ok promise) (with_host p h)
+        → (w : World) → AreLive p w → EvaluatesModule w (url_in p m) (Ok promise) (with_host p h)
     evaluates_ok promise e w live =
         let k = evaluated.evaluates seen_by errors_by cells_by engine_by CallsBodies (λ o v c r a. a) lawful steady one (entry_held p.entry) p.host w live
         h m (Ok promise.0) a.order.between (in_world w live _ (root_linked m l))
@@ -75,7 +75,7 @@ module _ (p : Parts) (a : AreReady p) where
         (After w, k.0, record { live = k.2; stands = k.1 })
 
     pub evaluates_stop : (end : EvalEnd Limit) → EvaluatesAs ByIds (calls CallsBodies) p.host m (Err end) h
-        → (w : World) → AreLive p w → EvaluatesRoot w (url_in p m) (Err (turn_end_by end)) (with_host p h)
+        → (w : World) → AreLive p w → EvaluatesModule w (url_in p m) (Err (turn_end_by end)) (with_host p h)
     evaluates_stop (eval_ends.Stopped limit) e w live =
         let k = evaluated.evaluates seen_by errors_by cells_by engine_by CallsBodies (λ o v c r a. a) lawful steady one (entry_held p.entry) p.host w live
         h m (Err limit) a.order.between (in_world w live _ (root_linked m l))

@@ -25,7 +25,7 @@ use Rattle.esm_world.specs.Limits.{told_limit}
 use Rattle.esm_world.proofs.EvalKeeps.{Lasts, evaluates_keeps, fulfills_keeps, rejects_keeps}
 use Rattle.esm_body.proofs.BodyKeeps.{starts_body_keeps, runs_body_keeps}
 use Rattle.esm_world.proofs.LimitsExact.{limits_are_exact}
-use Rattle.esm_machine.specs.Seen.{Seen, modules, Begins}
+use Rattle.esm_machine.specs.Seen.{Seen, modules, BeginsById}
 use Rattle.esm_machine.specs.Held.{EntryHeld, StandsFor}
 use Rattle.esm_machine.specs.Represents.{IsLive}
 use Rattle.esm_machine.specs.Evaluating.{value_by, IsLinkedNumber, held_in, world_in, by_ids, ActsById, HasUrls}
@@ -39,8 +39,8 @@ module _ {B : Type 0} (seen : B → Seen) (errors : B → Errors) (cells : B →
   LinksNone v w = SameLinked (seen v.bodies) (seen w.bodies)
 
   call_links_none : (o v : Outside B) (c : Call ℕ) (r : Result (CallAnswer (Value ℕ) c) Limit) → ActsById seen errors cells engine o c r v → SameLinked (seen o.bodies) (seen v.bodies)
-  call_links_none o v (Start m done) r p = (starts_body_keeps nat_eq modules Begins SameLinked links_nothing p).imports
-  call_links_none o v (Run m) r p = (runs_body_keeps nat_eq modules Begins SameLinked links_nothing p).imports
+  call_links_none o v (Start m done) r p = (starts_body_keeps nat_eq modules BeginsById SameLinked links_nothing p).imports
+  call_links_none o v (Run m) r p = (runs_body_keeps nat_eq modules BeginsById SameLinked links_nothing p).imports
 
   lasts : Lasts (by_ids seen errors cells engine) (host.calls acts) LinksNone
   lasts = record {
@@ -70,7 +70,7 @@ module _ {B : Type 0} (seen : B → Seen) (errors : B → Errors) (cells : B →
     is = s.stands.world
 
     follows : EvaluationFollows (numbering urls) (value_by urls) (HasUrls seen errors cells engine urls) (by_ids seen errors cells engine) layers.evaluation (world_in seen errors cells engine entry w.linked)
-        (IsLinkedNumber urls w.linked) (host.calls acts) layers.Executes
+        (IsLinkedNumber urls w.linked) (host.calls acts) layers.CallsForBody
     follows = evaluation_is_of_the_world seen errors cells engine acts entry w.linked urls are lawful steady one
 
     stands : (v : EvalHost B) → LinksNone o v → StandsFor (held_in seen errors cells engine entry v) (After v)
@@ -81,10 +81,10 @@ module _ {B : Type 0} (seen : B → Seen) (errors : B → Errors) (cells : B →
     pub evaluates : (v : EvalHost B) (m : ℕ) (answer : Result ℕ Limit) → HaveBegunOnce (by_ids seen errors cells engine) o → IsLinkedNumber urls w.linked (root_of (by_ids seen errors cells engine) o m)
         → ((x t : ℕ) → IsLinkedNumber urls w.linked x → is_in nat_eq ((by_ids seen errors cells engine).targets o x) t ≡ true → IsLinkedNumber urls w.linked t)
         → Evaluates (by_ids seen errors cells engine) (host.calls acts) o m answer v
-        → Evaluates layers.evaluation layers.Executes w (name m) answer (After v) × StandsFor (held_in seen errors cells engine entry v) (After v) × (stopped (After v) ≡ told_limit answer)
+        → Evaluates layers.evaluation layers.CallsForBody w (name m) answer (After v) × StandsFor (held_in seen errors cells engine entry v) (After v) × (stopped (After v) ≡ told_limit answer)
     evaluates v m answer once root closed p =
         let there = follows.evaluates o v m answer refl once root closed p in
-        let now : Evaluates layers.evaluation layers.Executes w (name m) answer (After v) = subst (λ u. Evaluates layers.evaluation layers.Executes u (name m) answer (After v)) (sym is) there.0 in
+        let now : Evaluates layers.evaluation layers.CallsForBody w (name m) answer (After v) = subst (λ u. Evaluates layers.evaluation layers.CallsForBody u (name m) answer (After v)) (sym is) there.0 in
         (now, stands v (evaluates_keeps (by_ids seen errors cells engine) (host.calls acts) LinksNone lasts o m p), limits_are_exact.evaluates w (After v) (name m) answer s.live now)
 
     -- ---- the end of a body
@@ -92,10 +92,10 @@ module _ {B : Type 0} (seen : B → Seen) (errors : B → Errors) (cells : B →
     pub fulfills : (v : EvalHost B) (m : ℕ) (end : Result (Unit {0}) Limit) → HaveBegunOnce (by_ids seen errors cells engine) o
         → ((x : ℕ) → is_stamped (by_ids seen errors cells engine) o x ≡ true → IsLinkedNumber urls w.linked x)
         → Fulfills (by_ids seen errors cells engine) (host.calls acts) o m end v
-        → Fulfills layers.evaluation layers.Executes w (name m) end (After v) × StandsFor (held_in seen errors cells engine entry v) (After v) × (stopped (After v) ≡ told_limit end)
+        → Fulfills layers.evaluation layers.CallsForBody w (name m) end (After v) × StandsFor (held_in seen errors cells engine entry v) (After v) × (stopped (After v) ≡ told_limit end)
     fulfills v m end once stamped p =
         let there = follows.fulfills o v m end refl once stamped p in
-        let now : Fulfills layers.evaluation layers.Executes w (name m) end (After v) = subst (λ u. Fulfills layers.evaluation layers.Executes u (name m) end (After v)) (sym is) there.0 in
+        let now : Fulfills layers.evaluation layers.CallsForBody w (name m) end (After v) = subst (λ u. Fulfills layers.evaluation layers.CallsForBody u (name m) end (After v)) (sym is) there.0 in
         (now, stands v (fulfills_keeps (by_ids seen errors cells engine) (host.calls acts) LinksNone lasts p), limits_are_exact.fulfills w (After v) (name m) end s.live now)
 
     pub rejects : (v : EvalHost B) (m : ℕ) (e : Value ℕ) → Rejects (by_ids seen errors cells engine) o m e v

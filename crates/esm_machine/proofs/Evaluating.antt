@@ -33,7 +33,7 @@ use Rattle.esm_body.specs.Naming.{renamed_event, renamed_state, mapped_end}
 use Rattle.esm_world.specs.World.{World, modules_in, with_state}
 use Rattle.esm_world.specs.Layers as layers
 use Rattle.esm_machine.specs.Seen.{Seen, names, modules}
-use Rattle.esm_machine.specs.Following.{loading_of}
+use Rattle.esm_machine.specs.Following.{seen_loading}
 use Rattle.esm_machine.specs.Held.{Held, EntryHeld, world_by}
 use Rattle.esm_machine.specs.Evaluating.{value_by, IsLinkedNumber, held_in, world_in, by_ids, state_in, ActsById, HasUrls, EvaluationIsOfTheWorld}
 use Rattle.esm_machine.specs.Inner.Numbers.{url, number, url_number, number_url}
@@ -167,7 +167,7 @@ module _ {B : Type 0} (seen : B → Seen) (errors : B → Errors) (cells : B →
     abbrev ByUrls : EvalHost B → World
     ByUrls w = world_by urls (held w) linked
 
-    state_after : (w v : EvalHost B) → v.nodes ≡ w.nodes → with_state (ByUrls w) (renamed_state (numbering urls) loading_of (state (host.outside v))) ≡ ByUrls v
+    state_after : (w v : EvalHost B) → v.nodes ≡ w.nodes → with_state (ByUrls w) (renamed_state (numbering urls) seen_loading (state (host.outside v))) ≡ ByUrls v
     state_after w v e = λ i. record (ByUrls v) {
       nodes = λ u. named_node (numbering urls) (renamed_value (url urls)) (node_at (sym e i) (number urls u));
       stamps = map (url urls) (sym e i).stamps;
@@ -184,28 +184,28 @@ module _ {B : Type 0} (seen : B → Seen) (errors : B → Errors) (cells : B →
 
     -- a call by ids, between worlds by these URLs
     call_by_urls : (w v : EvalHost B) (c : Call ℕ) (r : Result (CallAnswer (Value ℕ) c) Limit) → Good urls w → v.nodes ≡ w.nodes → Acts (host.outside w) c r (host.outside v)
-        → layers.Executes (ByUrls w) (named_call (numbering urls) (value urls) c) (mapped_result (numbering urls) (value urls) c r) (ByUrls v) × Good urls v
+        → layers.CallsForBody (ByUrls w) (named_call (numbering urls) (value urls) c) (mapped_result (numbering urls) (value urls) c r) (ByUrls v) × Good urls v
     call_by_urls w v (Start m done) r g e a =
         let b = (bodies_are_of_the_world urls).start (state (host.outside w)) (state (host.outside v)) m done r g a in (
-          subst (λ x. layers.Executes (ByUrls w) (Start (url urls m) done) (mapped_result (numbering urls) (value urls) (Start m done) r) x) (state_after w v e)
-              (subst (λ q. layers.Executes (ByUrls w) (Start (url urls m) done) q (with_state (ByUrls w) (renamed_state (numbering urls) loading_of (state (host.outside v))))) (start_same m done r)
-              (layers.Executes.start b.0)),
+          subst (λ x. layers.CallsForBody (ByUrls w) (Start (url urls m) done) (mapped_result (numbering urls) (value urls) (Start m done) r) x) (state_after w v e)
+              (subst (λ q. layers.CallsForBody (ByUrls w) (Start (url urls m) done) q (with_state (ByUrls w) (renamed_state (numbering urls) seen_loading (state (host.outside v))))) (start_same m done r)
+              (layers.CallsForBody.start b.0)),
           b.1,
         )
     call_by_urls w v (Run m) r g e a =
         let b = (bodies_are_of_the_world urls).run (state (host.outside w)) (state (host.outside v)) m r g a in (
-          subst (λ x. layers.Executes (ByUrls w) (Run (url urls m)) (mapped_result (numbering urls) (value urls) (Run m) r) x) (state_after w v e)
-              (subst (λ q. layers.Executes (ByUrls w) (Run (url urls m)) q (with_state (ByUrls w) (renamed_state (numbering urls) loading_of (state (host.outside v))))) (ran_same m r)
-              (layers.Executes.run b.0)),
+          subst (λ x. layers.CallsForBody (ByUrls w) (Run (url urls m)) (mapped_result (numbering urls) (value urls) (Run m) r) x) (state_after w v e)
+              (subst (λ q. layers.CallsForBody (ByUrls w) (Run (url urls m)) q (with_state (ByUrls w) (renamed_state (numbering urls) seen_loading (state (host.outside v))))) (ran_same m r)
+              (layers.CallsForBody.run b.0)),
           b.1,
         )
 
     calls_follow : (acts : CodeCalls (Outside B) Limit) → ((o v : Outside B) (c : Call ℕ) (r : Result (CallAnswer (Value ℕ) c) Limit) → acts o c r v → Acts o c r v)
-        → CallsFollow (numbering urls) (value_by urls) (Good urls) ids layers.evaluation world (IsLinkedNumber urls linked) (host.calls acts) layers.Executes
+        → CallsFollow (numbering urls) (value_by urls) (Good urls) ids layers.evaluation world (IsLinkedNumber urls linked) (host.calls acts) layers.CallsForBody
     calls_follow acts are w v c r g due a =
         let b = call_by_urls w v c r g a.0 (are (host.outside w) (host.outside v) c r a.1) in (
-          subst (λ us. layers.Executes (world_by us (held w) linked) (named_call (numbering urls) (value urls) c) (mapped_result (numbering urls) (value urls) c r) (world v)) (sym g)
-              (subst (λ us. layers.Executes (ByUrls w) (named_call (numbering urls) (value urls) c) (mapped_result (numbering urls) (value urls) c r) (world_by us (held v) linked)) (sym b.1) b.0),
+          subst (λ us. layers.CallsForBody (world_by us (held w) linked) (named_call (numbering urls) (value urls) c) (mapped_result (numbering urls) (value urls) c r) (world v)) (sym g)
+              (subst (λ us. layers.CallsForBody (ByUrls w) (named_call (numbering urls) (value urls) c) (mapped_result (numbering urls) (value urls) c r) (world_by us (held v) linked)) (sym b.1) b.0),
           b.1,
         )
 
@@ -213,5 +213,5 @@ pub evaluation_is_of_the_world : {B : Type 0} (seen : B → Seen) (errors : B �
     → EvaluationIsOfTheWorld seen errors cells engine acts
 evaluation_is_of_the_world seen errors cells engine acts entry linked urls are lawful steady one =
     evaluation_follows_names (numbering urls) (value_by urls) (HasUrls seen errors cells engine urls) (by_ids seen errors cells engine) layers.evaluation (world_in seen errors cells engine entry linked)
-    (IsLinkedNumber urls linked) (host.calls acts) layers.Executes lawful steady one
+    (IsLinkedNumber urls linked) (host.calls acts) layers.CallsForBody lawful steady one
     (matches seen errors cells engine entry linked urls) (writes_stay seen errors cells engine entry linked urls) (calls_follow seen errors cells engine entry linked urls acts are)

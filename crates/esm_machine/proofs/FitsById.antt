@@ -4,8 +4,7 @@ use Rattle.std.specs.Prelude.{IfSome, ⊤}
 use Rattle.std.specs.List.{AllByRecursion}
 use Rattle.std.specs.Option.{option_map}
 use Rattle.std.proofs.lemmas.List.Elements.{All-from_recursion, recursion_from_All}
-use Rattle.esm_base.specs.Lists.{EachOnce}
-use Rattle.esm_base.specs.Urls.{Url, has, same_url}
+use Rattle.esm_base.specs.Urls.{Url, has}
 use Rattle.esm_values.specs.Value.{Value, Undefined, Truth, Text, Func, Error, Namespace, Promise}
 use Rattle.esm_values.specs.Naming.{renamed_value}
 use Rattle.esm_env.specs.Naming.{renamed_in}
@@ -107,10 +106,10 @@ module _ (h : Held) (f : FitsWorld h.seen.linked h.seen.loading.entries (world_o
   node_named : (m : ℕ) → named_node (names h.seen) value (node_at h.nodes (number h.seen.urls (name m))) ≡ named_node (names h.seen) value (node_at h.nodes m)
   node_named m = ap (λ k. named_node (names h.seen) value (node_at h.nodes k)) (number_url h.seen.urls m)
 
-  by_ids : EachOnce same_url h.seen.urls → ((u : Url) → has h.seen.linked u ≡ true → has h.seen.urls u ≡ true) → FitsById h
-  by_ids apart have = record {
+  by_ids : HaveIds h.seen.urls h.seen.linked → FitsById h
+  by_ids ids = record {
     state = record {
-      whole = record { modules = f.modules; host = f.state.whole; apart = apart; have_ids = have };
+      whole = record { modules = f.modules; host = f.state.whole; ids = ids };
       cells = cells_back;
       standing = standing_back h.engine.standing f.state.standing;
     };
@@ -120,4 +119,4 @@ module _ (h : Held) (f : FitsWorld h.seen.linked h.seen.loading.entries (world_o
   }
 
 pub worlds_fit_by_id : WorldsFitById
-worlds_fit_by_id h w s f apart have = by_ids h (fit_held h w s f) apart have
+worlds_fit_by_id h w s f ids = by_ids h (fit_held h w s f) ids

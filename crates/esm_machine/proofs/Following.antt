@@ -17,8 +17,8 @@ use Rattle.esm_link.specs.Naming.{named_fault}
 use Rattle.esm_link.proofs.Local.{closing_is_local}
 use Rattle.esm_link.proofs.Named.{linking_follows_names}
 use Rattle.esm_world.specs.World.{modules_in}
-use Rattle.esm_machine.specs.Seen.{Seen, names, modules, Begins}
-use Rattle.esm_machine.specs.Following.{loading_of, BodiesAreOfTheWorld, LinkingIsOfTheWorld}
+use Rattle.esm_machine.specs.Seen.{Seen, names, modules, BeginsById}
+use Rattle.esm_machine.specs.Following.{seen_loading, BodiesAreOfTheWorld, LinkingIsOfTheWorld}
 
 pub urls_tell_apart : IsSameness same_url
 urls_tell_apart = record { own = λ u. (bytes_eq-Decides u u).1 refl; equal = λ u v e. (bytes_eq-Decides u v).0 e }
@@ -35,9 +35,9 @@ module _ (urls : List Url) where
 
   -- what lies outside, by the names of these URLs
   abbrev outside : List Url → Outer ℕ Seen → Host
-  outside us o = renamed_outer (numbering us) loading_of o
+  outside us o = renamed_outer (numbering us) seen_loading o
 
-  imports : ImportsFollow (numbering urls) loading_of Good Begins BeginsImport
+  imports : ImportsFollow (numbering urls) seen_loading Good BeginsById BeginsImport
   imports o x m text p end e b =
       let there : BeginsImport (outside o.imports.urls o) ((numbering o.imports.urls).name m) text p end (outside o.imports.urls x) =
       subst (λ us. BeginsImport (outside o.imports.urls o) ((numbering o.imports.urls).name m) text p end (outside us x)) b.urls b.begins in
@@ -45,7 +45,7 @@ module _ (urls : List Url) where
 
 pub bodies_are_of_the_world : BodiesAreOfTheWorld
 bodies_are_of_the_world urls =
-    follows_names (numbering urls) loading_of (Good urls) nat_eq same_url modules modules_in Begins BeginsImport numbers_tell_apart urls_tell_apart (named urls) (imports urls)
+    follows_names (numbering urls) seen_loading (Good urls) nat_eq same_url modules modules_in BeginsById BeginsImport numbers_tell_apart urls_tell_apart (named urls) (imports urls)
 
 -- ---- linking
 

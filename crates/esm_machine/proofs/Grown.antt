@@ -29,7 +29,7 @@ use Rattle.esm_world.specs.World.{EntryState, modules_in}
 use Rattle.esm_world.specs.Fits.{IsLinkedModule, IsKnownValue, FitReaction, FitSettled, FitPromise, FitPromises, FitEvent, FitEntry, AreModules}
 use Rattle.esm_world.proofs.FitBodies.{known_out}
 use Rattle.esm_values.specs.Numbering.{numbering, is_total}
-use Rattle.esm_machine.specs.Held.{Held, EntryHeld, Underway, Ended, Failed, entry_by, world_of, IsHeld, with_record, RecordsAreAdded}
+use Rattle.esm_machine.specs.Held.{Held, EntryHeld, Underway, Ended, Failed, renamed_entry, world_of, IsHeld, with_record, RecordsAreAdded}
 use Rattle.esm_values.proofs.Numbered.{numbers_urls}
 use Rattle.esm_machine.specs.Inner.Numbers.{url, number, url_number, number_url}
 use Rattle.esm_machine.proofs.Alike.{rest_alike}
@@ -261,7 +261,7 @@ module _ (us : List Url) (u : Url) (once : EachOnce same_url us) (new : has us u
     events_alike [] h = refl
     events_alike (e ∷ es) h = λ i. event_alike e h.0 i ∷ events_alike es h.1 i
 
-    entry_alike : (e : EntryHeld) → FitEntry linked entries (entry_by F e) → entry_by F e ≡ entry_by G e
+    entry_alike : (e : EntryHeld) → FitEntry linked entries (renamed_entry F e) → renamed_entry F e ≡ renamed_entry G e
     entry_alike Underway h = refl
     entry_alike Ended h = refl
     entry_alike (Failed v) h = ap (λ w. EntryState.Failed w) (value_alike v h)
@@ -291,10 +291,10 @@ module _ (h : Held) (linked : List Url) (u : Url) (k : IsHeld h linked) (new : h
 
   engine_alike : renamed_engine (numbering Us) h.engine ≡ renamed_engine (numbering (Us ++ u ∷ [])) h.engine
   engine_alike = λ i. record {
-    events = events_alike Us u k.covered.apart new linked Table' k.covered.have_ids h.engine.events k.fits.events i;
+    events = events_alike Us u k.covered.ids.apart new linked Table' k.covered.ids.have_ids h.engine.events k.fits.events i;
     log = h.engine.log;
     steps = h.engine.steps;
-    standing = standing_alike Us u k.covered.apart new linked Table' k.covered.have_ids k.fits.modules h.seen.loading refl h.engine.standing k.fits.state.standing i;
+    standing = standing_alike Us u k.covered.ids.apart new linked Table' k.covered.ids.have_ids k.fits.modules h.seen.loading refl h.engine.standing k.fits.state.standing i;
     trace = h.engine.trace;
     stopped = h.engine.stopped;
   }
@@ -306,13 +306,13 @@ module _ (h : Held) (linked : List Url) (u : Url) (k : IsHeld h linked) (new : h
   world_alike = λ i. record {
     loading = h.seen.loading;
     linked = linked;
-    nodes = λ v. nodes_alike Us u k.covered.apart new linked Table' k.covered.have_ids h.nodes k.covered.nodes v (k.fits.nodes v) i;
-    stamps = all_names_alike Us u k.covered.apart new linked Table' k.covered.have_ids h.nodes.stamps k.fits.stamps i;
-    promises = promises_alike Us u k.covered.apart new linked Table' k.covered.have_ids h.promises k.fits.state.whole.promises i;
+    nodes = λ v. nodes_alike Us u k.covered.ids.apart new linked Table' k.covered.ids.have_ids h.nodes k.covered.nodes v (k.fits.nodes v) i;
+    stamps = all_names_alike Us u k.covered.ids.apart new linked Table' k.covered.ids.have_ids h.nodes.stamps k.fits.stamps i;
+    promises = promises_alike Us u k.covered.ids.apart new linked Table' k.covered.ids.have_ids h.promises k.fits.state.whole.promises i;
     errors = h.errors;
-    cells = λ v x. cells_alike Us u k.covered.apart new linked Table' k.covered.have_ids h.cells k.covered.cells v x (known_cell v x) i;
+    cells = λ v x. cells_alike Us u k.covered.ids.apart new linked Table' k.covered.ids.have_ids h.cells k.covered.cells v x (known_cell v x) i;
     engine = engine_alike i;
-    entry = entry_alike Us u k.covered.apart new linked Table' k.covered.have_ids h.entry k.fits.entry i;
+    entry = entry_alike Us u k.covered.ids.apart new linked Table' k.covered.ids.have_ids h.entry k.fits.entry i;
   }
 
 pub records_are_added : RecordsAreAdded

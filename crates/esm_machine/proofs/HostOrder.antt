@@ -49,8 +49,7 @@ module _ (p : Parts) (h : EvalHost BodyHost) (o : AreInOrder p) (nodes : size h.
   order_behind same = record {
     whole = fits.outside_fits.whole;
     nodes = nodes ∙ o.nodes ∙ ap length (sym same.urls);
-    apart = subst (λ us. EachOnce same_url us) (sym same.urls) o.apart;
-    have_ids = linked_have_ids h.bodies.imports;
+    ids = record { apart = subst (λ us. EachOnce same_url us) (sym same.urls) o.ids.apart; have_ids = linked_have_ids h.bodies.imports };
     scopes = fits.outside_fits.scopes;
     standing = fits.outside_fits.ready.standing;
     between = between;

@@ -1,7 +1,7 @@
 -- What keeps the parts of a machine in order.
 use Rattle.esm_promise.specs.Code.{Numbered}
 use Rattle.esm_eval.specs.Begins.{HaveBegunOnce}
-use Rattle.esm_machine.specs.Inner.Parts.{AreInOrder, ByIds, with_promises}
+use Rattle.esm_machine.specs.Inner.Parts.{AreInOrder, ByIds, parts_with_promises}
 use Rattle.esm_machine.specs.declared.parts.Parts.{Parts}
 use Rattle.esm_machine.specs.declared.parts.EntryState.{EntryState}
 
@@ -10,15 +10,14 @@ module _ (p : Parts) (o : AreInOrder p) where
   with_entry_in_order e = record {
     whole = o.whole;
     nodes = o.nodes;
-    apart = o.apart;
-    have_ids = o.have_ids;
+    ids = o.ids;
     scopes = o.scopes;
     standing = o.standing;
     between = o.between;
   }
 
   -- promises are no part of what evaluation keeps of modules
-  begun_with : (ps : Numbered) → HaveBegunOnce ByIds (with_promises p ps).host
+  begun_with : (ps : Numbered) → HaveBegunOnce ByIds (parts_with_promises p ps).host
   begun_with ps = record {
     between = record {
       idle = o.between.between.idle;
@@ -33,12 +32,11 @@ module _ (p : Parts) (o : AreInOrder p) where
     distinct = o.between.distinct;
   }
 
-  pub with_promises_in_order : (ps : Numbered) → AreInOrder (with_promises p ps)
+  pub with_promises_in_order : (ps : Numbered) → AreInOrder (parts_with_promises p ps)
   with_promises_in_order ps = record {
     whole = o.whole;
     nodes = o.nodes;
-    apart = o.apart;
-    have_ids = o.have_ids;
+    ids = o.ids;
     scopes = o.scopes;
     standing = o.standing;
     between = begun_with ps;

@@ -11,14 +11,14 @@ use Rattle.esm_promise.specs.Reactions.{Reaction}
 use Rattle.esm_promise.specs.Renaming.{renamed, renamed_job, renamed_settled}
 use Rattle.esm_promise.proofs.Renamed.{follows_names}
 use Rattle.esm_world.specs.World.{World}
+use Rattle.esm_world.specs.Jobs.{IsJob}
 use Rattle.esm_world.specs.Layers as layers
 use Rattle.esm_world.specs.Sound.{WorldsStaySound}
 use Rattle.esm_machine.specs.Represents.{TurnEnd}
 use Rattle.esm_machine.specs.Seen.{names}
 use Rattle.esm_machine.specs.Steps as steps
 use Rattle.esm_machine.specs.Inner.Leads.{DoesJob, LeadsByJob}
-use Rattle.esm_world.specs.Jobs.{IsJob}
-use Rattle.esm_machine.specs.Inner.Parts.{AreInOrder, AreLive, AreSound, MayDo, seen_in, with_promises}
+use Rattle.esm_machine.specs.Inner.Parts.{AreInOrder, AreLive, AreSound, MayDo, seen_in, parts_with_promises}
 use Rattle.esm_machine.specs.Machine.{held_of}
 use Rattle.esm_machine.specs.declared.parts.Parts.{Parts}
 use Rattle.esm_machine.proofs.InOrder.{with_promises_in_order}
@@ -42,7 +42,7 @@ module _ (p : Parts) (j : Job (Reaction ℕ)) (left : Numbered) (first : next_jo
   first_in : (w : World) → AreLive p w → next_job w.promises ≡ Some (renamed_job name j, left_in)
   first_in w live = (steps_are_of_the_world.takes (held_of p) w j left live first).0
 
-  live_left : (w : World) → AreLive p w → AreLive (with_promises p left) (Left w)
+  live_left : (w : World) → AreLive p w → AreLive (parts_with_promises p left) (Left w)
   live_left w live = (steps_are_of_the_world.takes (held_of p) w j left live first).1
 
   -- its promise was settled
@@ -61,7 +61,7 @@ module _ (p : Parts) (j : Job (Reaction ℕ)) (left : Numbered) (first : next_jo
     settled_in_world : (w : World) → AreLive p w → settled left_in j.promise ≡ Some (renamed_settled name how)
     settled_in_world w live = steps_are_of_the_world.result (steps.with_promises (held_of p) left) (Left w) j.promise how (live_left w live) settled_so
 
-    pub may_do : AreSound p → WorldsStaySound → MayDo (with_promises p left) j.reaction how
+    pub may_do : AreSound p → WorldsStaySound → MayDo (parts_with_promises p left) j.reaction how
     may_do s stays = record {
       world = Left s.world;
       live = live_left s.world s.live;
@@ -69,7 +69,7 @@ module _ (p : Parts) (j : Job (Reaction ℕ)) (left : Numbered) (first : next_jo
       order = with_promises_in_order p s.order left;
     }
 
-    pub job_done : (new : Parts) → DoesJob (with_promises p left) j.reaction how (Ok tt) new → (w : World) → AreLive p w → LeadsByJob w (Ok true) new
+    pub job_done : (new : Parts) → DoesJob (parts_with_promises p left) j.reaction how (Ok tt) new → (w : World) → AreLive p w → LeadsByJob w (Ok true) new
     job_done new does w live =
         let d = does (Left w) (live_left w live) in
         let k : IsJob w d.0 = record {
@@ -83,7 +83,7 @@ module _ (p : Parts) (j : Job (Reaction ℕ)) (left : Numbered) (first : next_jo
         } in
         (d.0, k, d.2)
 
-    pub job_stopped : (new : Parts) (end : TurnEnd) → DoesJob (with_promises p left) j.reaction how (Err end) new → (w : World) → AreLive p w
+    pub job_stopped : (new : Parts) (end : TurnEnd) → DoesJob (parts_with_promises p left) j.reaction how (Err end) new → (w : World) → AreLive p w
         → LeadsByJob w (Err end) new
     job_stopped new (ends.Fault limit) does w live =
         let d = does (Left w) (live_left w live) in
@@ -99,7 +99,7 @@ module _ (p : Parts) (j : Job (Reaction ℕ)) (left : Numbered) (first : next_jo
         (d.0, k, d.2)
     job_stopped new ends.Memory does w live = tt
 
-    pub sound_behind : (new : Parts) → AreSound p → WorldsStaySound → DoesJob (with_promises p left) j.reaction how (Ok tt) new → AreInOrder new → AreSound new
+    pub sound_behind : (new : Parts) → AreSound p → WorldsStaySound → DoesJob (parts_with_promises p left) j.reaction how (Ok tt) new → AreInOrder new → AreSound new
     sound_behind new s stays does order =
         let d = does (Left s.world) (live_left s.world s.live) in
         record {

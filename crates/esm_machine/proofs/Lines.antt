@@ -16,7 +16,7 @@ use Rattle.esm_body.specs.DisplayText.{IsDisplayText}
 use Rattle.esm_world.specs.Fits.{FitEntry, IsKnownValue}
 use Rattle.esm_world.specs.World.{World}
 use Rattle.esm_machine.specs.FitsById.{FitsById}
-use Rattle.esm_machine.specs.Held.{Failed, Held, entry_by, state_of}
+use Rattle.esm_machine.specs.Held.{Failed, Held, renamed_entry, body_state}
 use Rattle.esm_machine.specs.Represents.{IsLineBy}
 use Rattle.esm_machine.specs.Seen.{linked, modules, names}
 use Rattle.esm_machine.specs.Inner.Lawful.{imports_are_lawful}
@@ -28,10 +28,10 @@ use Rattle.esm_machine.proofs.FitsById.{worlds_fit_by_id}
 
 module _ (p : Parts) (s : AreSound p) where
   fits_by_id : FitsById (held_of p)
-  fits_by_id = worlds_fit_by_id (held_of p) s.world s.live.stands s.sound.ready.fit s.order.apart s.order.have_ids
+  fits_by_id = worlds_fit_by_id (held_of p) s.world s.live.stands s.sound.ready.fit s.order.ids
 
   are_linked : AreLinked (modules (seen_in p)) (linked (seen_in p))
-  are_linked = imports_are_lawful.links (state_of (held_of p)).outer fits_by_id.state.whole
+  are_linked = imports_are_lawful.links (body_state (held_of p)).outer fits_by_id.state.whole
 
   -- ---- the value with which the entry failed
 
@@ -46,9 +46,9 @@ module _ (p : Parts) (s : AreSound p) where
 
   pub failed_known : (v : CodeValue) → p.entry ≡ states.Failed v → KnowsBy p.host.bodies (value_of v)
   failed_known v e =
-      let is : s.world.entry ≡ entry_by (names (seen_in p)).name (Failed (value_of v)) =
-      ap (λ (w : World). w.entry) s.live.stands.world ∙ ap (λ e. entry_by (names (seen_in p)).name (entry_held e)) e in
-      let fit : FitEntry s.world.linked s.world.loading.entries (entry_by (names (seen_in p)).name (Failed (value_of v))) =
+      let is : s.world.entry ≡ renamed_entry (names (seen_in p)).name (Failed (value_of v)) =
+      ap (λ (w : World). w.entry) s.live.stands.world ∙ ap (λ e. renamed_entry (names (seen_in p)).name (entry_held e)) e in
+      let fit : FitEntry s.world.linked s.world.loading.entries (renamed_entry (names (seen_in p)).name (Failed (value_of v))) =
       subst (FitEntry s.world.linked s.world.loading.entries) is s.sound.ready.fit.entry in
       known_in (value_of v) (subst (λ (es : Entries). IsKnownValue s.world.linked es (renamed_value (url_in p) (value_of v)))
       (ap (λ (w : World). w.loading.entries) s.live.stands.world) fit)
@@ -60,7 +60,7 @@ module _ (p : Parts) (s : AreSound p) where
       → IfOk r (λ line. line ≡ codes "Uncaught " ++ text) → IfOk r (IsLineBy (held_of p) [] (Failed (value_of v)))
   uncaught v text r known shown h =
       IfOk-weaker r (λ line. line ≡ codes "Uncaught " ++ text) (IsLineBy (held_of p) [] (Failed (value_of v)))
-      (λ line e. (text, shown s.order.scopes.right are_linked known (state_of (held_of p)) refl refl, e)) h
+      (λ line e. (text, shown s.order.scopes.right are_linked known (body_state (held_of p)) refl refl, e)) h
 
   pub failed_line : (v : CodeValue) (r : Result Bytes Memory) → p.entry ≡ states.Failed v → IfOk r (IsLineBy (held_of p) [] (Failed (value_of v)))
       → IfOk r (IsLineBy (held_of p) [] (held_of p).entry)

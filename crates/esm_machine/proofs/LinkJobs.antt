@@ -29,14 +29,14 @@ use Rattle.esm_world.specs.Jobs.{link_failed, new_error}
 use Rattle.esm_world.specs.Sound.{LinkingStaysReady, TakesCalls}
 use Rattle.esm_body.specs.Engines.{AreStanding}
 use Rattle.esm_machine.specs.Held.{Held}
-use Rattle.esm_machine.specs.ModuleStore.{Imported, seen_of, urls_of}
+use Rattle.esm_machine.specs.ModuleStore.{Imported, seen_of, urls_by_id}
 use Rattle.esm_machine.specs.Linking.{HasIds, HaveScopes, KeepsScopes, LinksSeen, NamesRecords, SameMembers}
 use Rattle.esm_machine.specs.Represents.{IsLive}
 use Rattle.esm_machine.specs.Seen.{linked, modules, names}
 use Rattle.esm_machine.specs.Steps as steps
 use Rattle.esm_machine.specs.Inner.Importing.{lt_true}
 use Rattle.esm_machine.specs.Inner.Leads.{LinksRoot, TellsFault}
-use Rattle.esm_machine.specs.Inner.Parts.{AreInOrder, AreLive, AreReady, ByIds, seen_in, url_in, value_in, with_errors, with_fault}
+use Rattle.esm_machine.specs.Inner.Parts.{AreInOrder, AreLive, TakeCalls, ByIds, seen_in, url_in, value_in, parts_with_errors, with_fault}
 use Rattle.esm_machine.specs.Machine.{cells_by, held_of}
 use Rattle.esm_machine.specs.declared.parts.Parts.{Parts}
 use Rattle.esm_machine.proofs.EntryJobs.{loading_is}
@@ -67,13 +67,13 @@ pub line_told : (url name target text : Text) (kind wanted : LinkKind) → kind 
 line_told url name target text kind wanted e t = t ∙ ap (λ k. message url name target k) (sym e)
 
 -- the URL of a module that has a record
-pub url_is : (i : Imported) (m : ℕ) → m < length (seen_of i).urls → urls_of i m ≡ (names (seen_of i)).name m
+pub url_is : (i : Imported) (m : ℕ) → m < length (seen_of i).urls → urls_by_id i m ≡ (names (seen_of i)).name m
 url_is i m h =
     let short : m < length i.records = let l = length-map i.records url_of in omega (arith, h, l) in
     ap (λ b. if b then (names (seen_of i)).name m else []) (lt_true m (length i.records) short)
 
 pub fault_told : (p : Parts) (f : LinkFault) (url name target text : Text) → HasIds (seen_in p) (fault_of f)
-    → url ≡ urls_of p.host.bodies.imports f.«module».0 → name ≡ f.name → target ≡ urls_of p.host.bodies.imports f.target.0
+    → url ≡ urls_by_id p.host.bodies.imports f.«module».0 → name ≡ f.name → target ≡ urls_by_id p.host.bodies.imports f.target.0
     → text ≡ message url name target f.kind → fault kinds.SyntaxError text ≡ link_error (modules (seen_in p)) (fault_of f)
 fault_told p f url name target text h u n t e =
     let one : url ≡ url_in p f.«module».0 = u ∙ url_is p.host.bodies.imports f.«module».0 h.module_has in
@@ -109,7 +109,7 @@ ready_with_errors w es t = record {
 }
 
 module _ (p : Parts) (es : Errors) (o : AreInOrder p) where
-  begun_with_errors : HaveBegunOnce ByIds (with_errors p es).host
+  begun_with_errors : HaveBegunOnce ByIds (parts_with_errors p es).host
   begun_with_errors = record {
     between = record {
       idle = o.between.between.idle;
@@ -124,12 +124,11 @@ module _ (p : Parts) (es : Errors) (o : AreInOrder p) where
     distinct = o.between.distinct;
   }
 
-  pub with_errors_in_order : AreInOrder (with_errors p es)
+  pub with_errors_in_order : AreInOrder (parts_with_errors p es)
   with_errors_in_order = record {
     whole = o.whole;
     nodes = o.nodes;
-    apart = o.apart;
-    have_ids = o.have_ids;
+    ids = o.ids;
     scopes = o.scopes;
     standing = o.standing;
     between = begun_with_errors;
@@ -198,8 +197,7 @@ module _ (p : Parts) (i : Imported) (e : Envs) (loading : (seen_of i).loading �
   linked_in_order o k = record {
     whole = k.whole;
     nodes = o.nodes ∙ ap length (sym urls);
-    apart = subst (λ (us : List Url). EachOnce same_url us) (sym urls) o.apart;
-    have_ids = linked_have_ids i;
+    ids = record { apart = subst (λ (us : List Url). EachOnce same_url us) (sym urls) o.ids.apart; have_ids = linked_have_ids i };
     scopes = k.scopes;
     standing = stand_still p.host.bodies.engine.standing.items o.standing;
     between = begun_still o.between;
@@ -219,7 +217,7 @@ module _ (p : Parts) (i : Imported) (e : Envs) (loading : (seen_of i).loading �
         let there : has l.0 (url_in p root) ≡ true = stays.linked w (url_in p root) l.0 (links_in w (url_in p root) None l.0 live l.1) in
         subst (λ us. has (seen_of i).linked ((names (record (seen_in p) { urls = us })).name root) ≡ true) (sym urls) (sym (l.2 (url_in p root)) ∙ there)
 
-    pub linked_ready : LinkingStaysReady → (a : AreReady p) → (seen_in p).loading.unlinked (url_in p root) ≡ true → HaveScopes i (scopes_of e) → AreReady New
+    pub linked_ready : LinkingStaysReady → (a : TakeCalls p) → (seen_in p).loading.unlinked (url_in p root) ≡ true → HaveScopes i (scopes_of e) → TakeCalls New
     linked_ready stays a u k =
         let l = links a.world.linked a.live.stands.linked in
         let to : LinksTo a.world (url_in p root) None l.0 = links_in a.world (url_in p root) None l.0 a.live l.1 in
@@ -268,14 +266,14 @@ module _ (p : Parts) (i : Imported) (e : Envs) (loading : (seen_of i).loading �
             subst (λ q. AreLive q (link_failed w fault_in l.0)) (sym told.1) (live_failed w l.0 live l.2),
           )
 
-      failed_ready : LinkingStaysReady → (a : AreReady p) → (seen_in p).loading.unlinked (url_in p root) ≡ true → HaveScopes i (scopes_of e) → AreReady last
+      failed_ready : LinkingStaysReady → (a : TakeCalls p) → (seen_in p).loading.unlinked (url_in p root) ≡ true → HaveScopes i (scopes_of e) → TakeCalls last
       failed_ready stays a u k =
           let l = links a.world.linked a.live.stands.linked in
           let to : LinksTo a.world (url_in p root) (Some fault_in) l.0 = links_in a.world (url_in p root) (Some fault_in) l.0 a.live l.1 in
           let after : World = with_linked a.world l.0 in
           let ready : TakesCalls after = stays.links a.world (url_in p root) (Some fault_in) l.0 a.ready (unlinked_in (url_in p root) a.world a.live u) to in
           let errors : Errors = make_error New.host.bodies.errors (link_error (modules (seen_of i)) (fault_of f)) in
-          subst AreReady (sym told.1) (record {
+          subst TakeCalls (sym told.1) (record {
             world = link_failed a.world fault_in l.0;
             live = live_failed a.world l.0 a.live l.2;
             ready = ready_with_errors after (link_failed a.world fault_in l.0).errors ready;
@@ -319,12 +317,12 @@ module _ (p : Parts) (i : Imported) (e : Envs) (loading : (seen_of i).loading �
 
     ready_by : (end : End LinkFault) (error : Option Value)
         → ((these : List Url) → SameMembers these (seen_in p).linked → LinksSeen (seen_in p) these root (Err end) (seen_of i)) → KeepsScopes (Err end) i (scopes_of e)
-        → TellsFault New end error last → LinkingStaysReady → AreReady p → (seen_in p).loading.unlinked (url_in p root) ≡ true → AreReady last
+        → TellsFault New end error last → LinkingStaysReady → TakeCalls p → (seen_in p).loading.unlinked (url_in p root) ≡ true → TakeCalls last
     ready_by (ends.Fault f) (Some v) links k t stays a u = failed_ready root f links v last t stays a u k
     ready_by (ends.Fault f) None links k t stays a u = absurd t
     ready_by ends.Memory error links k t stays a u = absurd t
 
     pub refused_ready : {E : Type 0} (result : Result (Option Value) E) → KeepsScopes (Err end) i (scopes_of e) → IfOk result Told
-        → LinkingStaysReady → AreReady p → (seen_in p).loading.unlinked (url_in p root) ≡ true → OnOk result (AreReady last)
+        → LinkingStaysReady → TakeCalls p → (seen_in p).loading.unlinked (url_in p root) ≡ true → OnOk result (TakeCalls last)
     refused_ready (Ok error) k t stays a u = ready_by end error links k t stays a u
     refused_ready (Err x) k t stays a u = tt

@@ -13,7 +13,7 @@ use Rattle.esm_loads.specs.Loading.{Loading, import_promise, root_of_load}
 use Rattle.esm_world.specs.World.{World}
 use Rattle.esm_world.specs.Jobs.{Reacts, link_failed, settle_promise, with_reaction}
 use Rattle.esm_machine.specs.Represents.{TurnEnd}
-use Rattle.esm_machine.specs.Inner.Parts.{AreInOrder, AreLive, MayDo, seen_in, settled_in, url_in, value_in, with_promises}
+use Rattle.esm_machine.specs.Inner.Parts.{AreInOrder, AreLive, MayDo, seen_in, settled_in, url_in, value_in, parts_with_promises}
 use Rattle.esm_machine.specs.Machine.{held_of}
 use Rattle.esm_machine.specs.Inner.Leads.{DoesJob, LinksAndEvaluates, MayTakeLoad, SettlesImport, TakesLoad}
 use Rattle.esm_machine.specs.declared.linking.Linked.{Linked}
@@ -90,7 +90,7 @@ module _ (p new : Parts) (s : ℕ) where
 
 -- ---- the root is linked and evaluated
 
-registered : (p new : Parts) (promise : PromiseId) (s : ℕ) (w : World) → AreLive p w → new ≡ with_promises p (register p.host.promises promise.0 (Evaluated s))
+registered : (p new : Parts) (promise : PromiseId) (s : ℕ) (w : World) → AreLive p w → new ≡ parts_with_promises p (register p.host.promises promise.0 (Evaluated s))
     → AreLive new (with_reaction w promise.0 (Evaluated s))
 registered p new promise s w live e =
     subst (λ q. AreLive q (with_reaction w promise.0 (Evaluated s))) (sym e) (steps_are_of_the_world.registers (held_of p) w promise.0 (Evaluated s) live)
@@ -145,6 +145,6 @@ one_promise : (id promise : ℕ) → ◌≡◌ {A = Option ℕ} (Some id) (Some 
 one_promise id promise e = cc
 
 pub settles_import : (p : Parts) (s id : ℕ) (how : Settled (Value ℕ)) (ps : Numbered) → import_promise (seen_in p).loading s ≡ Some id
-    → ps ≡ settle p.host.promises id how → SettlesImport p s how (with_promises p ps)
+    → ps ≡ settle p.host.promises id how → SettlesImport p s how (parts_with_promises p ps)
 settles_import p s id how ps at same promise e =
-    ap (λ qs. with_promises p qs) (same ∙ ap (λ i. settle p.host.promises i how) (one_promise id promise (sym at ∙ e)))
+    ap (λ qs. parts_with_promises p qs) (same ∙ ap (λ i. settle p.host.promises i how) (one_promise id promise (sym at ∙ e)))

@@ -3,7 +3,7 @@ use Rattle.std.proofs.Common.{◌≡◌, ℕ, suc, ◌<◌, ◌≤◌, Bool, tru
 use Rattle.std.specs.Prelude.{Ok, cond, nat_lt}
 use Rattle.std.proofs.lemmas.Bool.Decides.{nat_tests}
 use Rattle.esm_base.specs.declared.limits.TheConstants.{MAX_STEPS}
-use Rattle.esm_world.specs.Measure.{DoesJob, JobsLower, left}
+use Rattle.esm_world.specs.Measure.{JobsLower, left}
 use Rattle.esm_world.specs.World.{World}
 use Rattle.esm_machine.specs.Held.{world_of}
 use Rattle.esm_machine.specs.Inner.Leads.{LeadsByJob}
@@ -35,22 +35,14 @@ pub record HasFallen (old new : Parts) : Type 0 where
 pub job_falls : JobsLower → (old new : Parts) (s : AreSound old) (answered : Bool) → answered ≡ true → LeadsByJob s.world (Ok answered) new
     → HasFallen old new
 job_falls low old new s true e t =
-    let j : DoesJob s.world t.0 = record {
-      job = t.1.job;
-      rest = t.1.left;
-      how = t.1.how;
-      first = t.1.first;
-      reacts = t.1.reacts;
-      live = t.2.live;
-    } in
     let a = steps_are old s.world s.live in
     let b = steps_are new t.0 t.2 in
     let c = left_is old s.world s.live in
     let d = left_is new t.0 t.2 in
-    let more = low.steps s.world t.0 j in
+    let more = low.steps s.world t.0 t.1 t.2.live in
     record {
       steps = omega (arith, a, b, more);
-      fewer = λ e. let less = low.less s.world t.0 j (b ∙ e ∙ sym a) in omega (arith, c, d, less);
+      fewer = λ e. let less = low.less s.world t.0 t.1 t.2.live (b ∙ e ∙ sym a) in omega (arith, c, d, less);
     }
 job_falls low old new s false e t = absurd cc
 

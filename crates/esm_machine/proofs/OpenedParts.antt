@@ -116,8 +116,10 @@ module _ (p : Parts) (maps : Maps) (entry : Url) (trace : Bool) (held : held_of 
     order_opening = record {
       whole = whole;
       nodes = ap (λ (h : Held). size h.nodes) held ∙ sym (ap (λ (h : Held). length h.seen.urls) held);
-      apart = subst (λ (h : Held). EachOnce same_url h.seen.urls) (sym held) tt;
-      have_ids = λ u l. linked_have_ids p.host.bodies.imports u l;
+      ids = record {
+        apart = subst (λ (h : Held). EachOnce same_url h.seen.urls) (sym held) tt;
+        have_ids = λ u l. linked_have_ids p.host.bodies.imports u l;
+      };
       scopes = subst (AreScopesIn (seen_in p)) (sym envs)
           (record { right = no_scopes (modules (seen_in p)) (linked (seen_in p)) none_linked; loaded = λ m s is. absurd cc });
       standing = subst (AreStanding modules (seen_in p))

@@ -51,15 +51,14 @@ module _ (p : Parts) (o : AreInOrder p) (w : World) (live : AreLive p w) (fit : 
   pub standing_on : AreStanding modules (seen_of i) p.host.bodies.engine.standing.items
   standing_on =
       stand_on (scopes_by p.host.bodies) (seen_in p) (seen_of i) o.scopes.right scopes.right p.host.bodies.engine.standing.items
-      (worlds_fit_by_id (held_of p) w live.stands fit o.apart o.have_ids).state.standing o.standing
+      (worlds_fit_by_id (held_of p) w live.stands fit o.ids).state.standing o.standing
 
   -- no record has come
   pub in_order_on : is_whole i.condition ≡ true → KeepsRecords (seen_in p) (seen_of i) → AreInOrder (with_outside p ps es i)
   in_order_on whole k = record {
     whole = whole;
     nodes = o.nodes ∙ sym (ap length k.urls);
-    apart = subst (EachOnce same_url) (sym k.urls) o.apart;
-    have_ids = λ u l. linked_have_ids i u l;
+    ids = record { apart = subst (EachOnce same_url) (sym k.urls) o.ids.apart; have_ids = λ u l. linked_have_ids i u l };
     scopes = scopes;
     standing = standing_on;
     between = begun_alike ByIds p.host (with_outside p ps es i).host (λ x. refl) refl (λ x. refl) o.between;

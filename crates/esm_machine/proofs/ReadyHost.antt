@@ -10,14 +10,14 @@ use Rattle.esm_eval.specs.Host.{HostFits, outside}
 use Rattle.esm_eval.specs.Table.{size}
 use Rattle.esm_body.specs.Fits.{AreLinked}
 use Rattle.esm_world.specs.World.{World}
-use Rattle.esm_body.specs.Engines.{AreReady as TakesBodies}
+use Rattle.esm_body.specs.Engines.{TakesBodies}
 use Rattle.esm_machine.specs.FitsById.{FitsById}
 use Rattle.esm_machine.specs.Inner.Below.{below}
 use Rattle.esm_machine.specs.Inner.HostLaws.{outer}
 use Rattle.esm_machine.specs.Inner.Lawful.{imports_are_lawful}
-use Rattle.esm_machine.specs.Inner.Parts.{AreReady, FitsBodies, KnowsBy, MayDo, linked_by, seen_in}
+use Rattle.esm_machine.specs.Inner.Parts.{TakeCalls, FitsBodies, KnowsBy, MayDo, linked_by, seen_in}
 use Rattle.esm_machine.specs.Machine.{held_of, scopes_by}
-use Rattle.esm_machine.specs.Seen.{Begins, Fits, linked, modules, names}
+use Rattle.esm_machine.specs.Seen.{BeginsById, Fits, linked, modules, names}
 use Rattle.esm_machine.specs.declared.parts.Parts.{Parts}
 use Rattle.esm_machine.proofs.FitsById.{worlds_fit_by_id}
 
@@ -25,11 +25,11 @@ second_none : (o e : Option Limit) → option_or o e ≡ None → e ≡ None
 second_none None e h = h
 second_none (Some other) e h = absurd cc
 
-module _ (p : Parts) (r : AreReady p) where
+module _ (p : Parts) (r : TakeCalls p) where
   pub ready_fits : FitsById (held_of p)
-  ready_fits = worlds_fit_by_id (held_of p) r.world r.live.stands r.ready.fit r.order.apart r.order.have_ids
+  ready_fits = worlds_fit_by_id (held_of p) r.world r.live.stands r.ready.fit r.order.ids
 
-  pub engine_ready : TakesBodies modules linked Fits Begins p.host.bodies.engine (scopes_by p.host.bodies) p.host.promises p.host.bodies.errors (seen_in p)
+  pub engine_ready : TakesBodies modules linked Fits BeginsById p.host.bodies.engine (scopes_by p.host.bodies) p.host.promises p.host.bodies.errors (seen_in p)
   engine_ready = record { state = ready_fits.state; made = r.order.scopes.right; standing = r.order.standing }
 
   -- what is linked is there, with all that it requests
@@ -42,7 +42,7 @@ module _ (p : Parts) (r : AreReady p) where
 
   -- each linked module has a node
   pub has_node : (m : ℕ) → linked (seen_in p) m ≡ true → m < size p.host.nodes
-  has_node m l = subst (λ n. m < n) (sym r.order.nodes) (below (seen_in p).urls m (r.order.have_ids ((names (seen_in p)).name m) l))
+  has_node m l = subst (λ n. m < n) (sym r.order.nodes) (below (seen_in p).urls m (r.order.ids.have_ids ((names (seen_in p)).name m) l))
 
   pub host_fits : HostFits FitsBodies linked_by KnowsBy p.host
   host_fits = record {

@@ -18,13 +18,13 @@ use Rattle.esm_body.specs.declared.log.Stop.TheVariants as stops
 use Rattle.esm_body.proofs.BodyKeeps.{bodies_keep, resumes_body_keeps}
 use Rattle.esm_world.proofs.BodyLives.{resumes_body_lives}
 use Rattle.esm_body.specs.Engines.{Resumed}
-use Rattle.esm_machine.specs.Seen.{Begins, Fits, linked, modules}
+use Rattle.esm_machine.specs.Seen.{BeginsById, Fits, linked, modules}
 use Rattle.esm_body.specs.SameScopes.{HaveSameScopes}
 use Rattle.esm_machine.specs.SeenScopes.{AreScopesIn, ScopesStay}
 use Rattle.esm_machine.specs.Inner.Stops.{turn_end_of}
 use Rattle.esm_machine.specs.Inner.HostLaws.{SameModules, begun_is, imports_leave}
 use Rattle.esm_machine.specs.Inner.Leads.{DoesJob}
-use Rattle.esm_machine.specs.Inner.Parts.{AreInOrder, AreReady, ByIds, FitsBodies, seen_in}
+use Rattle.esm_machine.specs.Inner.Parts.{AreInOrder, TakeCalls, ByIds, FitsBodies, seen_in}
 use Rattle.esm_machine.specs.Machine.{engine_by, held_of, scopes_by, seen_by}
 use Rattle.esm_machine.specs.declared.host.BodyHost.{BodyHost}
 use Rattle.esm_machine.specs.declared.parts.Parts.{Parts}
@@ -41,33 +41,33 @@ module _ (p : Parts) (ps : Numbered) (b : BodyHost) (m : ℕ) (how : Settled (Va
   abbrev New : Parts
   New = with_bodies p ps b
 
-  pub resumed_ok : ResumesBody nat_eq modules Begins (St (outside p.host)) m how (Ok tt) (St (outside New.host)) → DoesJob p (Await m) how (Ok tt) New
+  pub resumed_ok : ResumesBody nat_eq modules BeginsById (St (outside p.host)) m how (Ok tt) (St (outside New.host)) → DoesJob p (Await m) how (Ok tt) New
   resumed_ok r = λ w live. steps_are_of_the_world.resumes (held_of p) w m how (Ok tt) (St (outside New.host)) live r
 
-  pub resumed_stops : (stop : Stop) → Resumed modules linked Fits Begins (St (outside p.host)) m how (Err stop) (St (outside New.host))
+  pub resumed_stops : (stop : Stop) → Resumed modules linked Fits BeginsById (St (outside p.host)) m how (Err stop) (St (outside New.host))
       → DoesJob p (Await m) how (Err (turn_end_of stop)) New
   resumed_stops (stops.Limit limit) r = λ w live. steps_are_of_the_world.resumes (held_of p) w m how (Err limit) (St (outside New.host)) live r
   resumed_stops stops.Memory r = λ w live. tt
 
   -- ---- what is in order still
 
-  module _ (a : AreReady p) (l : linked (seen_in p) m ≡ true) (r : ResumesBody nat_eq modules Begins (St (outside p.host)) m how (Ok tt) (St (outside New.host)))
+  module _ (a : TakeCalls p) (l : linked (seen_in p) m ≡ true) (r : ResumesBody nat_eq modules BeginsById (St (outside p.host)) m how (Ok tt) (St (outside New.host)))
       (ready : IsReadyIn (outside New.host)) (stay : ScopesStay) (made : HaveSameScopes (scopes_by p.host.bodies) (scopes_by b)) where
     same : SameModules (seen_in p) (seen_by b)
-    same = (resumes_body_keeps nat_eq modules Begins SameModules imports_leave r).imports
+    same = (resumes_body_keeps nat_eq modules BeginsById SameModules imports_leave r).imports
 
     scopes : AreScopesIn (seen_by b) (scopes_by b)
     scopes = scopes_behind stay (outside p.host) (outside New.host)
-        ((bodies_keep nat_eq modules Begins).resume (St (outside p.host)) (St (outside New.host)) m how (Ok tt) r).imports made ready a.order.scopes
+        ((bodies_keep nat_eq modules BeginsById).resume (St (outside p.host)) (St (outside New.host)) m how (Ok tt) r).imports made ready a.order.scopes
 
     fits : FitsBodies (outside New.host)
     fits = fits_behind (outside p.host) (outside New.host) m l same
-        (resumes_body_lives StopOf Begins imports_live nat_eq modules r (is_live (outside p.host) (host_fits p a).outside_fits)) ready scopes
+        (resumes_body_lives StopOf BeginsById imports_live nat_eq modules r (is_live (outside p.host) (host_fits p a).outside_fits)) ready scopes
 
     -- no body has begun
     begun_still : (x : ℕ) → has_begun nat_eq (engine_by b) x ≡ has_begun nat_eq (engine_by p.host.bodies) x
     begun_still x = begun_is (engine_by b) x
-        ∙ ap (λ xs. list_any (nat_eq x) xs) (resumes_body_keeps nat_eq modules Begins SameModules imports_leave r).starts
+        ∙ ap (λ xs. list_any (nat_eq x) xs) (resumes_body_keeps nat_eq modules BeginsById SameModules imports_leave r).starts
         ∙ sym (begun_is (engine_by p.host.bodies) x)
 
     between : HaveBegunOnce ByIds New.host
@@ -91,8 +91,7 @@ module _ (p : Parts) (ps : Numbered) (b : BodyHost) (m : ℕ) (how : Settled (Va
     resumed_in_order = record {
       whole = fits.whole;
       nodes = a.order.nodes ∙ ap length (sym same.urls);
-      apart = subst (λ us. EachOnce same_url us) (sym same.urls) a.order.apart;
-      have_ids = linked_have_ids b.imports;
+      ids = record { apart = subst (λ us. EachOnce same_url us) (sym same.urls) a.order.ids.apart; have_ids = linked_have_ids b.imports };
       scopes = scopes;
       standing = ready.standing;
       between = between;

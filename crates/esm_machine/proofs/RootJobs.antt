@@ -10,10 +10,10 @@ use Rattle.esm_values.specs.declared.value.Value.{Value}
 use Rattle.esm_loads.specs.Loading.{Loading, root_of_load}
 use Rattle.esm_eval.specs.Evaluate.{Evaluates}
 use Rattle.esm_world.specs.Jobs.{EvaluatesLoad, LinksLoad}
-use Rattle.esm_world.specs.Layers.{Executes, evaluation, with_linked}
+use Rattle.esm_world.specs.Layers.{CallsForBody, evaluation, with_linked}
 use Rattle.esm_world.specs.World.{World}
 use Rattle.esm_machine.specs.Represents.{TurnEnd}
-use Rattle.esm_machine.specs.Inner.Leads.{EvaluatesRoot, EvaluatesUnless, LinksAndEvaluates, LinksRoot}
+use Rattle.esm_machine.specs.Inner.Leads.{EvaluatesModule, EvaluatesUnless, LinksAndEvaluates, LinksRoot}
 use Rattle.esm_machine.specs.Inner.Parts.{AreLive, seen_in, url_in}
 use Rattle.esm_machine.specs.declared.linking.Linked.{Linked}
 use Rattle.esm_machine.specs.declared.linking.Linked.TheVariants as outcomes
@@ -25,11 +25,11 @@ pub given_fault : (p : Parts) (root : ℕ) (error : Option Value) (v : Value) �
 given_fault p root error v e = subst (λ o. EvaluatesUnless p root o (Ok (outcomes.Fault v)) p) (sym e) (refl, refl)
 
 pub no_fault : (p new : Parts) (root : ℕ) (error : Option Value) (promise : PromiseId) → error ≡ None
-    → ((w : World) → AreLive p w → EvaluatesRoot w (url_in p root) (Ok promise) new) → EvaluatesUnless p root error (Ok (outcomes.Evaluates promise)) new
+    → ((w : World) → AreLive p w → EvaluatesModule w (url_in p root) (Ok promise) new) → EvaluatesUnless p root error (Ok (outcomes.Evaluates promise)) new
 no_fault p new root error promise e h = subst (λ o. EvaluatesUnless p root o (Ok (outcomes.Evaluates promise)) new) (sym e) h
 
 pub no_fault_stops : (p new : Parts) (root : ℕ) (error : Option Value) (end : TurnEnd) → error ≡ None
-    → ((w : World) → AreLive p w → EvaluatesRoot w (url_in p root) (Err end) new) → EvaluatesUnless p root error (Err end) new
+    → ((w : World) → AreLive p w → EvaluatesModule w (url_in p root) (Err end) new) → EvaluatesUnless p root error (Err end) new
 no_fault_stops p new root error end e h = subst (λ o. EvaluatesUnless p root o (Err end) new) (sym e) h
 
 module _ (p mid new : Parts) (load root : ℕ) (found : root_of_load (seen_in p).loading load ≡ Some (url_in p root))
@@ -43,12 +43,12 @@ module _ (p mid new : Parts) (load root : ℕ) (found : root_of_load (seen_in p)
 
   -- it was evaluated in the world in which it was linked
   evaluated : (w late : World) (after : List Url) (answer : Result ℕ Limit) → LinksLoad w load (url_in p root) None after
-      → Evaluates evaluation Executes (with_linked w after) (url_in mid root) answer late → EvaluatesLoad w load answer late
+      → Evaluates evaluation CallsForBody (with_linked w after) (url_in mid root) answer late → EvaluatesLoad w load answer late
   evaluated w late after answer l e = record {
     root = url_in p root;
     linked = after;
     links = l;
-    evaluates = subst (λ u. Evaluates evaluation Executes (with_linked w after) u answer late) name_still e;
+    evaluates = subst (λ u. Evaluates evaluation CallsForBody (with_linked w after) u answer late) name_still e;
   }
 
   pub comes : (error : Option Value) (result : Result Linked TurnEnd) → ((w : World) → AreLive p w → LinksRoot w (url_in p root) error mid)

@@ -27,7 +27,7 @@ use Rattle.esm_loads.proofs.LoadedFacts.{is_there}
 use Rattle.esm_loads.proofs.Lookups.{id_of_module, one_url}
 use Rattle.esm_link.specs.Local.{AreWhole, AgreeOn}
 use Rattle.esm_link.specs.Realm.{is_linked, items_at, modules_of}
-use Rattle.esm_world.specs.World as world
+use Rattle.esm_loads.specs.LoadsView as loads_view
 use Rattle.esm_world.proofs.FitLists.{place_below, place_names}
 use Rattle.esm_machine.specs.Kept.{GoesOn}
 use Rattle.esm_machine.specs.ModuleStore.{imported, linked_urls, seen_of}
@@ -123,7 +123,7 @@ items_same (x ∷ ts) (suc m) = items_same ts m
 
 -- ---- targets
 
-pub target_loaded : (l : Loading) (ts : List Url) (i : ℕ) → AreUnlinked l ts → i < length ts → l.unlinked (world.url_at ts i) ≡ true
+pub target_loaded : (l : Loading) (ts : List Url) (i : ℕ) → AreUnlinked l ts → i < length ts → l.unlinked (loads_view.url_at ts i) ≡ true
 target_loaded l [] i h lt = absurd (omega (arith, lt))
 target_loaded l (t ∷ ts) zero h lt = h.0
 target_loaded l (t ∷ ts) (suc i) h lt = target_loaded l ts i h.1 (omega (arith, lt))
@@ -231,18 +231,18 @@ module _ (R : List RecordParts) (t : Loads) (maps : Maps) (s : IsSound R) (k : G
       within = subst (λ n. i < n) requests_many lt
 
       -- the URL of the target of a request is Unlinked
-      pub target_url : L.unlinked (world.url_at (targets L (Named R m)) i) ≡ true
+      pub target_url : L.unlinked (loads_view.url_at (targets L (Named R m)) i) ≡ true
       target_url = target_loaded L (targets L (Named R m)) i (k.whole.loaded (Named R m) loaded_url).targets_are (subst (λ ts. i < length ts) (sym targets_are) within)
 
       -- the target of a request isn't New
       pub target_there : There ((modules S).target m i)
-      target_there = named_there (world.url_at (targets L (Named R m)) i) target_url
+      target_there = named_there (loads_view.url_at (targets L (Named R m)) i) target_url
 
       pub same_target : (modules S).target m i ≡ target_at R m i
       same_target =
           let is = k.loaded m i P.parts P.at P.past_new within in
           let found : target_at R m i ≡ is.target.0 = ap (λ o. target_by (slice_get (loaded_by o) i)) P.at ∙ ap target_by is.at in
-          let under : world.url_at (targets L (Named R m)) i ≡ is.parts.url = ap (λ ts. world.url_at ts i) targets_are ∙ at_place P.parts.targets i is.parts.url [] is.under in
+          let under : loads_view.url_at (targets L (Named R m)) i ≡ is.parts.url = ap (λ ts. loads_view.url_at ts i) targets_are ∙ at_place P.parts.targets i is.parts.url [] is.under in
           ap (number (map url_of R)) under ∙ number_is R is.target.0 is.parts s.differ is.is ∙ sym found
 
   -- ---- the modules that aren't New

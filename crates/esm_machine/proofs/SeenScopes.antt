@@ -38,7 +38,7 @@ use Rattle.esm_machine.specs.Arrivals.{urls_with}
 use Rattle.esm_machine.specs.Calls.{KeepsRecords}
 use Rattle.esm_machine.specs.Kept.{GoesOn, IsKept}
 use Rattle.esm_machine.specs.ModuleStore.{Imported, imported, is_whole, linked_urls, seen_of}
-use Rattle.esm_machine.specs.Seen.{Seen, Begins, host, linked, modules, names}
+use Rattle.esm_machine.specs.Seen.{Seen, BeginsById, host, linked, modules, names}
 use Rattle.esm_body.specs.SameScopes.{HaveSameScopes}
 use Rattle.esm_machine.specs.SeenScopes.{AreScopesIn, ScopesStay, trees_in}
 use Rattle.esm_machine.specs.declared.condition.Condition.{Condition}
@@ -87,16 +87,16 @@ answers s after named promises promises_after errors errors_after e call k a =
 -- ---- import()
 
 begun_keeps : (o after : Outer ℕ Seen) (m : ℕ) (specifier : Text) (promise : ℕ) (end : Result (Unit {0}) Limit)
-    → Begins o m specifier promise end after → KeepsRecords o.imports after.imports
+    → BeginsById o m specifier promise end after → KeepsRecords o.imports after.imports
 begun_keeps o after m specifier promise end b = record { urls = b.urls; linked = b.linked }
 
 begun_loaded : (o after : Outer ℕ Seen) (m : ℕ) (specifier : Text) (promise : ℕ) (end : Result (Unit {0}) Limit)
-    → Begins o m specifier promise end after → StaysLoaded o.imports.loading after.imports.loading
+    → BeginsById o m specifier promise end after → StaysLoaded o.imports.loading after.imports.loading
 begun_loaded o after m specifier promise end b u q =
     unlinked_stays.begins (host o) (host after) ((names o.imports).name m) specifier promise end u b.begins q
 
 begins : (o after : Outer ℕ Seen) (m : ℕ) (specifier : Text) (promise : ℕ) (end : Result (Unit {0}) Limit) (e : Scopes)
-    → Begins o m specifier promise end after → AreScopesIn o.imports e → AreScopesIn after.imports e
+    → BeginsById o m specifier promise end after → AreScopesIn o.imports e → AreScopesIn after.imports e
 begins o after m specifier promise end e b a =
     grows o.imports after.imports e (begun_keeps o after m specifier promise end b)
     (only_grows.imports (host o) (host after) ((names o.imports).name m) specifier promise b.begins.imports)
@@ -108,7 +108,7 @@ record Changes (s after : Seen) : Type 0 where
   pub records : KeepsRecords s after
   pub loaded : StaysLoaded s.loading after.loading
 
-changed : {s after : Seen} → ChangedBy Begins s after → Changes s after
+changed : {s after : Seen} → ChangedBy BeginsById s after → Changes s after
 changed ChangedBy.none = record { records = record { urls = refl; linked = refl }; loaded = λ u h. h }
 changed (ChangedBy.call {o = o} {after = after} {m = m} {specifier = specifier} {promise = promise} {end = end} p b) =
     let c = changed p in
@@ -122,7 +122,7 @@ made_before : (o : Option ModuleScope) → is_some o ≡ true → (t : ModuleSco
 made_before None h = cc
 made_before (Some t) h = (t, refl)
 
-bodies : (s after : Seen) (e late : Scopes) → ChangedBy Begins s after → HaveSameScopes e late
+bodies : (s after : Seen) (e late : Scopes) → ChangedBy BeginsById s after → HaveSameScopes e late
     → AreScopesOf (modules after) (linked after) late → AreScopesIn s e → AreScopesIn after late
 bodies s after e late p same right a =
     let c = changed p in

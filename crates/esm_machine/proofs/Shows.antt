@@ -19,7 +19,7 @@ use Rattle.esm_loads.proofs.Places.{get_within, all_get}
 use Rattle.esm_loads.proofs.ReadFacts.{past_end}
 use Rattle.esm_link.specs.Scopes.{linked_in}
 use Rattle.esm_machine.specs.Seen.{modules, linked}
-use Rattle.esm_machine.specs.ModuleStore.{Imported, imported, is_whole, limit_by, linked_by, linked_urls, loading_by, seen_of, size_by, loaded_or, or_itself, target_of, graph_of, urls_of}
+use Rattle.esm_machine.specs.ModuleStore.{Imported, imported, is_whole, limit_by, known_linked, linked_urls, loading_by, seen_of, size_by, loaded_or, or_itself, target_of, graph_of, urls_by_id}
 use Rattle.esm_machine.specs.Kept.{Show, GoesOn, IsKept, RecordsShow}
 use Rattle.esm_machine.specs.declared.condition.Condition.{Condition}
 use Rattle.esm_machine.specs.declared.condition.Condition.TheVariants as conditions
@@ -86,7 +86,7 @@ target_right conditions.Lost R t maps k m i lt within = absurd (omega arith)
 pub name_at : (R : List RecordParts) (m : ℕ) → IsSound R → m < length R → Named R m ≡ url_at R m
 name_at R m s lt = let g = get_within R m lt in name_is R m g.0 s.differ g.1 ∙ sym (ap url_by g.1)
 
-pub url_right : (i : Imported) → IsSound i.records → (m : ℕ) → url_at i.records m ≡ urls_of i m
+pub url_right : (i : Imported) → IsSound i.records → (m : ℕ) → url_at i.records m ≡ urls_by_id i m
 url_right i s m = by (nat_lt m (length i.records)) refl
   where
     by : (b : Bool) → nat_lt m (length i.records) ≡ b → url_at i.records m ≡ (if b then Named i.records m else [])
@@ -107,7 +107,7 @@ unlinked_right conditions.Whole R t maps w k m = unlinked_is R t maps k.sound k.
 unlinked_right (conditions.Stopped limit) R t maps w k m = cc
 unlinked_right conditions.Lost R t maps w k m = cc
 
-ids_right : (c : Condition) (R : List RecordParts) (u : Url) → has (linked_by c (linked_urls R)) u ≡ true → has (map url_of R) u ≡ true
+ids_right : (c : Condition) (R : List RecordParts) (u : Url) → has (known_linked c (linked_urls R)) u ≡ true → has (map url_of R) u ≡ true
 ids_right conditions.Whole R u h = among R u h
 ids_right (conditions.Stopped limit) R u h = among R u h
 ids_right conditions.Lost R u h = cc

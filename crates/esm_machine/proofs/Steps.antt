@@ -26,18 +26,18 @@ use Rattle.esm_world.specs.Jobs as jobs
 use Rattle.esm_world.specs.Jobs.{Reacts, settle_promise, with_reaction, with_error, new_error}
 use Rattle.esm_body.proofs.BodyKeeps.{Imported, resumes_body_keeps}
 use Rattle.esm_world.proofs.LimitsExact.{limits_are_exact}
-use Rattle.esm_machine.specs.Seen.{Seen, names, modules, Begins}
-use Rattle.esm_machine.specs.Following.{loading_of}
-use Rattle.esm_machine.specs.Held.{Held, EntryHeld, StandsFor, entry_by, state_of, world_by, world_of}
+use Rattle.esm_machine.specs.Seen.{Seen, names, modules, BeginsById}
+use Rattle.esm_machine.specs.Following.{seen_loading}
+use Rattle.esm_machine.specs.Held.{Held, EntryHeld, StandsFor, renamed_entry, body_state, world_by, world_of}
 use Rattle.esm_machine.specs.Represents.{IsLive}
-use Rattle.esm_machine.specs.Steps.{with_entry, with_promises, with_errors, with_linked, with_state, Leaves, StepsAreOfTheWorld}
+use Rattle.esm_machine.specs.Steps.{with_entry_state, with_promises, with_errors, with_linked, with_state, LeavesHeld, StepsAreOfTheWorld}
 use Rattle.esm_machine.proofs.Following.{bodies_are_of_the_world}
 
 -- an import() links nothing
 abbrev pub SameLinked : Seen → Seen → Type 0
 SameLinked i j = j.linked ≡ i.linked
 
-pub links_nothing : Imported Begins SameLinked
+pub links_nothing : Imported BeginsById SameLinked
 links_nothing = record { same = λ i. refl; on = λ p q. q ∙ p; call = λ b. b.linked }
 
 module _ (h : Held) (w : World) (s : IsLive h w) where
@@ -71,10 +71,10 @@ module _ (h : Held) (w : World) (s : IsLive h w) where
   result : (p : ℕ) (how : Settled (Value ℕ)) → settled h.promises p ≡ Some how → settled w.promises p ≡ Some (renamed_settled name how)
   result p how e = ap (λ v. settled v.promises p) is ∙ (follows_names name).is_settled h.promises p ∙ ap (λ o. option_map (renamed_settled name) o) e
 
-  entry : (e : EntryHeld) → IsLive (with_entry h e) (jobs.with_entry w (entry_by name e))
+  entry : (e : EntryHeld) → IsLive (with_entry_state h e) (jobs.with_entry_state w (renamed_entry name e))
   entry e = record {
     live = s.live;
-    stands = record { linked = s.stands.linked; world = ap (λ v. jobs.with_entry v (entry_by name e)) is };
+    stands = record { linked = s.stands.linked; world = ap (λ v. jobs.with_entry_state v (renamed_entry name e)) is };
   }
 
   settles : (p : ℕ) (how : Settled (Value ℕ)) → IsLive (with_promises h (settle h.promises p how)) (settle_promise w p (renamed_settled name how))
@@ -102,27 +102,27 @@ module _ (h : Held) (w : World) (s : IsLive h w) where
 
   -- ---- a body goes on
 
-  module _ (m : ℕ) (how : Settled (Value ℕ)) (end : Result (Unit {0}) Limit) (t : State ℕ Seen) (p : ResumesBody nat_eq modules Begins (state_of h) m how end t) where
+  module _ (m : ℕ) (how : Settled (Value ℕ)) (end : Result (Unit {0}) Limit) (t : State ℕ Seen) (p : ResumesBody nat_eq modules BeginsById (body_state h) m how end t) where
     abbrev Late : State Url Loading
-    Late = renamed_state (numbering h.seen.urls) loading_of t
+    Late = renamed_state (numbering h.seen.urls) seen_loading t
 
-    by_names : ResumesBody same_url modules_in BeginsImport (world.state_of W) (name m) (renamed_settled name how) end Late × (t.outer.imports.urls ≡ h.seen.urls)
-    by_names = (bodies_are_of_the_world h.seen.urls).resume (state_of h) t m how end refl p
+    by_names : ResumesBody same_url modules_in BeginsImport (world.body_state W) (name m) (renamed_settled name how) end Late × (t.outer.imports.urls ≡ h.seen.urls)
+    by_names = (bodies_are_of_the_world h.seen.urls).resume (body_state h) t m how end refl p
 
-    in_world : ResumesBody same_url modules_in BeginsImport (world.state_of w) (name m) (renamed_settled name how) end Late
-    in_world = subst (λ v. ResumesBody same_url modules_in BeginsImport (world.state_of v) (name m) (renamed_settled name how) end Late) (sym is) by_names.0
+    in_world : ResumesBody same_url modules_in BeginsImport (world.body_state w) (name m) (renamed_settled name how) end Late
+    in_world = subst (λ v. ResumesBody same_url modules_in BeginsImport (world.body_state v) (name m) (renamed_settled name how) end Late) (sym is) by_names.0
 
     stands : StandsFor (with_state h t) (world.with_state w Late)
     stands = record {
-      linked = λ u. s.stands.linked u ∙ sym (ap (λ us. has us u) (resumes_body_keeps nat_eq modules Begins SameLinked links_nothing p).imports);
+      linked = λ u. s.stands.linked u ∙ sym (ap (λ us. has us u) (resumes_body_keeps nat_eq modules BeginsById SameLinked links_nothing p).imports);
       world = ap (λ v. world.with_state v Late) is ∙ sym (ap (λ us. world_by us (with_state h t) w.linked) by_names.1);
     }
 
-  resumes : (m : ℕ) (how : Settled (Value ℕ)) (end : Result (Unit {0}) Limit) (t : State ℕ Seen) → ResumesBody nat_eq modules Begins (state_of h) m how end t
-      → Leaves end (Reacts w (Await (name m)) (renamed_settled name how)) (with_state h t)
+  resumes : (m : ℕ) (how : Settled (Value ℕ)) (end : Result (Unit {0}) Limit) (t : State ℕ Seen) → ResumesBody nat_eq modules BeginsById (body_state h) m how end t
+      → LeavesHeld end (Reacts w (Await (name m)) (renamed_settled name how)) (with_state h t)
   resumes m how end t p = by end p
     where
-      by : (end : Result (Unit {0}) Limit) → ResumesBody nat_eq modules Begins (state_of h) m how end t → Leaves end (Reacts w (Await (name m)) (renamed_settled name how)) (with_state h t)
+      by : (end : Result (Unit {0}) Limit) → ResumesBody nat_eq modules BeginsById (body_state h) m how end t → LeavesHeld end (Reacts w (Await (name m)) (renamed_settled name how)) (with_state h t)
       by (Ok done) q =
           let late = Late m how (Ok done) t q in
           let there = in_world m how (Ok done) t q in

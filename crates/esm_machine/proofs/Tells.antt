@@ -18,14 +18,14 @@ use Rattle.esm_body.proofs.OneAct.{displays_one}
 use Rattle.esm_world.specs.World as world
 use Rattle.esm_world.specs.World.{World, EntryState, modules_in, opening, stopped}
 use Rattle.esm_world.specs.World.{EntryState as entry_state}
-use Rattle.esm_world.specs.LastLine.{Ending, Stopped, Uncaught, Done, Pending, ending_by, status_of, IsLastLine}
+use Rattle.esm_world.specs.LastLine.{Ending, Stopped, Uncaught, Done, Pending, ending_by, exit_status, IsLastLine}
 use Rattle.esm_world.specs.Turn.{Turn}
 use Rattle.esm_world.specs.Run.{Runs, asks, ending, shown, IsAllowed}
 use Rattle.esm_world.proofs.OneRun.{runs_one}
-use Rattle.esm_machine.specs.Held.{Held, EntryHeld, Underway, Ended, Failed, entry_by, state_of, world_of}
+use Rattle.esm_machine.specs.Held.{Held, EntryHeld, Underway, Ended, Failed, renamed_entry, body_state, world_of}
 use Rattle.esm_machine.specs.Inner.Numbers.{url_number}
 use Rattle.esm_machine.specs.Seen.{Seen, names, modules}
-use Rattle.esm_machine.specs.Represents.{TurnEnd, State, ShowsBy, Shows, asks_by_stop, ending_by_stop, ending_of, StoppedAs, IsLineBy, IsLineByStop, Tells, OpeningRepresents, TellsTheRun, TurnsAreTaken}
+use Rattle.esm_machine.specs.Represents.{TurnEnd, MachineState, ShowsBy, Shows, asks_by_stop, ending_by_stop, ending_of, StoppedAs, IsLineBy, IsLineByStop, Tells, OpeningRepresents, TellsTheRun, TurnsAreTaken}
 use Rattle.esm_machine.proofs.Opens.{opens_as_world}
 
 -- ---- what a world shows
@@ -49,7 +49,7 @@ log_shown (Some ends.Memory) h w s = absurd s
 
 -- ---- the limit
 
-no_limit : (us : List Url) (e : EntryState) → option_map status_of (ending_by None us e) ≡ Some statuses.Limit → ⊥
+no_limit : (us : List Url) (e : EntryState) → option_map exit_status (ending_by None us e) ≡ Some statuses.Limit → ⊥
 no_limit (u ∷ us) e h = cc
 no_limit [] (entry_state.Failed v) h = cc
 no_limit [] entry_state.Ended h = cc
@@ -59,10 +59,10 @@ limit_line : (w : World) (e : Option Ending) (limit : Limit) (line : List ℕ) �
 limit_line w e limit line h l = subst (λ o. IsLastLine w o line) h l
 
 stopped_shown : (o : Option TurnEnd) (h : Held) (w : World) (line : List ℕ) → ShowsBy o h w → IsLastLine w (ending w) line → StoppedAs o (shown w line)
-stopped_shown None h w line s l = λ e. no_limit (open_asks h.seen.loading) (entry_by (names h.seen).name h.entry) (sym (ap (λ e. option_map status_of e) (ending_shown None h w s)) ∙ e)
+stopped_shown None h w line s l = λ e. no_limit (open_asks h.seen.loading) (renamed_entry (names h.seen).name h.entry) (sym (ap (λ e. option_map exit_status e) (ending_shown None h w s)) ∙ e)
 stopped_shown (Some (ends.Fault limit)) h w line s l =
     let e : ending w ≡ Some (Stopped limit) = ending_shown (Some (ends.Fault limit)) h w s in
-    (ap (λ o. option_map status_of o) e, limit_line w (ending w) limit line e l)
+    (ap (λ o. option_map exit_status o) e, limit_line w (ending w) limit line e l)
 stopped_shown (Some ends.Memory) h w line s l = absurd s
 
 -- ---- the last line
@@ -77,8 +77,8 @@ same_graph s =
       target = λ n k. h.number (url_number s.urls (h.target (url_number s.urls (h.named n) i) k) i);
     }
 
-displays_in : (h : Held) (linked : List Url) (v : Value ℕ) (text : List ℕ) → Displays modules (state_of h) v text
-    → Displays modules_in (world.state_of (world_of h linked)) (renamed_value (names h.seen).name v) text
+displays_in : (h : Held) (linked : List Url) (v : Value ℕ) (text : List ℕ) → Displays modules (body_state h) v text
+    → Displays modules_in (world.body_state (world_of h linked)) (renamed_value (names h.seen).name v) text
 displays_in h linked Undefined text p = p
 displays_in h linked (Truth b) text p = p
 displays_in h linked (Text t) text p = p
@@ -89,12 +89,12 @@ displays_in h linked (Namespace m) text p =
 displays_in h linked (Promise q) text p = p
 
 line_in : (h : Held) (w : World) (us : List Url) (e : EntryHeld) (line : List ℕ) → w ≡ world_of h w.linked → IsLineBy h us e line
-    → IsLastLine w (ending_by None us (entry_by (names h.seen).name e)) line
+    → IsLastLine w (ending_by None us (renamed_entry (names h.seen).name e)) line
 line_in h w (u ∷ us) e line s p = p
 line_in h w [] Underway line s p = p
 line_in h w [] Ended line s p = p
 line_in h w [] (Failed v) line s p =
-    (p.0, subst (λ (x : World). Displays modules_in (world.state_of x) (renamed_value (names h.seen).name v) p.0) (sym s) (displays_in h w.linked v p.0 p.1), p.2)
+    (p.0, subst (λ (x : World). Displays modules_in (world.body_state x) (renamed_value (names h.seen).name v) p.0) (sym s) (displays_in h w.linked v p.0 p.1), p.2)
 
 line_by_stop : (o : Option TurnEnd) (h : Held) (w : World) (line : List ℕ) → ShowsBy o h w → IsLineByStop o h line → IsLastLine w (ending_by_stop o h) line
 line_by_stop None h w line s p = line_in h w (open_asks h.seen.loading) h.entry line s.stands.world p
@@ -104,17 +104,17 @@ line_by_stop (Some ends.Memory) h w line s p = absurd s
 line_one : (w : World) (e : Option Ending) (s t : List ℕ) → IsLastLine w e s → IsLastLine w e t → s ≡ t
 line_one w None s t p q = p ∙ sym q
 line_one w (Some (Stopped limit)) s t p q = p ∙ sym q
-line_one w (Some (Uncaught v)) s t p q = p.2 ∙ ap (λ text. codes "Uncaught " ++ text) (displays_one modules_in (world.state_of w) v q.1 p.1) ∙ sym q.2
+line_one w (Some (Uncaught v)) s t p q = p.2 ∙ ap (λ text. codes "Uncaught " ++ text) (displays_one modules_in (world.body_state w) v q.1 p.1) ∙ sym q.2
 line_one w (Some Done) s t p q = p ∙ sym q
 line_one w (Some Pending) s t p q = p ∙ sym q
 
-shows_tells : (m : State) (w : World) (line : List ℕ) → Shows m w → IsLastLine w (ending w) line → Tells m (shown w line)
+shows_tells : (m : MachineState) (w : World) (line : List ℕ) → Shows m w → IsLastLine w (ending w) line → Tells m (shown w line)
 shows_tells m w line s l =
     let e : ending w ≡ ending_of m = ending_shown m.stopped m.held w s in
     record {
       asks = asks_shown m.stopped m.held w s;
       log = log_shown m.stopped m.held w s;
-      status = ap (λ o. option_map status_of o) e;
+      status = ap (λ o. option_map exit_status o) e;
       ended = ap (λ o. is_some o) e;
       stopped = stopped_shown m.stopped m.held w line s l;
       last_line = λ own p. line_one w (ending_of m) line own (subst (λ o. IsLastLine w o line) e l) (line_by_stop m.stopped m.held w own s p);

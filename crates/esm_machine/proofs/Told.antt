@@ -11,12 +11,12 @@ use Rattle.esm_loads.specs.Arrival.{open_asks}
 use Rattle.esm_loads.specs.Loading.{Loading}
 use Rattle.esm_world.specs.World.{World, EntryState}
 use Rattle.esm_world.specs.World.{EntryState as entry_state}
-use Rattle.esm_world.specs.LastLine.{Ending, ending_by, status_of}
+use Rattle.esm_world.specs.LastLine.{Ending, ending_by, exit_status}
 use Rattle.esm_world.specs.Run.{HasModuleTree, IsAllowed}
 use Rattle.esm_world.specs.Turn.{Turn}
 use Rattle.esm_ast.specs.Deliveries.{completed}
-use Rattle.esm_machine.specs.Held.{Held, EntryHeld, Underway, Ended, Failed, entry_by}
-use Rattle.esm_machine.specs.Represents.{IsEnded, IsEndedBy, IsLineBy, IsLineByStop, IsLineOf, MayTake, MayTakeBy, ShownBy, ShowsBy, Shows, State, StoppedAs, TakesDelivery, TurnEnd, asks_by_stop, asks_of, ending_by_stop, ending_of}
+use Rattle.esm_machine.specs.Held.{Held, EntryHeld, Underway, Ended, Failed, renamed_entry}
+use Rattle.esm_machine.specs.Represents.{IsEnded, IsEndedBy, IsLineBy, IsLineByStop, IsLineOf, MayTake, MayTakeBy, ShownBy, ShowsBy, Shows, MachineState, StoppedAs, TakesDelivery, TurnEnd, asks_by_stop, asks_of, ending_by_stop, ending_of}
 use Rattle.esm_machine.specs.Machine.{MachineParts, state_of, held_of}
 use Rattle.esm_machine.specs.Inner.Parts.{AreLive, seen_in}
 use Rattle.esm_machine.specs.declared.parts.Parts.{Parts}
@@ -25,14 +25,14 @@ use Rattle.esm_machine.proofs.Tells.{asks_shown, tells_the_run, turns_are_taken}
 
 -- ---- what a standard run shows
 
-module _ (m : State) where
+module _ (m : MachineState) where
   pub asks_told : (asks : List Url) → asks ≡ asks_of m → ShownBy m (λ what. asks ≡ what.asks)
   asks_told asks e = λ maps entry trace ds what s std. e ∙ sym (tells_the_run m maps entry trace ds what s std).asks
 
   pub log_told : (log : List ℕ) → log ≡ m.held.engine.log → ShownBy m (λ what. log ≡ what.log)
   log_told log e = λ maps entry trace ds what s std. e ∙ sym (tells_the_run m maps entry trace ds what s std).log
 
-  pub status_told : (status : Option Status) → status ≡ option_map status_of (ending_of m) → ShownBy m (λ what. status ≡ what.status)
+  pub status_told : (status : Option Status) → status ≡ option_map exit_status (ending_of m) → ShownBy m (λ what. status ≡ what.status)
   status_told status e = λ maps entry trace ds what s std. e ∙ sym (tells_the_run m maps entry trace ds what s std).status
 
   pub stopped_told : (stopped : Option TurnEnd) → stopped ≡ m.stopped → ShownBy m (StoppedAs stopped)
@@ -45,14 +45,14 @@ module _ (m : State) where
 
 -- ---- the end
 
-mapped_some : (o : Option Ending) → is_some (option_map status_of o) ≡ is_some o
+mapped_some : (o : Option Ending) → is_some (option_map exit_status o) ≡ is_some o
 mapped_some None = refl
 mapped_some (Some e) = refl
 
-pub known_told : (m : State) (status : Option Status) → status ≡ option_map status_of (ending_of m) → is_some status ≡ is_some (ending_of m)
+pub known_told : (m : MachineState) (status : Option Status) → status ≡ option_map exit_status (ending_of m) → is_some status ≡ is_some (ending_of m)
 known_told m status e = ap (λ o. is_some o) e ∙ mapped_some (ending_of m)
 
-pub ended_told : (m : State) (status : Option Status) → status ≡ option_map status_of (ending_of m) → ShownBy m (λ what. is_some status ≡ what.ended)
+pub ended_told : (m : MachineState) (status : Option Status) → status ≡ option_map exit_status (ending_of m) → ShownBy m (λ what. is_some status ≡ what.ended)
 ended_told m status e = λ maps entry trace ds what s std. known_told m status e ∙ sym (tells_the_run m maps entry trace ds what s std).ended
 
 exactly_live : (asks : List Url) (e : EntryState) → IsSome (ending_by None asks e) ↔ (asks ≡ [])
@@ -62,27 +62,27 @@ exactly_live [] entry_state.Ended = (λ h. refl, λ h. refl)
 exactly_live [] entry_state.Underway = (λ h. refl, λ h. refl)
 
 exactly_by : (o : Option TurnEnd) (h : Held) → IsSome (ending_by_stop o h) ↔ IsEndedBy o h.seen.loading
-exactly_by None h = exactly_live (open_asks h.seen.loading) (entry_by _ h.entry)
+exactly_by None h = exactly_live (open_asks h.seen.loading) (renamed_entry _ h.entry)
 exactly_by (Some (ends.Fault limit)) h = (λ e. tt, λ e. refl)
 exactly_by (Some ends.Memory) h = (λ e. let f : false ≡ true = e in cc, λ e. absurd e)
 
-pub exactly_told : (m : State) (status : Option Status) → status ≡ option_map status_of (ending_of m) → IsSome status ↔ IsEnded m
+pub exactly_told : (m : MachineState) (status : Option Status) → status ≡ option_map exit_status (ending_of m) → IsSome status ↔ IsEnded m
 exactly_told m status e =
     let k = exactly_by m.stopped m.held in
     (λ h. k.0 (sym (known_told m status e) ∙ h), λ h. known_told m status e ∙ k.1 h)
 
-pub memory_told : (m : State) (status : Option Status) → status ≡ option_map status_of (ending_of m) → m.stopped ≡ Some ends.Memory → status ≡ None
-memory_told m status e h = e ∙ ap (λ o. option_map status_of (ending_by_stop o m.held)) h
+pub memory_told : (m : MachineState) (status : Option Status) → status ≡ option_map exit_status (ending_of m) → m.stopped ≡ Some ends.Memory → status ≡ None
+memory_told m status e h = e ∙ ap (λ o. option_map exit_status (ending_by_stop o m.held)) h
 
 -- ---- the status and the last line
 
 -- no ask is open
 pub status_idle : (asks : List Url) (name : ℕ → Url) (e : EntryHeld) (status : Option Status) → asks ≡ []
-    → status ≡ option_map status_of (ending_by None [] (entry_by name e)) → status ≡ option_map status_of (ending_by None asks (entry_by name e))
-status_idle asks name e status h k = k ∙ ap (λ us. option_map status_of (ending_by None us (entry_by name e))) (sym h)
+    → status ≡ option_map exit_status (ending_by None [] (renamed_entry name e)) → status ≡ option_map exit_status (ending_by None asks (renamed_entry name e))
+status_idle asks name e status h k = k ∙ ap (λ us. option_map exit_status (ending_by None us (renamed_entry name e))) (sym h)
 
 -- an ask is open
-pub status_open : (asks : List Url) (e : EntryState) → (asks ≡ [] → ⊥) → None ≡ option_map status_of (ending_by None asks e)
+pub status_open : (asks : List Url) (e : EntryState) → (asks ≡ [] → ⊥) → None ≡ option_map exit_status (ending_by None asks e)
 status_open (u ∷ us) e n = refl
 status_open [] e n = absurd (n refl)
 
@@ -90,15 +90,15 @@ idle : (asks : List Url) (e : EntryState) → is_some (ending_by None asks e) �
 idle asks e h = (exactly_live asks e).0 h
 
 -- the last line of a machine that hasn't stopped, and has ended
-pub line_live : (m : State) (r : Result Text Memory) → m.stopped ≡ None → is_some (ending_of m) ≡ true → IfOk r (IsLineBy m.held [] m.held.entry)
+pub line_live : (m : MachineState) (r : Result Text Memory) → m.stopped ≡ None → is_some (ending_of m) ≡ true → IfOk r (IsLineBy m.held [] m.held.entry)
     → IfOk r (IsLineOf m)
 line_live m r e h p =
     let live : is_some (ending_by_stop None m.held) ≡ true = subst (λ o. is_some (ending_by_stop o m.held) ≡ true) e h in
-    let none : open_asks m.held.seen.loading ≡ [] = idle (open_asks m.held.seen.loading) (entry_by _ m.held.entry) live in
+    let none : open_asks m.held.seen.loading ≡ [] = idle (open_asks m.held.seen.loading) (renamed_entry _ m.held.entry) live in
     IfOk-weaker r (IsLineBy m.held [] m.held.entry) (IsLineOf m) (λ line q.
     subst (λ o. IsLineByStop o m.held line) (sym e) (subst (λ us. IsLineBy m.held us m.held.entry line) (sym none) q)) p
 
-pub line_stopped : (m : State) (end : TurnEnd) (r : Result Text Memory) → m.stopped ≡ Some end → IfOk r (IsLineByStop (Some end) m.held) → IfOk r (IsLineOf m)
+pub line_stopped : (m : MachineState) (end : TurnEnd) (r : Result Text Memory) → m.stopped ≡ Some end → IfOk r (IsLineByStop (Some end) m.held) → IfOk r (IsLineOf m)
 line_stopped m end r e p = subst (λ o. IfOk r (IsLineByStop o m.held)) (sym e) p
 
 -- ---- deliveries
@@ -107,7 +107,7 @@ may_take : (o : Option TurnEnd) (l : Loading) (u : Url) → o ≡ None → MayTa
 may_take None l u e h = h
 may_take (Some end) l u e h = cc
 
-pub may_turn : (m : State) (u : Url) → m.stopped ≡ None → MayTake m u → has (open_asks m.held.seen.loading) u ≡ true
+pub may_turn : (m : MachineState) (u : Url) → m.stopped ≡ None → MayTake m u → has (open_asks m.held.seen.loading) u ≡ true
 may_turn m u e h = may_take m.stopped m.held.seen.loading u e h
 
 -- how a call has ended early
@@ -159,10 +159,10 @@ module _ (parts : Parts) (stopped : Option TurnEnd) (m : MachineParts) (view : v
   pub asks_at : (o : Option TurnEnd) (asks : List Url) → stopped ≡ o → asks ≡ asks_by_stop o (seen_in parts).loading → asks ≡ asks_of (state_of m)
   asks_at o asks e h = h ∙ ap (λ o. asks_by_stop o (seen_in parts).loading) (sym e) ∙ ap (λ (m : MachineParts). asks_of (state_of m)) view
 
-  pub status_at : (o : Option TurnEnd) (status : Option Status) → stopped ≡ o → status ≡ option_map status_of (ending_by_stop o (held_of parts))
-      → status ≡ option_map status_of (ending_of (state_of m))
-  status_at o status e h = h ∙ ap (λ o. option_map status_of (ending_by_stop o (held_of parts))) (sym e)
-      ∙ ap (λ (m : MachineParts). option_map status_of (ending_of (state_of m))) view
+  pub status_at : (o : Option TurnEnd) (status : Option Status) → stopped ≡ o → status ≡ option_map exit_status (ending_by_stop o (held_of parts))
+      → status ≡ option_map exit_status (ending_of (state_of m))
+  status_at o status e h = h ∙ ap (λ o. option_map exit_status (ending_by_stop o (held_of parts))) (sym e)
+      ∙ ap (λ (m : MachineParts). option_map exit_status (ending_of (state_of m))) view
 
   -- the machine that hasn't stopped may take this delivery
   pub may_at : (u : Url) → stopped ≡ None → MayTake (state_of m) u → has (open_asks (seen_in parts).loading) u ≡ true

@@ -4,12 +4,12 @@ use Rattle.esm_base.specs.declared.limits.Limit.{Limit}
 use Rattle.esm_base.specs.Urls.{Url, has}
 use Rattle.esm_loads.specs.Loading.{Loading}
 use Rattle.esm_loads.specs.LoadsAsLoading.{loading_of}
-use Rattle.esm_machine.specs.ModuleStore.{Imported, is_whole, linked_by, linked_urls, loading_by, seen_of}
+use Rattle.esm_machine.specs.ModuleStore.{Imported, is_whole, known_linked, linked_urls, loading_by, seen_of}
 use Rattle.esm_machine.specs.Inner.Importing.{among}
 use Rattle.esm_machine.specs.declared.condition.Condition.{Condition}
 use Rattle.esm_machine.specs.declared.condition.Condition.TheVariants as conditions
 
-whole_by : (c : Condition) (l : Loading) (us : List Url) (u : Url) → (loading_by c l).stopped ≡ None → has (linked_by c us) u ≡ true → is_whole c ≡ true
+whole_by : (c : Condition) (l : Loading) (us : List Url) (u : Url) → (loading_by c l).stopped ≡ None → has (known_linked c us) u ≡ true → is_whole c ≡ true
 whole_by conditions.Whole l us u s h = refl
 whole_by (conditions.Stopped limit) l us u s h = let e : ◌≡◌ {A = Option Limit} (Some limit) None = s in absurd cc
 whole_by conditions.Lost l us u s h = let e : false ≡ true = h in absurd cc
@@ -27,7 +27,7 @@ live_by conditions.Lost l e h = e
 pub live_is : (i : Imported) → is_whole i.condition ≡ true → (seen_of i).loading.stopped ≡ None
 live_is i h = live_by i.condition (loading_of i.maps i.loads i.records) refl h
 
-among_by : (c : Condition) (us vs : List Url) (u : Url) → (has us u ≡ true → has vs u ≡ true) → has (linked_by c us) u ≡ true → has vs u ≡ true
+among_by : (c : Condition) (us vs : List Url) (u : Url) → (has us u ≡ true → has vs u ≡ true) → has (known_linked c us) u ≡ true → has vs u ≡ true
 among_by conditions.Whole us vs u k h = k h
 among_by (conditions.Stopped limit) us vs u k h = k h
 among_by conditions.Lost us vs u k h = let e : false ≡ true = h in absurd cc

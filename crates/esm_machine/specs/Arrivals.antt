@@ -22,7 +22,7 @@ use Rattle.esm_world.specs.Turn.{fetched}
 use Rattle.esm_machine.specs.Seen.{names}
 use Rattle.esm_machine.specs.Held.{Held, RecordsCover, with_host}
 use Rattle.esm_machine.specs.Represents.{IsLive}
-use Rattle.esm_machine.specs.Steps.{Leaves}
+use Rattle.esm_machine.specs.Steps.{LeavesHeld}
 
 -- a module text brings a record more, and anything else none
 abbrev pub urls_with : List Url → Url → Found → List Url
@@ -66,9 +66,9 @@ pub record ArrivalsAreOfTheWorld : Type 0 where
   -- a limit stops it, before anything else happens
   pub fetch_stops : (h : Held) (w : World) (u : Url) (c : OutcomeView) (limit : Limit) → IsLive h w
       → (after_fetch (host_of (names h.seen).name h.promises h.errors h.seen.loading) u c).imports.stopped ≡ Some limit
-      → Leaves (Err limit) (λ v. v ≡ fetched w u c) h
+      → LeavesHeld (Err limit) (λ v. v ≡ fetched w u c) h
   -- the next pending request is answered, up to the limit that stops it
   pub answers : (h : Held) (w : World) (promises : Numbered) (errors : Errors) (l : Loading) (end : Result (Unit {0}) Limit) → IsLive h w
       → AnswersNext (host_of (names h.seen).name h.promises h.errors h.seen.loading) (host_of (names h.seen).name promises errors l)
       → StopsAs end l
-      → Leaves end (IsAnswered w (host_of (names h.seen).name promises errors l)) (with_host h promises errors l)
+      → LeavesHeld end (IsAnswered w (host_of (names h.seen).name promises errors l)) (with_host h promises errors l)

@@ -22,7 +22,7 @@ use Rattle.esm_body.specs.State.{State, Engine, has_begun}
 use Rattle.esm_world.specs.World.{World}
 use Rattle.esm_world.specs.Layers as layers
 use Rattle.esm_machine.specs.Seen.{Seen, modules}
-use Rattle.esm_machine.specs.Seen.{Begins as BeginsById}
+use Rattle.esm_machine.specs.Seen.{BeginsById}
 use Rattle.esm_machine.specs.Held.{Held, EntryHeld, world_of}
 
 abbrev pub value_by : List Url → Value ℕ → Value Url
@@ -78,4 +78,4 @@ module _ {B : Type 0} (seen : B → Seen) (errors : B → Errors) (cells : B →
       → ((o v : Outside B) (c : Call ℕ) (r : Result (CallAnswer (Value ℕ) c) Limit) → acts o c r v → ActsById o c r v)
       → IsLawful by_ids → IsSteady by_ids (host.calls acts) → BeginsOne by_ids (host.calls acts)
       → EvaluationFollows (numbering urls) (value_by urls) (HasUrls urls) by_ids layers.evaluation (world_in entry linked)
-      (IsLinkedNumber urls linked) (host.calls acts) layers.Executes
+      (IsLinkedNumber urls linked) (host.calls acts) layers.CallsForBody

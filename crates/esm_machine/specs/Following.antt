@@ -11,16 +11,16 @@ use Rattle.esm_link.specs.Local.{AreWhole}
 use Rattle.esm_link.specs.Naming.{named_fault}
 use Rattle.esm_body.specs.Naming.{BodiesFollow}
 use Rattle.esm_world.specs.World.{modules_in}
-use Rattle.esm_machine.specs.Seen.{Seen, names, modules, Begins}
+use Rattle.esm_machine.specs.Seen.{Seen, names, modules, BeginsById}
 
-abbrev pub loading_of : Seen → Loading
-loading_of s = s.loading
+abbrev pub seen_loading : Seen → Loading
+seen_loading s = s.loading
 
 -- as long as these are the URLs of the records, each body that starts, runs or goes on by the ids of modules does so in the world, where
 -- their URLs name them
 abbrev pub BodiesAreOfTheWorld : Type 0
 BodiesAreOfTheWorld = (urls : List Url)
-    → BodiesFollow (numbering urls) loading_of (λ s. s.urls ≡ urls) nat_eq same_url modules modules_in Begins BeginsImport
+    → BodiesFollow (numbering urls) seen_loading (λ s. s.urls ≡ urls) nat_eq same_url modules modules_in BeginsById BeginsImport
 
 -- linking by ids is linking in the world, whatever the order in which the world has the modules that are linked
 abbrev pub LinkingIsOfTheWorld : Type 0

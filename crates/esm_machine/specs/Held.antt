@@ -1,8 +1,7 @@
 -- What a machine holds between two jobs, by ids, and the worlds that it stands for.
-use Rattle.std.specs.Prelude.{◌≡◌, ◌≤◌, ℕ, Bool, true, false, List, [], ◌∷◌, ◌++◌, map, length, Some, None}
+use Rattle.std.specs.Prelude.{◌≡◌, ◌≤◌, ℕ, Bool, false, List, [], ◌∷◌, ◌++◌, map, length, Some, None}
 use Rattle.esm_base.specs.declared.limits.Limit.{Limit}
-use Rattle.esm_base.specs.Lists.{EachOnce}
-use Rattle.esm_base.specs.Urls.{Url, has, same_url}
+use Rattle.esm_base.specs.Urls.{Url, has}
 use Rattle.esm_import_map.specs.ImportMap.{Maps}
 use Rattle.esm_values.specs.Value.{Value}
 use Rattle.esm_values.specs.Errors.{Errors}
@@ -25,7 +24,7 @@ use Rattle.esm_world.specs.World.{World, EntryState, opening, stopped}
 use Rattle.esm_world.specs.World.{EntryState as entry_state}
 use Rattle.esm_world.specs.Fits.{FitsWorld}
 use Rattle.esm_values.specs.Numbering.{numbering, is_total}
-use Rattle.esm_machine.specs.Seen.{Seen}
+use Rattle.esm_machine.specs.Seen.{Seen, HaveIds}
 
 -- how far the entry has come. own
 pub data EntryHeld : Type 0 where
@@ -45,10 +44,10 @@ pub record Held : Type 0 where
   pub engine : Engine ℕ
   pub entry : EntryHeld
 
-abbrev pub entry_by : (ℕ → Url) → EntryHeld → EntryState
-entry_by name Underway = entry_state.Underway
-entry_by name Ended = entry_state.Ended
-entry_by name (Failed v) = entry_state.Failed (renamed_value name v)
+abbrev pub renamed_entry : (ℕ → Url) → EntryHeld → EntryState
+renamed_entry name Underway = entry_state.Underway
+renamed_entry name Ended = entry_state.Ended
+renamed_entry name (Failed v) = entry_state.Failed (renamed_value name v)
 
 -- all of it by the names of its modules, where these are the URLs of the records, and these modules are linked, in this order
 abbrev pub world_by : List Url → Held → List Url → World
@@ -63,15 +62,15 @@ world_by urls h linked =
       errors = h.errors;
       cells = renamed_cells n h.cells;
       engine = renamed_engine n h.engine;
-      entry = entry_by n.name h.entry;
+      entry = renamed_entry n.name h.entry;
     }
 
 abbrev pub world_of : Held → List Url → World
 world_of h linked = world_by h.seen.urls h linked
 
 -- what bodies read and write of it
-abbrev pub state_of : Held → State ℕ Seen
-state_of h = record { engine = h.engine; cells = h.cells; outer = record { promises = h.promises; errors = h.errors; imports = h.seen } }
+abbrev pub body_state : Held → State ℕ Seen
+body_state h = record { engine = h.engine; cells = h.cells; outer = record { promises = h.promises; errors = h.errors; imports = h.seen } }
 
 -- what it holds is that of the world. own: it doesn't keep the order in which modules were linked
 pub record StandsFor (h : Held) (w : World) : Type 0 where
@@ -87,8 +86,7 @@ pub record IsHalted (limit : Limit) (log : List ℕ) (w : World) : Type 0 where
 
 -- the records have URLs that differ, among them those of what is linked, and nodes and cells are of modules that have a record
 pub record RecordsCover (h : Held) (linked : List Url) : Type 0 where
-  pub apart : EachOnce same_url h.seen.urls
-  pub have_ids : (u : Url) → has linked u ≡ true → has h.seen.urls u ≡ true
+  pub ids : HaveIds h.seen.urls linked
   pub nodes : length h.nodes.nodes ≤ length h.seen.urls
   pub cells : (m : ℕ) (x : List ℕ) → length h.seen.urls ≤ m → h.cells m x ≡ None
 

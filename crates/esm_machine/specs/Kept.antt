@@ -14,7 +14,7 @@ use Rattle.esm_loads.specs.LoadsView.{is_unlinked}
 use Rattle.esm_loads.specs.Whole.{IsWhole}
 use Rattle.esm_link.specs.Scopes.{linked_in}
 use Rattle.esm_machine.specs.Seen.{Seen, names, modules, linked}
-use Rattle.esm_machine.specs.ModuleStore.{Imported, is_whole, limit_by, seen_of, graph_of, urls_of, loaded_or}
+use Rattle.esm_machine.specs.ModuleStore.{Imported, is_whole, limit_by, seen_of, graph_of, urls_by_id, loaded_or}
 use Rattle.esm_machine.specs.declared.condition.Condition.{Condition}
 use Rattle.esm_machine.specs.declared.condition.Condition.TheVariants as conditions
 
@@ -47,7 +47,7 @@ pub record RecordsShow : Type 0 where
   pub entries_are : (i : Imported) (m : ℕ) → IsKept i → m < (graph_of i).size → entries_at i.records m ≡ (graph_of i).entries m
   pub targets_are : (i : Imported) (m request : ℕ) → IsKept i → m < (graph_of i).size → request < length ((graph_of i).entries m).requests
       → loaded_or m (slice_get (loaded_at i.records m) request) ≡ (graph_of i).target m request
-  pub urls_are : (i : Imported) (m : ℕ) → IsKept i → url_at i.records m ≡ urls_of i m
+  pub urls_are : (i : Imported) (m : ℕ) → IsKept i → url_at i.records m ≡ urls_by_id i m
   -- the records that are Linked are seen to be, and those that are past New
   pub linked_are : (i : Imported) (m : ℕ) → IsKept i → is_whole i.condition ≡ true → linked (seen_of i) m ≡ linked_in i.records m
   pub unlinked_are : (i : Imported) (m : ℕ) → IsKept i → is_whole i.condition ≡ true

@@ -10,7 +10,7 @@ use Rattle.esm_body.specs.View.{engine_of}
 use Rattle.esm_machine.specs.Evaluating.{held_in}
 use Rattle.esm_machine.specs.Held.{EntryHeld, Underway, Ended, Failed, Held}
 use Rattle.esm_machine.specs.ModuleStore.{seen_of}
-use Rattle.esm_machine.specs.Represents.{State, TurnEnd}
+use Rattle.esm_machine.specs.Represents.{MachineState, TurnEnd}
 use Rattle.esm_machine.specs.Seen.{Seen}
 use Rattle.esm_machine.specs.declared.host.BodyHost.{BodyHost}
 use Rattle.esm_machine.specs.declared.parts.EntryState.{EntryState}
@@ -50,5 +50,5 @@ pub record MachineParts : Type 0 where
   pub stopped : Option TurnEnd
 
 -- what it holds, by the ids of modules, and how it has stopped
-abbrev pub state_of : MachineParts → State
+abbrev pub state_of : MachineParts → MachineState
 state_of m = record { held = held_of m.parts; stopped = m.stopped }

@@ -66,16 +66,16 @@ abbrev pub linked_urls : List RecordParts → List Url
 linked_urls records = map url_of (filter (λ (r : RecordParts). is_linked r.status) records)
 
 -- own: where nothing is known nothing is linked
-abbrev pub linked_by : Condition → List Url → List Url
-linked_by conditions.Whole us = us
-linked_by (conditions.Stopped limit) us = us
-linked_by conditions.Lost us = []
+abbrev pub known_linked : Condition → List Url → List Url
+known_linked conditions.Whole us = us
+known_linked (conditions.Stopped limit) us = us
+known_linked conditions.Lost us = []
 
 abbrev pub seen_of : Imported → Seen
 seen_of i = record {
   loading = loading_by i.condition (loading_of i.maps i.loads i.records);
   urls = map url_of i.records;
-  linked = linked_by i.condition (linked_urls i.records);
+  linked = known_linked i.condition (linked_urls i.records);
 }
 
 -- ---- as a graph
@@ -108,11 +108,11 @@ graph_of i = record {
 }
 
 -- the URL of each id that is there
-abbrev pub urls_of : Imported → ℕ → List ℕ
-urls_of i m = if nat_lt m (length i.records) then (names (seen_of i)).name m else []
+abbrev pub urls_by_id : Imported → ℕ → List ℕ
+urls_by_id i m = if nat_lt m (length i.records) then (names (seen_of i)).name m else []
 
 -- what bodies ask of the code that imports: what is linked is there, by ids, and exports can be resolved from each id that is there
 pub record ImportsAreThere : Type 0 where
   pub linked : (i : Imported) → AreLinked (modules (seen_of i)) (linked (seen_of i))
-      → HasLinked (modules (seen_of i)) (linked (seen_of i)) (graph_of i) (urls_of i)
+      → HasLinked (modules (seen_of i)) (linked (seen_of i)) (graph_of i) (urls_by_id i)
   pub sound : (i : Imported) → AreAllSound (graph_of i)

@@ -24,6 +24,11 @@ pub record Seen : Type 0 where
   -- the modules that are linked
   pub linked : List Url
 
+-- the URLs of the records differ, and what is linked has a record
+pub record HaveIds (urls linked : List Url) : Type 0 where
+  pub apart : EachOnce same_url urls
+  pub have_ids : (u : Url) → has linked u ≡ true → has urls u ≡ true
+
 -- number i names the i-th of the URLs; each URL has a number
 abbrev pub names : Seen → Naming ℕ Url
 names s = numbering s.urls
@@ -43,11 +48,10 @@ host o = record { promises = renamed (names o.imports).name o.promises; errors =
 pub record Fits (o : Outer ℕ Seen) : Type 0 where
   pub modules : AreModules o.imports.linked o.imports.loading.entries
   pub host : FitsHost o.imports.linked o.imports.loading.entries (host o)
-  pub apart : EachOnce same_url o.imports.urls
-  pub have_ids : (u : Url) → has o.imports.linked u ≡ true → has o.imports.urls u ≡ true
+  pub ids : HaveIds o.imports.urls o.imports.linked
 
 -- ECMA-262, EvaluateImportCall, from a module by its number: no module gets a record, and none is linked
-pub record Begins
+pub record BeginsById
     (o : Outer ℕ Seen) (m : ℕ) (specifier : Text) (promise : ℕ) (end : Result (Unit {0}) Limit) (after : Outer ℕ Seen) : Type 0 where
   pub urls : after.imports.urls ≡ o.imports.urls
   pub linked : after.imports.linked ≡ o.imports.linked

@@ -24,7 +24,7 @@ use Rattle.esm_machine.specs.Arrivals.{urls_with}
 use Rattle.esm_machine.specs.Calls.{KeepsRecords}
 use Rattle.esm_machine.specs.Kept.{IsKept}
 use Rattle.esm_machine.specs.ModuleStore.{Imported, is_whole, seen_of}
-use Rattle.esm_machine.specs.Seen.{Seen, Begins, linked, modules, names}
+use Rattle.esm_machine.specs.Seen.{Seen, BeginsById, linked, modules, names}
 
 -- scopes are those of the modules that are seen, and only what is loaded has one
 pub record AreScopesIn (s : Seen) (e : Scopes) : Type 0 where
@@ -45,9 +45,9 @@ pub record ScopesStay : Type 0 where
       → KeepsRecords s after → AreScopesIn s e → AreScopesIn after e
   -- an import() begins
   pub begins : (o after : Outer ℕ Seen) (m : ℕ) (specifier : Text) (promise : ℕ) (end : Result (Unit {0}) Limit) (e : Scopes)
-      → Begins o m specifier promise end after → AreScopesIn o.imports e → AreScopesIn after.imports e
+      → BeginsById o m specifier promise end after → AreScopesIn o.imports e → AreScopesIn after.imports e
   -- bodies have written cells, and begun calls of import()
-  pub bodies : (s after : Seen) (e late : Scopes) → ChangedBy Begins s after → HaveSameScopes e late
+  pub bodies : (s after : Seen) (e late : Scopes) → ChangedBy BeginsById s after → HaveSameScopes e late
       → AreScopesOf (modules after) (linked after) late → AreScopesIn s e → AreScopesIn after late
   -- a fetch ends, with a record more or none
   pub fetches : (i new : Imported) (named : ℕ → Url) (promises : Numbered) (errors errors_after : Errors) (u : Url) (c : OutcomeView)

@@ -16,14 +16,14 @@ use Rattle.esm_world.specs.World.{World}
 use Rattle.esm_world.specs.Layers as layers
 use Rattle.esm_world.specs.Jobs as jobs
 use Rattle.esm_world.specs.Jobs.{Reacts, settle_promise, with_reaction, with_error, new_error}
-use Rattle.esm_machine.specs.Seen.{Seen, names, modules, Begins}
-use Rattle.esm_machine.specs.Held.{Held, EntryHeld, IsHalted, entry_by, state_of}
+use Rattle.esm_machine.specs.Seen.{Seen, names, modules, BeginsById}
+use Rattle.esm_machine.specs.Held.{Held, EntryHeld, IsHalted, renamed_entry, body_state}
 use Rattle.esm_machine.specs.Represents.{IsLive}
 
 -- ---- what is held, with another part
 
-abbrev pub with_entry : Held → EntryHeld → Held
-with_entry h e = record h { entry = e }
+abbrev pub with_entry_state : Held → EntryHeld → Held
+with_entry_state h e = record h { entry = e }
 
 abbrev pub with_promises : Held → Numbered → Held
 with_promises h ps = record h { promises = ps }
@@ -41,9 +41,9 @@ with_state h s =
     record h { seen = s.outer.imports; promises = s.outer.promises; errors = s.outer.errors; cells = s.cells; engine = s.engine }
 
 -- a world follows that is stood for; or one that this limit has stopped, whose log is held
-abbrev pub Leaves : Result (Unit {0}) Limit → (World → Type 0) → Held → Type 0
-Leaves (Ok done) To h = (after : World) × To after × IsLive h after
-Leaves (Err limit) To h = (after : World) × To after × IsHalted limit h.engine.log after
+abbrev pub LeavesHeld : Result (Unit {0}) Limit → (World → Type 0) → Held → Type 0
+LeavesHeld (Ok done) To h = (after : World) × To after × IsLive h after
+LeavesHeld (Err limit) To h = (after : World) × To after × IsHalted limit h.engine.log after
 
 -- ---- the steps of jobs
 
@@ -57,7 +57,7 @@ pub record StepsAreOfTheWorld : Type 0 where
       → settled w.promises p ≡ Some (renamed_settled (names h.seen).name how)
   -- the entry has ended, or failed
   pub entry : (h : Held) (w : World) (e : EntryHeld) → IsLive h w
-      → IsLive (with_entry h e) (jobs.with_entry w (entry_by (names h.seen).name e))
+      → IsLive (with_entry_state h e) (jobs.with_entry_state w (renamed_entry (names h.seen).name e))
   pub settles : (h : Held) (w : World) (p : ℕ) (how : Settled (Value ℕ)) → IsLive h w
       → IsLive (with_promises h (settle h.promises p how)) (settle_promise w p (renamed_settled (names h.seen).name how))
   pub registers : (h : Held) (w : World) (p : ℕ) (r : Reaction ℕ) → IsLive h w
@@ -71,5 +71,5 @@ pub record StepsAreOfTheWorld : Type 0 where
       → IsLive (with_linked h held) (layers.with_linked w linked)
   -- a body goes on behind its await
   pub resumes : (h : Held) (w : World) (m : ℕ) (how : Settled (Value ℕ)) (end : Result (Unit {0}) Limit) (s : State ℕ Seen) → IsLive h w
-      → ResumesBody nat_eq modules Begins (state_of h) m how end s
-      → Leaves end (Reacts w (Await ((names h.seen).name m)) (renamed_settled (names h.seen).name how)) (with_state h s)
+      → ResumesBody nat_eq modules BeginsById (body_state h) m how end s
+      → LeavesHeld end (Reacts w (Await ((names h.seen).name m)) (renamed_settled (names h.seen).name how)) (with_state h s)

@@ -1,7 +1,7 @@
 // The bodies of modules, as evaluation calls for them.
 ghost use Rattle.std.specs.Prelude.{◌≡◌};
 ghost use Rattle.esm_base.specs.declared.end.End.TheVariants as ends;
-ghost use Rattle.esm_machine.specs.Inner.Stops.{end_by, turn_end_by, turn_end_of};
+ghost use Rattle.esm_machine.specs.Inner.Stops.{eval_end_of, turn_end_by, turn_end_of};
 
 use crate::TurnEnd;
 use crate::laws::scopes_stay;
@@ -24,7 +24,7 @@ pub(crate) struct BodyHost {
 
 /// The same stop, as evaluation knows it.
 pub(crate) fn eval_end(stop: Stop) -> EvalEnd<Limit>
-    ensures { result ≡ end_by stop }
+    ensures { result ≡ eval_end_of stop }
 {
     match stop {
         Stop::Limit(limit) => EvalEnd::Stopped(limit),

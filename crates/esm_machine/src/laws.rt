@@ -1,5 +1,5 @@
 // Laws of the definitions, as functions without effect.
-ghost use Rattle.esm_body.specs.Importers.{IsLawful};
+ghost use Rattle.esm_body.specs.Importers.{ImportsAreLawful};
 ghost use Rattle.esm_machine.specs.Evaluating.{EvaluationIsOfTheWorld};
 ghost use Rattle.esm_machine.specs.Following.{BodiesAreOfTheWorld, LinkingIsOfTheWorld};
 ghost use Rattle.esm_machine.specs.Held.{LoadingIsOfTheWorld, OpensAsWorld, RecordsAreAdded};
@@ -10,12 +10,12 @@ ghost use Rattle.esm_machine.specs.ModuleStore.{ImportsAreThere};
 ghost use Rattle.esm_machine.specs.Kept.{RecordsShow};
 ghost use Rattle.esm_machine.specs.Represents.{OpeningRepresents, TellsTheRun, TurnsAreTaken};
 ghost use Rattle.esm_machine.specs.SeenScopes.{ScopesStay};
-ghost use Rattle.esm_machine.specs.Seen.{Begins, Fits, linked, modules};
+ghost use Rattle.esm_machine.specs.Seen.{BeginsById, Fits, linked, modules};
 
 /// What bodies rely on holds of what lies outside of them: what fits stays so by all that bodies do to promises and errors, and
 /// an `import()` has one outcome.
 pub fn imports_are_lawful()
-    ensures { IsLawful modules linked Fits Begins }
+    ensures { ImportsAreLawful modules linked Fits BeginsById }
 {}
 
 /// What is linked is there, by ids, and exports can be resolved from each id, whatever the records and the loads are.

@@ -9,9 +9,9 @@ ghost use Rattle.esm_link.specs.Realm.{fault_of};
 ghost use Rattle.esm_loads.specs.Loading as loading;
 ghost use Rattle.esm_world.specs.World.{World};
 ghost use Rattle.esm_machine.specs.Seen.{linked, modules, names};
-ghost use Rattle.esm_machine.specs.Inner.Parts.{AreInOrder, AreLive, AreReady, seen_in, with_fault};
+ghost use Rattle.esm_machine.specs.Inner.Parts.{AreInOrder, AreLive, TakeCalls, seen_in, with_fault};
 ghost use Rattle.esm_machine.specs.Linking.{HasIds, NamesRecords};
-ghost use Rattle.esm_machine.specs.Inner.Leads.{EvaluatesRoot, EvaluatesUnless, LinksAndEvaluates, LinksRoot, TellsFault};
+ghost use Rattle.esm_machine.specs.Inner.Leads.{EvaluatesModule, EvaluatesUnless, LinksAndEvaluates, LinksRoot, TellsFault};
 
 use crate::TurnEnd;
 use crate::host::{BodyHost, turn_end};
@@ -113,14 +113,14 @@ fn refusal(parts: &mut Parts, end: LinkEnd) -> Result<Option<Value>, Memory>
 ///
 /// ECMA-262, Link.
 fn link_root(parts: &mut Parts, root: ModuleId) -> Result<Option<Value>, Memory>
-    requires ready { AreReady parts.old }
+    requires ready { TakeCalls parts.old }
     requires loaded { (seen_in parts.old).loading.unlinked
         ((names (seen_in parts.old)).name root.0) ≡ true }
     ensures links { (w : World) → AreLive parts.old w
         → IfOk result (λ error. LinksRoot w ((names (seen_in parts.old)).name root.0) error parts.new) }
     ensures linked { result ≡ Ok None → linked (seen_in parts.new) root.0 ≡ true }
     ensures urls { OnOk result ((seen_in parts.new).urls ≡ (seen_in parts.old).urls) }
-    ensures ready { OnOk result (AreReady parts.new) }
+    ensures ready { OnOk result (TakeCalls parts.new) }
 {
     worlds_stay_sound();
     match parts
@@ -138,10 +138,10 @@ fn link_root(parts: &mut Parts, root: ModuleId) -> Result<Option<Value>, Memory>
 ///
 /// ECMA-262, Evaluate.
 fn evaluate_root(parts: &mut Parts, root: ModuleId) -> Result<PromiseId, TurnEnd>
-    requires ready { AreReady parts.old }
+    requires ready { TakeCalls parts.old }
     requires linked { linked (seen_in parts.old) root.0 ≡ true }
     ensures evaluates { (w : World) → AreLive parts.old w
-        → EvaluatesRoot w ((names (seen_in parts.old)).name root.0) result parts.new }
+        → EvaluatesModule w ((names (seen_in parts.old)).name root.0) result parts.new }
     ensures order { OnOk result (AreInOrder parts.new) }
 {
     hosts_may_evaluate::<BodyHost>();
@@ -157,7 +157,7 @@ fn evaluate_unless(
     root: ModuleId,
     error: Option<Value>,
 ) -> Result<Linked, TurnEnd>
-    requires ready { AreReady parts.old }
+    requires ready { TakeCalls parts.old }
     requires linked { error ≡ None → linked (seen_in parts.old) root.0 ≡ true }
     ensures comes { EvaluatesUnless parts.old root.0 error result parts.new }
     ensures order { OnOk result (AreInOrder parts.new) }
@@ -173,7 +173,7 @@ fn evaluate_unless(
 
 /// Links the root of a load that is complete, and evaluates it where it has no link fault.
 pub(crate) fn link_and_evaluate(parts: &mut Parts, load: usize) -> Result<Linked, TurnEnd>
-    requires ready { AreReady parts.old }
+    requires ready { TakeCalls parts.old }
     requires complete { is_some (loading.root_of_load (seen_in parts.old).loading load) ≡ true }
     ensures comes { (w : World) → AreLive parts.old w → LinksAndEvaluates w load result parts.new }
     ensures order { OnOk result (AreInOrder parts.new) }

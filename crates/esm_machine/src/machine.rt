@@ -6,7 +6,7 @@ ghost use Rattle.esm_base.specs.declared.end.End.TheVariants as ends;
 ghost use Rattle.esm_base.specs.Limits.{limit_name};
 ghost use Rattle.esm_base.specs.Urls.{is_usable, IsUsable};
 ghost use Rattle.esm_values.specs.Code.{value_of};
-ghost use Rattle.esm_world.specs.LastLine.{status_of};
+ghost use Rattle.esm_world.specs.LastLine.{exit_status};
 ghost use Rattle.esm_machine.specs.Held.{Failed, Held, opening_held};
 ghost use Rattle.esm_machine.specs.Represents.{IsEnded, IsLineBy, IsLineByStop, IsLineOf, MayTake, Represents, ShownBy, StoppedAs, TakesDelivery, TurnEnd as EndOf, asks_of, ending_by_stop, ending_of};
 ghost use Rattle.esm_machine.specs.Inner.Parts.{AreSound, KnowsBy};
@@ -106,7 +106,7 @@ fn live_line(parts: &Parts) -> Result<Text, Memory>
 /// The status of a run that no limit has stopped; none while an ask is open.
 fn live_status(parts: &Parts) -> Option<Status>
     requires { AreSound parts.now }
-    ensures { result ≡ option_map status_of (ending_by_stop None (held_of parts.now)) }
+    ensures { result ≡ option_map exit_status (ending_by_stop None (held_of parts.now)) }
 {
     if !parts.host.bodies.imports.asks().is_empty() {
         return None;
@@ -120,7 +120,7 @@ fn live_status(parts: &Parts) -> Option<Status>
 
 /// The status of a run that has stopped so.
 fn stopped_status(end: TurnEnd) -> Option<Status>
-    ensures { (h : Held) → result ≡ option_map status_of (ending_by_stop (Some end) h) }
+    ensures { (h : Held) → result ≡ option_map exit_status (ending_by_stop (Some end) h) }
 {
     match end {
         TurnEnd::Fault(_limit) => Some(Status::Limit),
@@ -259,7 +259,7 @@ impl Machine {
 
     /// The status of the run; none while an ask is open, and after memory ran out. It doesn't allocate.
     pub fn end(&self) -> Option<Status>
-        ensures state { result ≡ option_map status_of (ending_of (state_of self.now)) }
+        ensures state { result ≡ option_map exit_status (ending_of (state_of self.now)) }
         ensures known { is_some result ≡ is_some (ending_of (state_of self.now)) }
         ensures exactly { IsSome result ↔ IsEnded (state_of self.now) }
         ensures memory { (state_of self.now).stopped ≡ Some ends.Memory → result ≡ None }

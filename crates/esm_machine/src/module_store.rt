@@ -74,8 +74,8 @@ impl ExportGraph for ModuleStore {
 }
 
 impl Importer for ModuleStore {
-    ghost use Rattle.esm_machine.specs.Seen.{Begins, Fits, Seen, linked, modules};
-    ghost use Rattle.esm_machine.specs.ModuleStore.{seen_of, urls_of};
+    ghost use Rattle.esm_machine.specs.Seen.{BeginsById, Fits, Seen, linked, modules};
+    ghost use Rattle.esm_machine.specs.ModuleStore.{seen_of, urls_by_id};
     ghost use Rattle.esm_machine.specs.Inner.Importing.{imports_are_there};
     ghost use Rattle.esm_machine.specs.Inner.Lawful.{imports_are_lawful};
 
@@ -87,11 +87,11 @@ impl Importer for ModuleStore {
 
     ghost linked = { linked };
 
-    ghost urls = { urls_of };
+    ghost urls = { urls_by_id };
 
     ghost fits = { Fits };
 
-    ghost begins = { Begins };
+    ghost begins = { BeginsById };
 
     ghost has_linked = { imports_are_there.linked };
 

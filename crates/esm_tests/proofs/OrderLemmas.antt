@@ -5,7 +5,7 @@ use Rattle.std.specs.Prelude.{Option, Some, None, ◌||◌, bytes_eq}
 use Rattle.std.proofs.lemmas.Slice.Eq.{bytes_eq-Decides}
 use Rattle.esm_base.specs.Urls.{Url, has}
 use Rattle.esm_loads.specs.Loading.{Loading}
-use Rattle.esm_machine.specs.Represents.{TurnEnd, State, MayTake, MayTakeBy, asks_of, asks_by_stop}
+use Rattle.esm_machine.specs.Represents.{TurnEnd, MachineState, MayTake, MayTakeBy, asks_of, asks_by_stop}
 
 or_left : (a b : Bool) → a ≡ true → (a || b) ≡ true
 or_left true b h = refl
@@ -24,6 +24,6 @@ may_take_by : (stop : Option TurnEnd) (l : Loading) (url : Url) → has (asks_by
 may_take_by None l url there = there
 may_take_by (Some end) l url there = tt
 
-pub may_take : (m : State) (asks : List Url) (place : ℕ) (url copy : Url) → asks ≡ asks_of m → place < length asks → url ≡ get_or asks place url → copy ≡ url → MayTake m copy
+pub may_take : (m : MachineState) (asks : List Url) (place : ℕ) (url copy : Url) → asks ≡ asks_of m → place < length asks → url ≡ get_or asks place url → copy ≡ url → MayTake m copy
 may_take m asks place url copy same within is copied =
     may_take_by m.stopped m.held.seen.loading copy (subst (λ u. has (asks_of m) u ≡ true) (sym copied) (subst (λ us. has us url ≡ true) same (has_at asks place url within is)))

@@ -8,7 +8,7 @@ use Rattle.esm_promise.specs.Promises.{Promise, Pending, Done, Promises, Settled
 use Rattle.esm_promise.specs.Reactions.{Reaction}
 use Rattle.esm_body.specs.State.{Standing}
 use Rattle.esm_body.specs.Bodies.{Taken, take_by, take_standing}
-use Rattle.esm_world.specs.Awaits.{is_await, awaits_among, awaits_on, awaits_pending, awaits_in_jobs, awaits_of, standing_of, AreSettled}
+use Rattle.esm_world.specs.Awaits.{is_await, awaits_among, awaits_on, awaits_pending, awaits_in_jobs, awaits_of, standing_count, AreSettled}
 use Rattle.esm_world.proofs.Each.{joined}
 
 abbrev pub Queue : Type 0
@@ -101,24 +101,24 @@ module _ (m : Url) where
 
   -- ---- bodies that stand at one
 
-  pub standing_more : (ss ts : List (Standing Url)) → standing_of m (ss ++ ts) ≡ standing_of m ss + standing_of m ts
+  pub standing_more : (ss ts : List (Standing Url)) → standing_count m (ss ++ ts) ≡ standing_count m ss + standing_count m ts
   standing_more [] ts = omega arith
   standing_more (s ∷ ss) ts = let e = standing_more ss ts in omega (arith, e)
 
   abbrev taken_count : Option (Taken Url) → ℕ
   taken_count None = 0
-  taken_count (Some t) = cond (same_url t.standing.at m) 1 0 + standing_of m t.others
+  taken_count (Some t) = cond (same_url t.standing.at m) 1 0 + standing_count m t.others
 
-  pub take_count : (ss : List (Standing Url)) (x : Url) (t : Taken Url) → take_standing same_url ss x ≡ Some t → standing_of m ss ≡ cond (same_url t.standing.at m) 1 0 + standing_of m t.others
+  pub take_count : (ss : List (Standing Url)) (x : Url) (t : Taken Url) → take_standing same_url ss x ≡ Some t → standing_count m ss ≡ cond (same_url t.standing.at m) 1 0 + standing_count m t.others
   take_count [] x t e = cc
   take_count (s ∷ ss) x t e = by (same_url s.at x) (take_standing same_url ss x) (λ u. take_count ss x u) e
     where
-      by : (b : Bool) (o : Option (Taken Url)) → ((u : Taken Url) → o ≡ Some u → standing_of m ss ≡ cond (same_url u.standing.at m) 1 0 + standing_of m u.others) → take_by same_url b s ss o ≡ Some t
-          → cond (same_url s.at m) 1 0 + standing_of m ss ≡ cond (same_url t.standing.at m) 1 0 + standing_of m t.others
+      by : (b : Bool) (o : Option (Taken Url)) → ((u : Taken Url) → o ≡ Some u → standing_count m ss ≡ cond (same_url u.standing.at m) 1 0 + standing_count m u.others) → take_by same_url b s ss o ≡ Some t
+          → cond (same_url s.at m) 1 0 + standing_count m ss ≡ cond (same_url t.standing.at m) 1 0 + standing_count m t.others
       by true o later e = ap taken_count e
       by false None later e = cc
       by false (Some u) later e =
-          let h : cond (same_url u.standing.at m) 1 0 + (cond (same_url s.at m) 1 0 + standing_of m u.others) ≡ cond (same_url t.standing.at m) 1 0 + standing_of m t.others = ap taken_count e in
+          let h : cond (same_url u.standing.at m) 1 0 + (cond (same_url s.at m) 1 0 + standing_count m u.others) ≡ cond (same_url t.standing.at m) 1 0 + standing_count m t.others = ap taken_count e in
           let k = later u refl in omega (arith, h, k)
 
 -- the body that is taken is that of the module
@@ -139,11 +139,11 @@ pub taken_is : (ss : List (Standing Url)) (x : Url) (t : Taken Url) → take_sta
 taken_is ss x t e = same_text t.standing.at x (subst (λ o. taken_at x o) e (takes_own ss x))
 
 -- where a body of the module stands, one is taken
-pub takes_one : (ss : List (Standing Url)) (x : Url) → 1 ≤ standing_of x ss → (t : Taken Url) × (take_standing same_url ss x ≡ Some t)
+pub takes_one : (ss : List (Standing Url)) (x : Url) → 1 ≤ standing_count x ss → (t : Taken Url) × (take_standing same_url ss x ≡ Some t)
 takes_one [] x h = absurd (omega (arith, h))
 takes_one (s ∷ ss) x h = by (same_url s.at x) h (takes_one ss x)
   where
-    by : (b : Bool) → 1 ≤ cond b 1 0 + standing_of x ss → (1 ≤ standing_of x ss → (t : Taken Url) × (take_standing same_url ss x ≡ Some t)) → (t : Taken Url) × (take_by same_url b s ss (take_standing same_url ss x) ≡ Some t)
+    by : (b : Bool) → 1 ≤ cond b 1 0 + standing_count x ss → (1 ≤ standing_count x ss → (t : Taken Url) × (take_standing same_url ss x ≡ Some t)) → (t : Taken Url) × (take_by same_url b s ss (take_standing same_url ss x) ≡ Some t)
     by true h later = (record { standing = s; others = ss }, refl)
     by false h later = let l = later (omega (arith, h)) in (record { standing = l.0.standing; others = s ∷ l.0.others }, ap (take_by same_url false s ss) l.1)
 

@@ -18,11 +18,11 @@ use Rattle.esm_eval.specs.Nodes.{Call, CallAnswer}
 use Rattle.esm_body.specs.State.{Standing}
 use Rattle.esm_body.specs.Bodies.{Taken, await_on, take_standing}
 use Rattle.esm_world.specs.World.{World, modules_in, host_of, with_host}
-use Rattle.esm_world.specs.Layers.{Executes, evaluation, with_linked}
+use Rattle.esm_world.specs.Layers.{CallsForBody, evaluation, with_linked}
 use Rattle.esm_world.specs.Jobs.{EvaluatesLoad, Reacts, when_evaluated}
 use Rattle.esm_world.specs.Jobs.Reacts.{entry_linked, entry_fault, entry_refused, entry_ended, entry_threw, linked, fault, refused, evaluated, threw, body_ended, body_threw, resumes}
 use Rattle.esm_world.specs.Turn.{fetched}
-use Rattle.esm_world.specs.Awaits.{awaits_among, awaits_of, standing_of, AreSettled, HaveStanding, AwaitsHaveBodies, AwaitsKeepBodies}
+use Rattle.esm_world.specs.Awaits.{awaits_among, awaits_of, standing_count, AreSettled, HaveStanding, AwaitsHaveBodies, AwaitsKeepBodies}
 use Rattle.esm_world.proofs.AwaitCounts.{Queue, one, settle_count, register_count, make_count, fulfilled_count, next_count, standing_more, take_count, taken_is, takes_one, settle_jobs, register_jobs, make_jobs, fulfilled_jobs, next_jobs}
 use Rattle.esm_world.proofs.OuterKeeps.{Around, LastsOuter, KeepsAround, CallEnds, EndsSo, starts_around, runs_around, resumes_around}
 use Rattle.esm_world.proofs.FitLoading.{stored_promises}
@@ -152,11 +152,11 @@ call_holds {v = v} c h = ends_hold c.ends (around_holds v c.late c.keeps h)
 abbrev KeepsWorld : World → World → Type 0
 KeepsWorld v w = AwaitsHaveBodies v → AwaitsHaveBodies w
 
-executes_keeps : {v w : World} {c : Call Url} {r : Result (CallAnswer (Value Url) c) Limit} → Executes v c r w → KeepsWorld v w
-executes_keeps (Executes.start p) h = call_holds (starts_around same_url modules_in BeginsImport KeepsHost lasts_outer p) h
-executes_keeps {v} (Executes.run {s = s} p) h = around_holds (host_of v, v.engine.standing) (s.outer, s.engine.standing) (runs_around same_url modules_in BeginsImport KeepsHost lasts_outer p) h
+executes_keeps : {v w : World} {c : Call Url} {r : Result (CallAnswer (Value Url) c) Limit} → CallsForBody v c r w → KeepsWorld v w
+executes_keeps (CallsForBody.start p) h = call_holds (starts_around same_url modules_in BeginsImport KeepsHost lasts_outer p) h
+executes_keeps {v} (CallsForBody.run {s = s} p) h = around_holds (host_of v, v.engine.standing) (s.outer, s.engine.standing) (runs_around same_url modules_in BeginsImport KeepsHost lasts_outer p) h
 
-lasts : Lasts evaluation Executes KeepsWorld
+lasts : Lasts evaluation CallsForBody KeepsWorld
 lasts = record {
   same = λ w h. h;
   on = λ p q h. q (p h);
@@ -173,7 +173,7 @@ lasts = record {
 
 -- the same, where a job with this reaction runs
 pub record HaveStandingBut (r : Reaction Url) (ps : Queue) (standing : List (Standing Url)) : Type 0 where
-  pub bodies : (m : Url) → one m r + awaits_of m ps ≤ standing_of m standing
+  pub bodies : (m : Url) → one m r + awaits_of m ps ≤ standing_count m standing
   pub jobs : AreSettled ps ps.jobs
 
 without : {r : Reaction Url} {ps : Queue} {ss : List (Standing Url)} → HaveStandingBut r ps ss → HaveStanding ps ss
@@ -191,7 +191,7 @@ registers w r (Ok p) none h = held (register_keeps w.promises p r none) h
 registers w r (Err why) none h = h
 
 load_keeps : {v w : World} {s : ℕ} {a : Result ℕ Limit} → EvaluatesLoad v s a w → (r : Reaction Url) → ((m : Url) → one m r ≡ 0) → AwaitsHaveBodies v → AwaitsHaveBodies (when_evaluated w r a)
-load_keeps {v} {w} {a = a} p r none h = registers w r a none (evaluates_keeps evaluation Executes KeepsWorld lasts (with_linked v p.linked) p.root p.evaluates h)
+load_keeps {v} {w} {a = a} p r none h = registers w r a none (evaluates_keeps evaluation CallsForBody KeepsWorld lasts (with_linked v p.linked) p.root p.evaluates h)
 
 resumed : (m : Url) (ps : Queue) (ss : List (Standing Url)) (t : Taken Url) → take_standing same_url ss m ≡ Some t → HaveStandingBut (Await m) ps ss → HaveStanding ps t.others
 resumed m ps ss t e h = record {
@@ -214,8 +214,8 @@ reacts_keep {v} (fault p root f ls n l) h = held (settle_keeps v.promises p _) (
 reacts_keep {v} (refused p n) h = held (settle_keeps v.promises p _) (without h)
 reacts_keep {v} (evaluated p root n o) h = held (settle_keeps v.promises p _) (without h)
 reacts_keep {v} (threw p n) h = held (settle_keeps v.promises p _) (without h)
-reacts_keep (body_ended p) h = fulfills_keeps evaluation Executes KeepsWorld lasts p (without h)
-reacts_keep (body_threw p) h = rejects_keeps evaluation Executes KeepsWorld lasts p (without h)
+reacts_keep (body_ended p) h = fulfills_keeps evaluation CallsForBody KeepsWorld lasts p (without h)
+reacts_keep (body_threw p) h = rejects_keeps evaluation CallsForBody KeepsWorld lasts p (without h)
 reacts_keep {v} (resumes {m = m} p) h = call_holds (resumes_around same_url modules_in BeginsImport KeepsHost lasts_outer p) (resumed m v.promises v.engine.standing p.taken p.stands h)
 
 -- an answer to a pending request

@@ -22,10 +22,10 @@ use Rattle.esm_env.specs.Cells.{Reading as reading}
 use Rattle.esm_env.specs.Writing.{Writing, writing_of}
 use Rattle.esm_env.specs.Writing.{Writing as writing}
 use Rattle.esm_body.specs.Scopes.{Scope, in_scopes}
-use Rattle.esm_body.specs.Rest.{Part, Rest, count, end, more, whole, branch, fill_rest, fill_part}
+use Rattle.esm_body.specs.Rest.{Part, Rest, stmt_count, end, more, whole, branch, fill_rest, fill_part}
 use Rattle.esm_body.specs.Rest.{Part as part}
 use Rattle.esm_body.specs.Rest.{Use as use_of}
-use Rattle.esm_body.specs.State.{State, Standing, Importing, Answered, steps_by, line_by}
+use Rattle.esm_body.specs.State.{State, Standing, Importing, AnswerWith, steps_by, line_by}
 use Rattle.esm_body.specs.Acts.{Inner, Performs, AnswersAct, ReadsMemberOf, BeginsBy, read_answer, over_scopes, set_at, write_in, scope_write, module_write, modules_of}
 use Rattle.esm_body.specs.BodyRewriting.{RewrittenBody, On, Gives, Waits, RewritesBody, own_url, within, caught, wrote}
 use Rattle.esm_body.specs.BodyRewriting.RewritesBody.{begins_at, does, drops, sets, writes, throws, returns, prints, chooses, awaits, inner, inner_end, tries, tries_end}
@@ -37,7 +37,7 @@ use Rattle.esm_world.proofs.ExprFalls.{Counts, Calm, Falls, IsOther, Light, foll
 
 -- ---- how much of a body remains
 
-weight_whole : (V : Type 0) (ss : Stmts) → weight_rest {V = V} (whole ss) ≡ count ss
+weight_whole : (V : Type 0) (ss : Stmts) → weight_rest {V = V} (whole ss) ≡ stmt_count ss
 weight_whole V Stmts.nothing = refl
 weight_whole V (Stmts.first s ss) = let r = weight_whole V ss in omega (arith, r)
 
@@ -51,7 +51,7 @@ module _ {V : Type 0} (given : Term V) (one : size given ≡ 1) where
     same_part (part.Does u e) = ap (λ n. weight_use u + n) (same_size e)
     same_part (part.Stands u) = ap (λ n. weight_use u + n) one
     same_part (part.In scope rest) = ap suc (same_weight rest)
-    same_part (part.Tries rest x handler) = ap (λ n. suc (suc (n + count handler))) (same_weight rest)
+    same_part (part.Tries rest x handler) = ap (λ n. suc (suc (n + stmt_count handler))) (same_weight rest)
 
     pub same_weight : (r : Rest V) → weight_rest (fill_rest given r) ≡ weight_rest r
     same_weight end = refl
@@ -74,7 +74,7 @@ module _ {N I : Type 0} where
   abbrev pub counted : State N I → Counted N
   counted w = (w.engine.steps, waiting w)
 
-  abbrev pub told_counted : {A : Type 0} → Answered A (Inner N I) → Counted N
+  abbrev pub told_counted : {A : Type 0} → AnswerWith A (Inner N I) → Counted N
   told_counted t = counted t.1.state
 
   read_counted : (w : Inner N I) (x : List ℕ) (r : Reading (Value N)) → told_counted (read_answer w x r) ≡ counted w.state
@@ -96,12 +96,12 @@ module _ {N I : Type 0} where
   by_steps w after n r true e = absurd (let k : ◌≡◌ {A = Result (Unit {0}) Limit} (Ok r) (Err _) = ap (λ t. t.0) e in cc)
   by_steps w after n r false e = (ap (λ t. t.1.state.engine.steps) e, ap (λ t. waiting t.1.state) e)
 
-  pub import_steps : (w after : Inner N I) (t : Answered (Value N) (Inner N I)) (r : Value N) → (Ok r, after) ≡ t → steps_of t.1 ≡ steps_of w → steps_of after ≡ steps_of w
+  pub import_steps : (w after : Inner N I) (t : AnswerWith (Value N) (Inner N I)) (r : Value N) → (Ok r, after) ≡ t → steps_of t.1 ≡ steps_of w → steps_of after ≡ steps_of w
   import_steps w after t r e h = ap (λ t. steps_of t.1) e ∙ h
 
 module _ {N I : Type 0} (same : N → N → Bool) (modules : I → Modules N) (begins : Importing N I) where
   module _ (m : N) where
-    member_counted : (w : Inner N I) (v : Value N) (x : List ℕ) (t : Answered (Completion (Value N)) (Inner N I)) → ReadsMemberOf same modules begins m w v x t → told_counted t ≡ counted w.state
+    member_counted : (w : Inner N I) (v : Value N) (x : List ℕ) (t : AnswerWith (Completion (Value N)) (Inner N I)) → ReadsMemberOf same modules begins m w v x t → told_counted t ≡ counted w.state
     member_counted w Undefined x t p = ap told_counted p
     member_counted w (Truth b) x t p = ap told_counted p
     member_counted w (Text s) x t p = ap told_counted p
@@ -110,7 +110,7 @@ module _ {N I : Type 0} (same : N → N → Bool) (modules : I → Modules N) (b
     member_counted w (Namespace n) x t p = ap told_counted p.2 ∙ read_counted w x p.0
     member_counted w (Promise i) x t p = ap told_counted p
 
-    pub act_counted : (w : Inner N I) (a : Act (Value N)) (t : Answered (AnswerTo a) (Inner N I)) → IsOther a → AnswersAct same modules begins m w a t → told_counted t ≡ counted w.state
+    pub act_counted : (w : Inner N I) (a : Act (Value N)) (t : AnswerWith (AnswerTo a) (Inner N I)) → IsOther a → AnswersAct same modules begins m w a t → told_counted t ≡ counted w.state
     act_counted w (act.Read x) t o p = ap told_counted p.2 ∙ read_counted w x p.0
     act_counted w (act.Member of x) t o p = member_counted w of x t p
     act_counted w (act.Display of) t o p = ap told_counted p.2
@@ -119,7 +119,7 @@ module _ {N I : Type 0} (same : N → N → Bool) (modules : I → Modules N) (b
     act_counted w (act.Step n) t o p = absurd o
     act_counted w (act.Import of) t o p = absurd o
 
-    pub import_counted : (w : Inner N I) (text : Option (List ℕ)) (t : Answered (Value N) (Inner N I)) → BeginsBy same modules begins m w text t → steps_of t.1 ≡ steps_of w
+    pub import_counted : (w : Inner N I) (text : Option (List ℕ)) (t : AnswerWith (Value N) (Inner N I)) → BeginsBy same modules begins m w text t → steps_of t.1 ≡ steps_of w
     import_counted w None t p = ap (λ t. steps_of t.1) p
     import_counted w (Some text) t p = ap (λ t. steps_of t.1) p.3
 
@@ -179,7 +179,7 @@ module _ {N I : Type 0} (same : N → N → Bool) (modules : I → Modules N) (b
     within_falls f s t n e d v w (Waits u r) p = (p.0, let x = e r in let y = p.1 in omega (arith, x, y, d))
 
     -- of what has this weight in the block of a `try`
-    caught_falls : (x : Option (List ℕ)) (handler : Stmts) (rest : Rest (Value N)) (s : ℕ) (v w : Inner N I) (move : RewrittenBody (Value N) Limit) → FallsBody s v move w → FallsBody (suc (suc (s + count handler)) + weight_rest rest) v (caught x handler rest move) w
+    caught_falls : (x : Option (List ℕ)) (handler : Stmts) (rest : Rest (Value N)) (s : ℕ) (v w : Inner N I) (move : RewrittenBody (Value N) Limit) → FallsBody s v move w → FallsBody (suc (suc (s + stmt_count handler)) + weight_rest rest) v (caught x handler rest move) w
     caught_falls x handler rest s v w (On (comes.Goes r)) p = (p.0, λ e. let y = p.1 e in omega (arith, y))
     caught_falls x handler rest s v w (On (comes.Leaves u)) p = (p, λ e. let y = weight_whole (Value N) handler in omega (arith, y))
     caught_falls x handler rest s v w (On (comes.Calls f vs r)) p = p
@@ -187,7 +187,7 @@ module _ {N I : Type 0} (same : N → N → Bool) (modules : I → Modules N) (b
     caught_falls x handler rest s v w (Gives u) p = p
     caught_falls x handler rest s v w (Waits u r) p = (p.0, let y = p.1 in omega (arith, y))
 
-    branch_lighter : (b : Bool) (ss others : Stmts) → weight_part (branch (values same) b ss others) < suc (count ss + count others) + 1
+    branch_lighter : (b : Bool) (ss others : Stmts) → weight_part (branch (values same) b ss others) < suc (stmt_count ss + stmt_count others) + 1
     branch_lighter true ss others = let e = weight_whole (Value N) ss in omega (arith, e)
     branch_lighter false ss others = let e = weight_whole (Value N) others in omega (arith, e)
 

@@ -22,7 +22,7 @@ use Rattle.esm_env.specs.Writing.{Writing as writing}
 use Rattle.esm_tree.specs.Syntax.{Stmts}
 use Rattle.esm_body.specs.Scopes.{Scope, in_scopes}
 use Rattle.esm_body.specs.Rest.{Rest}
-use Rattle.esm_body.specs.State.{Event, Begins, Ends, Throws, State, Importing, Answered, stop, steps_by, add_line, line_by, note, note_by, event_behind, event_line}
+use Rattle.esm_body.specs.State.{Event, Begins, Ends, Throws, State, Importing, AnswerWith, stop, steps_by, add_line, line_by, note, note_by, event_behind, event_line}
 use Rattle.esm_body.specs.Acts.{Inner, Performs, AnswersAct, ReadsMemberOf, BeginsBy, read_answer, import_answer, with_outer, with_promise, set_at, write_in, scope_write, module_write, modules_of}
 use Rattle.esm_body.specs.BodyRewriting.{RewrittenBody, On, Gives, Waits, RewritesBody, own_url, within, caught, wrote}
 use Rattle.esm_body.specs.BodyRewriting.RewritesBody.{begins_at, does, drops, sets, writes, throws, returns, prints, chooses, awaits, inner, inner_end, tries, tries_end}
@@ -57,10 +57,10 @@ module _ {N I : Type 0} (stop_of : I → Option Limit) where
   abbrev pub IsLive : State N I → Type 0
   IsLive w = limit_at w ≡ None
 
-  abbrev OfTold : {A : Type 0} → Answered A (State N I) → Type 0
+  abbrev OfTold : {A : Type 0} → AnswerWith A (State N I) → Type 0
   OfTold t = limit_at t.1 ≡ limit_by t.0
 
-  abbrev OfInner : {A : Type 0} → Answered A (Inner N I) → Type 0
+  abbrev OfInner : {A : Type 0} → AnswerWith A (Inner N I) → Type 0
   OfInner t = limit_at t.1.state ≡ limit_by t.0
 
   stopped_lives : (w : State N I) (limit : Limit) → IsLive w → limit_at (stop w limit) ≡ Some limit
@@ -104,7 +104,7 @@ module _ {N I : Type 0} (stop_of : I → Option Limit) where
   segment_lives url m p (Awaiting v rest) w h = h
   segment_lives url m p (Stopped why) w h = h
 
-  abbrev OfRan : Option (Answered (Ran (Value N)) (State N I)) → Type 0
+  abbrev OfRan : Option (AnswerWith (Ran (Value N)) (State N I)) → Type 0
   OfRan None = Unit {0}
   OfRan (Some t) = OfTold t
 
@@ -124,7 +124,7 @@ module _ {N I : Type 0} (stop_of : I → Option Limit) where
 
   module _ (begins : Importing N I) (k : LivesOn begins) (same : N → N → Bool) (modules : I → Modules N) where
     module _ (m : N) where
-      of_told : {A : Type 0} {t u : Answered A (Inner N I)} → t ≡ u → OfInner u → OfInner t
+      of_told : {A : Type 0} {t u : AnswerWith A (Inner N I)} → t ≡ u → OfInner u → OfInner t
       of_told e h = subst (λ t. OfInner t) (sym e) h
 
       read_lives : (w : Inner N I) (x : List ℕ) (r : Reading (Value N)) → IsLive w.state → OfInner (read_answer w x r)
@@ -132,7 +132,7 @@ module _ {N I : Type 0} (stop_of : I → Option Limit) where
       read_lives w x reading.Unset l = l
       read_lives w x reading.Undeclared l = l
 
-      member_lives : (w : Inner N I) (v : Value N) (x : List ℕ) (t : Answered (Completion (Value N)) (Inner N I)) → ReadsMemberOf same modules begins m w v x t → IsLive w.state → OfInner t
+      member_lives : (w : Inner N I) (v : Value N) (x : List ℕ) (t : AnswerWith (Completion (Value N)) (Inner N I)) → ReadsMemberOf same modules begins m w v x t → IsLive w.state → OfInner t
       member_lives w Undefined x t p l = of_told p l
       member_lives w (Truth b) x t p l = of_told p l
       member_lives w (Text s) x t p l = of_told p l
@@ -146,11 +146,11 @@ module _ {N I : Type 0} (stop_of : I → Option Limit) where
       import_lives w text p (Ok done) after b l = ap (λ o. option_or o w.state.engine.stopped) (k.begin b) ∙ second_none (stop_of w.state.outer.imports) w.state.engine.stopped l
       import_lives w text p (Err limit) after b l = ap (λ o. option_or o w.state.engine.stopped) (k.begin b)
 
-      begin_lives : (w : Inner N I) (text : Option (List ℕ)) (t : Answered (Value N) (Inner N I)) → BeginsBy same modules begins m w text t → IsLive w.state → OfInner t
+      begin_lives : (w : Inner N I) (text : Option (List ℕ)) (t : AnswerWith (Value N) (Inner N I)) → BeginsBy same modules begins m w text t → IsLive w.state → OfInner t
       begin_lives w None t p l = of_told p l
       begin_lives w (Some text) t p l = of_told p.3 (import_lives w text (next_promise w.state.outer.promises) p.0 p.1 p.2 l)
 
-      tells_lives : (w : Inner N I) (a : Act (Value N)) (t : Answered (AnswerTo a) (Inner N I)) → AnswersAct same modules begins m w a t → IsLive w.state → OfInner t
+      tells_lives : (w : Inner N I) (a : Act (Value N)) (t : AnswerWith (AnswerTo a) (Inner N I)) → AnswersAct same modules begins m w a t → IsLive w.state → OfInner t
       tells_lives w (act.Read x) t p l = of_told p.2 (read_lives w x p.0 l)
       tells_lives w (act.Member of x) t p l = member_lives w of x t p l
       tells_lives w (act.Display of) t p l = of_told p.2 l
@@ -271,13 +271,13 @@ module _ {N I : Type 0} (stop_of : I → Option Limit) where
     runs_live {m = m} {cs = cs} (segment.goes {mid = mid} move p e q) l = runs_live q (next_is e (next_lives m cs move mid (moves_live m p l)))
     runs_live {m = m} {cs = cs} (segment.over {mid = mid} move p e) l = next_is e (next_lives m cs move mid (moves_live m p l))
 
-    told_is : {A : Type 0} {t u : Answered A (State N I)} → t ≡ u → OfTold t → OfTold u
+    told_is : {A : Type 0} {t u : AnswerWith A (State N I)} → t ≡ u → OfTold t → OfTold u
     told_is e h = subst (λ t. OfTold t) e h
 
-    ran_is : {o : Option (Answered (Ran (Value N)) (State N I))} {t : Answered (Ran (Value N)) (State N I)} → o ≡ Some t → OfRan o → OfTold t
+    ran_is : {o : Option (AnswerWith (Ran (Value N)) (State N I))} {t : AnswerWith (Ran (Value N)) (State N I)} → o ≡ Some t → OfRan o → OfTold t
     ran_is e h = subst (λ o. OfRan o) e h
 
-    begun_lives : (v : State N I) (m : N) {t : Answered (Unit {0}) (State N I)} → note (url_in same modules begins v) v (Begins m) ≡ t → IsLive v → OfTold t
+    begun_lives : (v : State N I) (m : N) {t : AnswerWith (Unit {0}) (State N I)} → note (url_in same modules begins v) v (Begins m) ≡ t → IsLive v → OfTold t
     begun_lives v m e l = told_is e (note_lives (url_in same modules begins v) v (Begins m) l)
 
     pub starts_body_lives : {v : State N I} {m : N} {done : ℕ} {a : Result (Unit {0}) Limit} {w : State N I} → StartsBody same modules begins v m done a w → IsLive v → limit_at w ≡ limit_by a

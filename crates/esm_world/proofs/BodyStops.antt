@@ -18,7 +18,7 @@ use Rattle.esm_env.specs.Cells.{Reading}
 use Rattle.esm_env.specs.Cells.{Reading as reading}
 use Rattle.esm_body.specs.Rest.{Rest}
 use Rattle.esm_tree.specs.Syntax.{Stmts}
-use Rattle.esm_body.specs.State.{Event, Begins, Ends, Throws, State, Importing, Answered, stop, steps_by, add_line, line_by, note, note_by, event_behind, event_line}
+use Rattle.esm_body.specs.State.{Event, Begins, Ends, Throws, State, Importing, AnswerWith, stop, steps_by, add_line, line_by, note, note_by, event_behind, event_line}
 use Rattle.esm_body.specs.Acts.{Inner, Performs, AnswersAct, ReadsMemberOf, BeginsBy, read_answer, import_answer, with_outer, with_promise, modules_of}
 use Rattle.esm_body.specs.BodyRewriting.{RewrittenBody, On, Gives, Waits, RewritesBody, own_url, within, caught, wrote}
 use Rattle.esm_body.specs.BodyRewriting.RewritesBody.{begins_at, does, drops, sets, writes, throws, returns, prints, chooses, awaits, inner, inner_end, tries, tries_end}
@@ -38,10 +38,10 @@ module _ {N I : Type 0} (P : State N I → Type 0) where
   StopsTold (Ok a) w = Unit {0}
   StopsTold (Err limit) w = P w
 
-  abbrev OfTold : {A : Type 0} → Answered A (State N I) → Type 0
+  abbrev OfTold : {A : Type 0} → AnswerWith A (State N I) → Type 0
   OfTold t = StopsTold t.0 t.1
 
-  abbrev OfInner : {A : Type 0} → Answered A (Inner N I) → Type 0
+  abbrev OfInner : {A : Type 0} → AnswerWith A (Inner N I) → Type 0
   OfInner t = StopsTold t.0 t.1.state
 
 module _ {N I : Type 0} (begins : Importing N I) (P : State N I → Type 0) (k : StopsState begins P) where
@@ -83,7 +83,7 @@ module _ {N I : Type 0} (begins : Importing N I) (P : State N I → Type 0) (k :
   segment_stop url m p (Awaiting v rest) w h = tt
   segment_stop url m p (Stopped why) w h = h
 
-  abbrev OfRan : Option (Answered (Ran (Value N)) (State N I)) → Type 0
+  abbrev OfRan : Option (AnswerWith (Ran (Value N)) (State N I)) → Type 0
   OfRan None = Unit {0}
   OfRan (Some t) = OfTold P t
 
@@ -99,7 +99,7 @@ module _ {N I : Type 0} (begins : Importing N I) (P : State N I → Type 0) (k :
 
   module _ (same : N → N → Bool) (modules : I → Modules N) where
     module _ (m : N) where
-      of_told : {A : Type 0} {t u : Answered A (Inner N I)} → t ≡ u → OfInner P u → OfInner P t
+      of_told : {A : Type 0} {t u : AnswerWith A (Inner N I)} → t ≡ u → OfInner P u → OfInner P t
       of_told e h = subst (λ t. OfInner P t) (sym e) h
 
       read_stop : (w : Inner N I) (x : List ℕ) (r : Reading (Value N)) → OfInner P (read_answer w x r)
@@ -107,7 +107,7 @@ module _ {N I : Type 0} (begins : Importing N I) (P : State N I → Type 0) (k :
       read_stop w x reading.Unset = tt
       read_stop w x reading.Undeclared = tt
 
-      member_stop : (w : Inner N I) (v : Value N) (x : List ℕ) (t : Answered (Completion (Value N)) (Inner N I)) → ReadsMemberOf same modules begins m w v x t → OfInner P t
+      member_stop : (w : Inner N I) (v : Value N) (x : List ℕ) (t : AnswerWith (Completion (Value N)) (Inner N I)) → ReadsMemberOf same modules begins m w v x t → OfInner P t
       member_stop w Undefined x t p = of_told p tt
       member_stop w (Truth b) x t p = of_told p tt
       member_stop w (Text s) x t p = of_told p tt
@@ -120,11 +120,11 @@ module _ {N I : Type 0} (begins : Importing N I) (P : State N I → Type 0) (k :
       import_stop w text p (Ok done) after b = tt
       import_stop w text p (Err limit) after b = k.begin b w.state
 
-      begin_stop : (w : Inner N I) (text : Option (List ℕ)) (t : Answered (Value N) (Inner N I)) → BeginsBy same modules begins m w text t → OfInner P t
+      begin_stop : (w : Inner N I) (text : Option (List ℕ)) (t : AnswerWith (Value N) (Inner N I)) → BeginsBy same modules begins m w text t → OfInner P t
       begin_stop w None t p = of_told p tt
       begin_stop w (Some text) t p = of_told p.3 (import_stop w text (next_promise w.state.outer.promises) p.0 p.1 p.2)
 
-      tells_stop : (w : Inner N I) (a : Act (Value N)) (t : Answered (AnswerTo a) (Inner N I)) → AnswersAct same modules begins m w a t → OfInner P t
+      tells_stop : (w : Inner N I) (a : Act (Value N)) (t : AnswerWith (AnswerTo a) (Inner N I)) → AnswersAct same modules begins m w a t → OfInner P t
       tells_stop w (act.Read x) t p = of_told p.2 (read_stop w x p.0)
       tells_stop w (act.Member of x) t p = member_stop w of x t p
       tells_stop w (act.Display of) t p = of_told p.2 tt
@@ -219,10 +219,10 @@ module _ {N I : Type 0} (begins : Importing N I) (P : State N I → Type 0) (k :
     runs_stop (segment.goes move p e q) = runs_stop q
     runs_stop {m = m} {cs = cs} (segment.over {mid = mid} move p e) = next_is e (next_stop m cs move mid (moves_stop m p))
 
-    told_is : {A : Type 0} {t u : Answered A (State N I)} → t ≡ u → OfTold P t → OfTold P u
+    told_is : {A : Type 0} {t u : AnswerWith A (State N I)} → t ≡ u → OfTold P t → OfTold P u
     told_is e h = subst (λ t. OfTold P t) e h
 
-    ran_is : {o : Option (Answered (Ran (Value N)) (State N I))} {t : Answered (Ran (Value N)) (State N I)} → o ≡ Some t → OfRan o → OfTold P t
+    ran_is : {o : Option (AnswerWith (Ran (Value N)) (State N I))} {t : AnswerWith (Ran (Value N)) (State N I)} → o ≡ Some t → OfRan o → OfTold P t
     ran_is e h = subst (λ o. OfRan o) e h
 
     pub starts_body_stop : {v : State N I} {m : N} {done : ℕ} {a : Result (Unit {0}) Limit} {w : State N I} → StartsBody same modules begins v m done a w → StopsTold P a w

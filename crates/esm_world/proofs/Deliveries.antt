@@ -20,7 +20,7 @@ use Rattle.esm_loads.specs.Laws.{IsOrderly}
 use Rattle.esm_loads.proofs.Orderly.{put_own, put_other, stays_orderly}
 use Rattle.esm_world.specs.World.{World, host_of, opening, stopped}
 use Rattle.esm_world.specs.Turn.{Turn, fetched}
-use Rattle.esm_world.specs.LastLine.{ending_by, status_of}
+use Rattle.esm_world.specs.LastLine.{ending_by, exit_status}
 use Rattle.esm_world.specs.Run.{Runs, asks, ending, Shown, StandardRun}
 use Rattle.esm_ast.specs.Deliveries.{Delivery, asks_by}
 use Rattle.esm_world.specs.Laws.{urls_of}
@@ -228,12 +228,12 @@ all_in ds w after v none r e h = by (cases (is_fetching (after.loading.entries v
     by (inr g) = inr (fell (runs_deliver ds w after v r e g))
 
 -- where the status isn't that of a limit, no limit has stopped
-unlimited : (w : World) → option_map status_of (ending w) ≢ Some statuses.Limit → stopped w ≡ None
+unlimited : (w : World) → option_map exit_status (ending w) ≢ Some statuses.Limit → stopped w ≡ None
 unlimited w n = by (stopped w) refl
   where
     by : (s : Option Limit) → stopped w ≡ s → stopped w ≡ None
     by None e = e
-    by (Some l) e = absurd (n (ap (λ s. option_map status_of (ending_by s (asks w) w.entry)) e))
+    by (Some l) e = absurd (n (ap (λ s. option_map exit_status (ending_by s (asks w) w.entry)) e))
 
 -- ---- the laws
 

@@ -19,7 +19,7 @@ use Rattle.esm_loads.specs.ImportCall.Imports.{limit, unresolved, asks, answers}
 use Rattle.esm_eval.specs.Nodes.{Call, CallAnswer}
 use Rattle.esm_body.specs.Bodies.{await_on}
 use Rattle.esm_world.specs.World.{World, modules_in, host_of, with_host}
-use Rattle.esm_world.specs.Layers.{Executes, evaluation, with_linked}
+use Rattle.esm_world.specs.Layers.{CallsForBody, evaluation, with_linked}
 use Rattle.esm_world.specs.Jobs.{EvaluatesLoad, Reacts, when_evaluated}
 use Rattle.esm_world.specs.Jobs.Reacts.{entry_linked, entry_fault, entry_refused, entry_ended, entry_threw, linked, fault, refused, evaluated, threw, body_ended, body_threw, resumes}
 use Rattle.esm_world.specs.Turn.{fetched}
@@ -176,11 +176,11 @@ module _ (Q : ℕ → Type 0) where
     loads : LoadsAre v.promises → LoadsAre w.promises
     linked : w.linked ≡ v.linked
 
-  executes_keeps : {v w : World} {c : Call Url} {r : Result (CallAnswer (Value Url) c) Limit} → Executes v c r w → KeepsWorld v w
-  executes_keeps (Executes.start f) = record { loads = λ h. call_keeps (starts_around same_url modules_in BeginsImport KeepsHost lasts_outer f) h; linked = refl }
-  executes_keeps (Executes.run f) = record { loads = λ h. (runs_around same_url modules_in BeginsImport KeepsHost lasts_outer f).outer h; linked = refl }
+  executes_keeps : {v w : World} {c : Call Url} {r : Result (CallAnswer (Value Url) c) Limit} → CallsForBody v c r w → KeepsWorld v w
+  executes_keeps (CallsForBody.start f) = record { loads = λ h. call_keeps (starts_around same_url modules_in BeginsImport KeepsHost lasts_outer f) h; linked = refl }
+  executes_keeps (CallsForBody.run f) = record { loads = λ h. (runs_around same_url modules_in BeginsImport KeepsHost lasts_outer f).outer h; linked = refl }
 
-  lasts : Lasts evaluation Executes KeepsWorld
+  lasts : Lasts evaluation CallsForBody KeepsWorld
   lasts = record {
     same = λ w. record { loads = λ h. h; linked = refl };
     on = λ f g. record { loads = λ h. g.loads (f.loads h); linked = g.linked ∙ f.linked };
@@ -196,7 +196,7 @@ module _ (Q : ℕ → Type 0) where
   -- ---- jobs
 
   evaluated_keeps : {v w : World} {s : ℕ} {a : Result ℕ Limit} (f : EvaluatesLoad v s a w) → KeepsWorld (with_linked v f.linked) w
-  evaluated_keeps {v} f = evaluates_keeps evaluation Executes KeepsWorld lasts (with_linked v f.linked) f.root f.evaluates
+  evaluated_keeps {v} f = evaluates_keeps evaluation CallsForBody KeepsWorld lasts (with_linked v f.linked) f.root f.evaluates
 
   registers : (w : World) (r : Reaction Url) (a : Result ℕ Limit) → OfLoad r → LoadsAre w.promises → LoadsAre (when_evaluated w r a).promises
   registers w r (Ok q) k h = registered w.promises q r k h
@@ -218,8 +218,8 @@ module _ (Q : ℕ → Type 0) where
   reacts_keep {v} (refused q e) n h = settled v.promises q _ h
   reacts_keep {v} (evaluated q root e o) n h = settled v.promises q _ h
   reacts_keep {v} (threw q e) n h = settled v.promises q _ h
-  reacts_keep (body_ended f) n h = (fulfills_keeps evaluation Executes KeepsWorld lasts f).loads h
-  reacts_keep (body_threw f) n h = (rejects_keeps evaluation Executes KeepsWorld lasts f).loads h
+  reacts_keep (body_ended f) n h = (fulfills_keeps evaluation CallsForBody KeepsWorld lasts f).loads h
+  reacts_keep (body_threw f) n h = (rejects_keeps evaluation CallsForBody KeepsWorld lasts f).loads h
   reacts_keep (resumes f) n h = call_keeps (resumes_around same_url modules_in BeginsImport KeepsHost lasts_outer f) h
 
 -- ---- linked roots

@@ -20,7 +20,7 @@ use Rattle.esm_env.specs.Writing.{Writing, writing_of}
 use Rattle.esm_env.specs.Writing.{Writing as writing}
 use Rattle.esm_body.specs.Scopes.{Scope, in_scopes}
 use Rattle.esm_body.specs.Rest.{Rest}
-use Rattle.esm_body.specs.State.{Event, Begins, Ends, Throws, State, Importing, Answered, take_steps, steps_by, add_line, line_by, note, note_by, event_behind, event_line}
+use Rattle.esm_body.specs.State.{Event, Begins, Ends, Throws, State, Importing, AnswerWith, take_steps, steps_by, add_line, line_by, note, note_by, event_behind, event_line}
 use Rattle.esm_body.specs.Acts.{Inner, Performs, AnswersAct, ReadsMemberOf, BeginsBy, read_answer, set_at, write_in, scope_write, module_write, modules_of}
 use Rattle.esm_body.specs.BodyRewriting.{RewrittenBody, On, Gives, Waits, RewritesBody, own_url}
 use Rattle.esm_body.specs.BodyRewriting.RewritesBody.{begins_at, does, drops, sets, writes, throws, returns, prints, chooses, awaits, inner, inner_end, tries, tries_end}
@@ -43,10 +43,10 @@ module _ {N I : Type 0} where
   abbrev seen : State N I → Events N
   seen w = w.engine.events
 
-  abbrev told_seen : {A : Type 0} → Answered A (State N I) → Events N
+  abbrev told_seen : {A : Type 0} → AnswerWith A (State N I) → Events N
   told_seen t = seen t.1
 
-  abbrev inner_seen : {A : Type 0} → Answered A (Inner N I) → Events N
+  abbrev inner_seen : {A : Type 0} → AnswerWith A (Inner N I) → Events N
   inner_seen t = seen t.1.state
 
   by_steps : (w : State N I) (n : ℕ) (b : Bool) → told_seen (steps_by b w n) ≡ seen w
@@ -82,10 +82,10 @@ module _ {N I : Type 0} (same : N → N → Bool) (modules : I → Modules N) (b
   KeepInner v w = K (seen v.state) (seen w.state)
 
   module _ (m : N) where
-    by_told : {A : Type 0} (w : Inner N I) {t u : Answered A (Inner N I)} → t ≡ u → inner_seen u ≡ seen w.state → K (seen w.state) (inner_seen t)
+    by_told : {A : Type 0} (w : Inner N I) {t u : AnswerWith A (Inner N I)} → t ≡ u → inner_seen u ≡ seen w.state → K (seen w.state) (inner_seen t)
     by_told w e f = kept (ap (λ t. inner_seen t) e ∙ f)
 
-    member_keeps : (w : Inner N I) (v : Value N) (x : List ℕ) (t : Answered (Completion (Value N)) (Inner N I)) → ReadsMemberOf same modules begins m w v x t → K (seen w.state) (inner_seen t)
+    member_keeps : (w : Inner N I) (v : Value N) (x : List ℕ) (t : AnswerWith (Completion (Value N)) (Inner N I)) → ReadsMemberOf same modules begins m w v x t → K (seen w.state) (inner_seen t)
     member_keeps w Undefined x t p = by_told w p refl
     member_keeps w (Truth b) x t p = by_told w p refl
     member_keeps w (Text s) x t p = by_told w p refl
@@ -94,11 +94,11 @@ module _ {N I : Type 0} (same : N → N → Bool) (modules : I → Modules N) (b
     member_keeps w (Namespace n) x t p = by_told w p.2 (read_keeps w x p.0)
     member_keeps w (Promise i) x t p = by_told w p refl
 
-    begin_keeps : (w : Inner N I) (text : Option (List ℕ)) (t : Answered (Value N) (Inner N I)) → BeginsBy same modules begins m w text t → K (seen w.state) (inner_seen t)
+    begin_keeps : (w : Inner N I) (text : Option (List ℕ)) (t : AnswerWith (Value N) (Inner N I)) → BeginsBy same modules begins m w text t → K (seen w.state) (inner_seen t)
     begin_keeps w None t p = by_told w p refl
     begin_keeps w (Some text) t p = ap (λ t. inner_seen t) p.3
 
-    tells_keeps : (w : Inner N I) (a : Act (Value N)) (t : Answered (AnswerTo a) (Inner N I)) → AnswersAct same modules begins m w a t → K (seen w.state) (inner_seen t)
+    tells_keeps : (w : Inner N I) (a : Act (Value N)) (t : AnswerWith (AnswerTo a) (Inner N I)) → AnswersAct same modules begins m w a t → K (seen w.state) (inner_seen t)
     tells_keeps w (act.Read x) t p = by_told w p.2 (read_keeps w x p.0)
     tells_keeps w (act.Member of x) t p = member_keeps w of x t p
     tells_keeps w (act.Display of) t p = by_told w p.2 refl
@@ -207,7 +207,7 @@ module _ {N I : Type 0} (same : N → N → Bool) (modules : I → Modules N) (b
     segment_are url m p (Awaiting v rest) w k h = h
     segment_are url m p (Stopped why) w k h = h
 
-    abbrev AreRan : Option (Answered (Ran (Value N)) (State N I)) → Type 0
+    abbrev AreRan : Option (AnswerWith (Ran (Value N)) (State N I)) → Type 0
     AreRan None = Unit {0}
     AreRan (Some t) = Are (told_seen t)
 
@@ -221,7 +221,7 @@ module _ {N I : Type 0} (same : N → N → Bool) (modules : I → Modules N) (b
     body_are url m (Awaiting v rest) w k h = tt
     body_are url m (Stopped why) w k h = h
 
-    begun_are : (w : State N I) (m : N) {t : Answered (Unit {0}) (State N I)} → note (url_in same modules begins w) w (Begins m) ≡ t → P m → Are (seen w) → Are (told_seen t)
+    begun_are : (w : State N I) (m : N) {t : AnswerWith (Unit {0}) (State N I)} → note (url_in same modules begins w) w (Begins m) ≡ t → P m → Are (seen w) → Are (told_seen t)
     begun_are w m e k h = subst (λ t. Are (told_seen t)) e (note_are (url_in same modules begins w) w (Begins m) k h)
 
     pub starts_events : {v : State N I} {m : N} {done : ℕ} {a : Result (Unit {0}) Limit} {w : State N I} → StartsBody same modules begins v m done a w → P m → Are (seen v) → Are (seen w)

@@ -25,10 +25,10 @@ use Rattle.esm_eval.proofs.HasEvaluation.{has_evaluation}
 use Rattle.std.specs.List.{AllByRecursion}
 use Rattle.esm_body.specs.State.{State, Event, Begins, Ends, Throws}
 use Rattle.esm_body.specs.Bodies.{Taken, take_standing, given_by, ResumesBody}
-use Rattle.esm_body.specs.Fits.{FitsState, StaysFit}
+use Rattle.esm_body.specs.Fits.{FitsState, FitsAfter}
 use Rattle.esm_body.proofs.SomeBody.{some_start, some_run, some_resume, RanKnown}
-use Rattle.esm_world.specs.World.{World, modules_in, state_of, with_state}
-use Rattle.esm_world.specs.Layers.{Executes, evaluation, with_promises}
+use Rattle.esm_world.specs.World.{World, modules_in, body_state, with_state}
+use Rattle.esm_world.specs.Layers.{CallsForBody, evaluation, with_promises}
 use Rattle.esm_world.specs.Fits.{IsLinkedModule, AreModules, IsKnownValue, FitSettled, FitPromises, FitsHost, FitEvent, FitsWorld}
 use Rattle.esm_world.proofs.Each.{all_on}
 use Rattle.esm_world.proofs.EventsKept.{IsOf, starts_events, runs_events, resumes_events}
@@ -175,35 +175,35 @@ module _ (linked : List Url) (entries : Entries) (h : AreModules linked entries)
 
   -- ---- calls for bodies
 
-  started : (w : World) (m : Url) → Fits w → IsModule m → (r : Result (Unit {0}) Limit) × (after : World) × Executes (evaluation.make_body_promise w m) (Start m (evaluation.next_promise w)) r after × Fits after
+  started : (w : World) (m : Url) → Fits w → IsModule m → (r : Result (Unit {0}) Limit) × (after : World) × CallsForBody (evaluation.make_body_promise w m) (Start m (evaluation.next_promise w)) r after × Fits after
   started w m f k =
       let late = evaluation.make_body_promise w m in
       let g = with_fit_promises w (make w.promises (BodyEnd m ∷ [])) f (made linked entries w.promises (BodyEnd m ∷ []) (k, tt) f.state.whole.promises) in
-      let s = some_start same_url modules_in (IsIn linked entries h) (FitsHost linked entries) BeginsImport (bodies linked entries h agrees ends) (state_of late) m (next_promise w.promises) g.state k in
-      (s.0, with_state late s.1.0, Executes.start s.1.1.0, with_fit_state late s.1.0 g s.1.1.1.fits (out_events s.1.0.engine.events (starts_events same_url modules_in BeginsImport IsModule s.1.1.0 k (in_events w.engine.events f.events))))
+      let s = some_start same_url modules_in (IsIn linked entries h) (FitsHost linked entries) BeginsImport (bodies linked entries h agrees ends) (body_state late) m (next_promise w.promises) g.state k in
+      (s.0, with_state late s.1.0, CallsForBody.start s.1.1.0, with_fit_state late s.1.0 g s.1.1.1.fits (out_events s.1.0.engine.events (starts_events same_url modules_in BeginsImport IsModule s.1.1.0 k (in_events w.engine.events f.events))))
 
   thrown : (l : Loading) → l.entries ≡ entries → (r : Result (Ran (Value Url)) Limit) → RanKnown same_url modules_in (IsIn linked entries h) (FitsHost linked entries) BeginsImport (bodies linked entries h agrees ends) l r → throws_known IsKnown r
   thrown l e (Ok (ran.Thrown v)) k = known_out linked entries h l e v k
   thrown l e (Ok ran.Normal) k = tt
   thrown l e (Err why) k = tt
 
-  ran_body : (w : World) (m : Url) → Fits w → IsModule m → evaluation.awaits w m ≡ false → (r : Result (Ran (Value Url)) Limit) × (after : World) × Executes w (Run m) r after × Fits after × throws_known IsKnown r
+  ran_body : (w : World) (m : Url) → Fits w → IsModule m → evaluation.awaits w m ≡ false → (r : Result (Ran (Value Url)) Limit) × (after : World) × CallsForBody w (Run m) r after × Fits after × throws_known IsKnown r
   ran_body w m f k a =
-      let s = some_run same_url modules_in (IsIn linked entries h) (FitsHost linked entries) BeginsImport (bodies linked entries h agrees ends) (state_of w) m f.state k a in
-      (s.0, with_state w s.1.0, Executes.run s.1.1.0, with_fit_state w s.1.0 f s.1.1.1.0.fits (out_events s.1.0.engine.events (runs_events same_url modules_in BeginsImport IsModule s.1.1.0 k (in_events w.engine.events f.events))), thrown s.1.0.outer.imports s.1.1.1.0.fits.whole.entries_are s.0 s.1.1.1.1)
+      let s = some_run same_url modules_in (IsIn linked entries h) (FitsHost linked entries) BeginsImport (bodies linked entries h agrees ends) (body_state w) m f.state k a in
+      (s.0, with_state w s.1.0, CallsForBody.run s.1.1.0, with_fit_state w s.1.0 f s.1.1.1.0.fits (out_events s.1.0.engine.events (runs_events same_url modules_in BeginsImport IsModule s.1.1.0 k (in_events w.engine.events f.events))), thrown s.1.0.outer.imports s.1.1.1.0.fits.whole.entries_are s.0 s.1.1.1.1)
 
   -- a body that stands at an await goes on
   pub resumed : (w : World) (m : Url) (t : Taken Url) (how : Settled (Value Url)) → Fits w → IsModule m → take_standing same_url w.engine.standing m ≡ Some t → FitSettled linked entries how
-      → (end : Result (Unit {0}) Limit) × ((s : State Url Loading) × (ResumesBody same_url modules_in BeginsImport (state_of w) m how end s × Fits (with_state w s)))
+      → (end : Result (Unit {0}) Limit) × ((s : State Url Loading) × (ResumesBody same_url modules_in BeginsImport (body_state w) m how end s × Fits (with_state w s)))
   resumed w m t how f k e q =
-      let s = some_resume same_url modules_in (IsIn linked entries h) (FitsHost linked entries) BeginsImport (bodies linked entries h agrees ends) (state_of w) m t how f.state k e (given w.loading f.state.whole.entries_are how q) in
+      let s = some_resume same_url modules_in (IsIn linked entries h) (FitsHost linked entries) BeginsImport (bodies linked entries h agrees ends) (body_state w) m t how f.state k e (given w.loading f.state.whole.entries_are how q) in
       (s.0, (s.1.0, (s.1.1.0, with_fit_state w s.1.0 f s.1.1.1.fits (out_events s.1.0.engine.events (resumes_events same_url modules_in BeginsImport IsModule s.1.1.0 k (in_events w.engine.events f.events))))))
     where
       given : (l : Loading) → l.entries ≡ entries → (how : Settled (Value Url)) → FitSettled linked entries how → Rattle.esm_expr_eval.specs.Ready.Holds (Rattle.esm_body.specs.Fits.Knows modules_in (IsIn linked entries h) l) ⊥ (given_by how)
       given l e (Fulfilled v) k = known_in linked entries h l e v k
       given l e (Rejected v) k = known_in linked entries h l e v k
 
-  pub can_evaluate : CanEvaluate evaluation Executes Fits IsModule IsKnown
+  pub can_evaluate : CanEvaluate evaluation CallsForBody Fits IsModule IsKnown
   can_evaluate = record {
     modules = linked;
     among = λ x k. k;
@@ -221,5 +221,5 @@ module _ (linked : List Url) (entries : Entries) (h : AreModules linked entries)
   }
 
   -- evaluating, and what follows the end of a body, have outcomes that fit
-  pub evaluated : IsLawful evaluation → HasOutcomes evaluation Executes Fits IsModule IsKnown
-  evaluated l = has_evaluation evaluation Executes Fits IsModule IsKnown l can_evaluate
+  pub evaluated : IsLawful evaluation → HasOutcomes evaluation CallsForBody Fits IsModule IsKnown
+  evaluated l = has_evaluation evaluation CallsForBody Fits IsModule IsKnown l can_evaluate

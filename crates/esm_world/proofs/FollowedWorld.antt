@@ -23,7 +23,7 @@ use Rattle.esm_loads.proofs.Requests.{contains_none, contains_cases, equal_cases
 use Rattle.esm_eval.specs.Nodes.{Call, CallAnswer}
 use Rattle.esm_body.specs.State.{Standing}
 use Rattle.esm_world.specs.World.{World, opening, stopped, host_of, modules_in}
-use Rattle.esm_world.specs.Layers.{Executes, evaluation, with_linked}
+use Rattle.esm_world.specs.Layers.{CallsForBody, evaluation, with_linked}
 use Rattle.esm_world.specs.Jobs.{EvaluatesLoad, Reacts, Jobs, when_evaluated}
 use Rattle.esm_world.specs.Jobs.Reacts.{entry_linked, entry_fault, entry_refused, entry_ended, entry_threw, linked, fault, refused, evaluated, threw, body_ended, body_threw, resumes}
 use Rattle.esm_world.specs.Turn.{Tasks, Turn, fetched}
@@ -90,9 +90,9 @@ module _ (out : Option ℕ) where
   call_both : (h : Host) (ss : List (Standing Url)) (m : Url) (done : ℕ) (w : Around Url Loading) → IsHostTold h → CallEnds KeepsBoth m done (h, ss) w → FH h → FH w.0
   call_both h ss m done w t c f = ends_both m done c.late w c.ends (segment_both h ss c.late t c.keeps f)
 
-  calls_both : {v w : World} {c : Call Url} {r : Result (CallAnswer (Value Url) c) Limit} → AreTold v → Executes v c r w → FW v → FW w
-  calls_both {v} t (Executes.start {m = m} {done = done} {s = s} p) f = call_both (host_of v) v.engine.standing m done (around s) t.host (starts_around same_url modules_in BeginsImport KeepsBoth lasts_both p) f
-  calls_both {v} t (Executes.run {m = m} {s = s} p) f = segment_both (host_of v) v.engine.standing (around s) t.host (runs_around same_url modules_in BeginsImport KeepsBoth lasts_both p) f
+  calls_both : {v w : World} {c : Call Url} {r : Result (CallAnswer (Value Url) c) Limit} → AreTold v → CallsForBody v c r w → FW v → FW w
+  calls_both {v} t (CallsForBody.start {m = m} {done = done} {s = s} p) f = call_both (host_of v) v.engine.standing m done (around s) t.host (starts_around same_url modules_in BeginsImport KeepsBoth lasts_both p) f
+  calls_both {v} t (CallsForBody.run {m = m} {s = s} p) f = segment_both (host_of v) v.engine.standing (around s) t.host (runs_around same_url modules_in BeginsImport KeepsBoth lasts_both p) f
 
   -- ---- evaluation
 
@@ -103,7 +103,7 @@ module _ (out : Option ℕ) where
     kept : KeptWorld v w
     followed : FW w
 
-  both_holding : Holding evaluation Executes Both FreeIn KeptBothWorld
+  both_holding : Holding evaluation CallsForBody Both FreeIn KeptBothWorld
   both_holding = record {
     same = λ w h. record { kept = holding.same w h.0; followed = h.1 };
     on = λ a b. record { kept = holding.on a.kept b.kept; followed = b.followed };
@@ -171,14 +171,14 @@ import_settled w s q how t is f = again w.loading (settle w.promises q how) s (g
         IsFollowed.settled (subst (λ x. IsSettled (settle w.promises q how) x) (sym same) (settled_own w.promises.all q how (t.made s q OfImport is)))
 
 evaluates_both : (out : Option ℕ) (v : World) (load : ℕ) (a : Result ℕ Limit) (after : World) → AreTold v → F out v.loading v.promises → EvaluatesLoad v load a after → F out after.loading after.promises
-evaluates_both out v load a after t f p = (evaluates_holds evaluation Executes (Both out) FreeIn (KeptBothWorld out) (both_holding out) (with_linked v p.linked) p.root (linked_told v p.linked t, f) p.evaluates).followed
+evaluates_both out v load a after t f p = (evaluates_holds evaluation CallsForBody (Both out) FreeIn (KeptBothWorld out) (both_holding out) (with_linked v p.linked) p.root (linked_told v p.linked t, f) p.evaluates).followed
 
 answer_free : (v : World) (load q : ℕ) (after : World) → AreTold v → EvaluatesLoad v load (Ok q) after → FreeIn after q
-answer_free v load q after t p = evaluates_free evaluation Executes AreTold FreeIn KeptWorld holding (with_linked v p.linked) p.root (linked_told v p.linked t) p.evaluates
+answer_free v load q after t p = evaluates_free evaluation CallsForBody AreTold FreeIn KeptWorld holding (with_linked v p.linked) p.root (linked_told v p.linked t) p.evaluates
 
 -- no limit has stopped it behind an evaluation that a limit stopped: there is no such world
 answer_stops : (v : World) (load : ℕ) (limit : Limit) (after : World) → EvaluatesLoad v load (Err limit) after → stopped after ≡ None → ⊥
-answer_stops v load limit after p live = none_stopped (stopped after) (evaluates_stop evaluation Executes IsStopped stops_call (with_linked v p.linked) p.root p.evaluates) live
+answer_stops v load limit after p live = none_stopped (stopped after) (evaluates_stop evaluation CallsForBody IsStopped stops_call (with_linked v p.linked) p.root p.evaluates) live
 
 linked_both : (v after : World) (s : ℕ) (a : Result ℕ Limit) → AreTold v → F (Some s) v.loading v.promises → EvaluatesLoad v s a after → stopped (when_evaluated after (Evaluated s) a) ≡ None → F None (when_evaluated after (Evaluated s) a).loading (when_evaluated after (Evaluated s) a).promises
 linked_both v after s (Ok q) t f p live =
@@ -203,8 +203,8 @@ reacts_both {v} t f (fault {s = s} q root x ls n l) live = import_settled v s q 
 reacts_both {v} t f (refused {s = s} q n) live = import_settled v s q _ t.host.told n f
 reacts_both {v} t f (evaluated {s = s} q root n o) live = import_settled v s q _ t.host.told n f
 reacts_both {v} t f (threw {s = s} q n) live = import_settled v s q _ t.host.told n f
-reacts_both {v} t f (body_ended e) live = (fulfills_holds evaluation Executes (Both None) FreeIn (KeptBothWorld None) (both_holding None) (t, f) e).followed
-reacts_both {v} t f (body_threw e) live = (rejects_holds evaluation Executes (Both None) FreeIn (KeptBothWorld None) (both_holding None) (t, f) e).followed
+reacts_both {v} t f (body_ended e) live = (fulfills_holds evaluation CallsForBody (Both None) FreeIn (KeptBothWorld None) (both_holding None) (t, f) e).followed
+reacts_both {v} t f (body_threw e) live = (rejects_holds evaluation CallsForBody (Both None) FreeIn (KeptBothWorld None) (both_holding None) (t, f) e).followed
 reacts_both {v} t f (resumes {m = x} {s = s} e) live = call_both None (host_of v) e.taken.others x e.taken.standing.done (around s) t.host (resumes_around same_url modules_in BeginsImport (KeepsBoth None) (lasts_both None) e) f
 
 -- ---- runs

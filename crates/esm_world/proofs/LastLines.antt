@@ -23,8 +23,8 @@ use Rattle.esm_link.specs.Link.LinksMarks.{done, enters, passes, fails, stays, c
 use Rattle.esm_eval.specs.Nodes.{Call, CallAnswer}
 use Rattle.esm_body.specs.Acts.{Displays}
 use Rattle.esm_body.proofs.LinkedRead.{linked_read}
-use Rattle.esm_world.specs.World.{World, EntryState, Underway, Ended, Failed, stopped, modules_in, state_of}
-use Rattle.esm_world.specs.Layers.{Executes, evaluation}
+use Rattle.esm_world.specs.World.{World, EntryState, Underway, Ended, Failed, stopped, modules_in, body_state}
+use Rattle.esm_world.specs.Layers.{CallsForBody, evaluation}
 use Rattle.esm_world.specs.Jobs.{EvaluatesLoad, Reacts, when_evaluated}
 use Rattle.esm_world.specs.Jobs.Reacts.{entry_linked, entry_fault, entry_refused, entry_ended, entry_threw, linked, fault, refused, evaluated, threw, body_ended, body_threw, resumes}
 use Rattle.esm_world.specs.LastLine.{Uncaught, ending_by, IsLastLine}
@@ -87,11 +87,11 @@ record IsSame (v w : World) : Type 0 where
   linked : w.linked ≡ v.linked
   entry : w.entry ≡ v.entry
 
-called_same : {v w : World} {c : Call Url} {r : Result (CallAnswer (Value Url) c) Limit} → Executes v c r w → IsSame v w
-called_same (Executes.start p) = record { linked = refl; entry = refl }
-called_same (Executes.run p) = record { linked = refl; entry = refl }
+called_same : {v w : World} {c : Call Url} {r : Result (CallAnswer (Value Url) c) Limit} → CallsForBody v c r w → IsSame v w
+called_same (CallsForBody.start p) = record { linked = refl; entry = refl }
+called_same (CallsForBody.run p) = record { linked = refl; entry = refl }
 
-evaluation_same : Lasts evaluation Executes IsSame
+evaluation_same : Lasts evaluation CallsForBody IsSame
 evaluation_same = record {
   same = λ w. record { linked = refl; entry = refl };
   on = λ a b. record { linked = b.linked ∙ a.linked; entry = b.entry ∙ a.entry };
@@ -113,7 +113,7 @@ same_shown {v} {w} s h = subst (λ us. IsEntryShown us w.entry) (sym s.linked) (
 
 load_shown : (v w : World) (s : ℕ) (a : Result ℕ Limit) (r : Reaction Url) → EvaluatesLoad v s a w → IsEntryShown v.linked v.entry → IsEntryShown (when_evaluated w r a).linked (when_evaluated w r a).entry
 load_shown v w s a r e h =
-    let k = evaluates_keeps evaluation Executes IsSame evaluation_same _ e.root e.evaluates in
+    let k = evaluates_keeps evaluation CallsForBody IsSame evaluation_same _ e.root e.evaluates in
     let more : IsEntryShown e.linked v.entry = shown_on v.linked e.linked v.entry (links_grow e.links.links.links) h in
     same_shown (when_same w r a) (same_shown k more)
 
@@ -137,8 +137,8 @@ reacts_shown {v} (fault q root f ls n l) s h = shown_on v.linked ls v.entry (lin
 reacts_shown (refused q n) s h = h
 reacts_shown (evaluated q root n o) s h = h
 reacts_shown (threw q n) s h = h
-reacts_shown (body_ended e) s h = same_shown (fulfills_keeps evaluation Executes IsSame evaluation_same e) h
-reacts_shown (body_threw e) s h = same_shown (rejects_keeps evaluation Executes IsSame evaluation_same e) h
+reacts_shown (body_ended e) s h = same_shown (fulfills_keeps evaluation CallsForBody IsSame evaluation_same e) h
+reacts_shown (body_threw e) s h = same_shown (rejects_keeps evaluation CallsForBody IsSame evaluation_same e) h
 reacts_shown (resumes e) s h = h
 
 -- ---- each world of a run
@@ -176,7 +176,7 @@ module _ (Fits : World → Type 0) (k : StepsHaveOutcomes Fits) (fit : (w : Worl
   }
 
   module _ (agrees : SharedSetAgrees) (ends : SharedSetEnds) where
-    displays : (w : World) (v : Value Url) → IsFit w → IsShown w.linked v → (text : urls.Text) × Displays modules_in (state_of w) v text
+    displays : (w : World) (v : Value Url) → IsFit w → IsShown w.linked v → (text : urls.Text) × Displays modules_in (body_state w) v text
     displays w Undefined f h = (_, refl)
     displays w (Truth b) f h = (_, refl)
     displays w (Text t) f h = (_, refl)
@@ -190,7 +190,7 @@ module _ (Fits : World → Type 0) (k : StepsHaveOutcomes Fits) (fit : (w : Worl
     last_line : (w : World) → (stopped w ≡ None → FitsShown w) → (text : urls.Text) × IsLastLine w (ending w) text
     last_line w f = by (stopped w) refl (asks w) w.entry refl
       where
-        uncaught : (v : Value Url) → (text : urls.Text) × Displays modules_in (state_of w) v text → (text : urls.Text) × IsLastLine w (Some (Uncaught v)) text
+        uncaught : (v : Value Url) → (text : urls.Text) × Displays modules_in (body_state w) v text → (text : urls.Text) × IsLastLine w (Some (Uncaught v)) text
         uncaught v t = (codes "Uncaught " ++ t.0, (t.0, t.1, refl))
 
         by : (s : Option Limit) → stopped w ≡ s → (us : List Url) (e : EntryState) → w.entry ≡ e → (text : urls.Text) × IsLastLine w (ending_by s us e) text

@@ -8,7 +8,7 @@ use Rattle.esm_loads.specs.Loading.{Loading}
 use Rattle.esm_loads.specs.ImportCall.{BeginsImport, end_by}
 use Rattle.esm_eval.specs.Nodes.{Call, CallAnswer}
 use Rattle.esm_world.specs.World.{World, modules_in, stopped}
-use Rattle.esm_world.specs.Layers.{Executes, evaluation}
+use Rattle.esm_world.specs.Layers.{CallsForBody, evaluation}
 use Rattle.esm_world.specs.Limits.{told_limit, LimitsAreExact}
 use Rattle.esm_world.proofs.BodyLives.{limit_by, LivesOn, starts_body_lives, runs_body_lives, resumes_body_lives}
 use Rattle.esm_world.proofs.EvalLives.{why_by, evaluates_live, fulfills_live, rejects_live}
@@ -38,11 +38,11 @@ told_why : {A : Type 0} (r : Result A Limit) → told_limit r ≡ why_by r
 told_why (Ok a) = refl
 told_why (Err limit) = refl
 
-executed : {v w : World} {c : Call Url} {r : Result (CallAnswer (Value Url) c) Limit} → Executes v c r w → stopped v ≡ None → stopped w ≡ told_limit r
-executed (Executes.start {end = end} p) l = starts_body_lives StopOf BeginsImport imports_live same_url modules_in p l ∙ same_told end
-executed (Executes.run {end = end} p) l = runs_body_lives StopOf BeginsImport imports_live same_url modules_in p l ∙ same_told end
+executed : {v w : World} {c : Call Url} {r : Result (CallAnswer (Value Url) c) Limit} → CallsForBody v c r w → stopped v ≡ None → stopped w ≡ told_limit r
+executed (CallsForBody.start {end = end} p) l = starts_body_lives StopOf BeginsImport imports_live same_url modules_in p l ∙ same_told end
+executed (CallsForBody.run {end = end} p) l = runs_body_lives StopOf BeginsImport imports_live same_url modules_in p l ∙ same_told end
 
-calls_live : CallsLiveOn evaluation Executes stopped
+calls_live : CallsLiveOn evaluation CallsForBody stopped
 calls_live = record {
   writes = record {
     same = λ w. refl;
@@ -61,8 +61,8 @@ calls_live = record {
 pub limits_are_exact : LimitsAreExact
 limits_are_exact = record {
   executes = λ w after c r l p. executed p l;
-  evaluates = λ w after m r l p. evaluates_live evaluation Executes stopped calls_live w m p l ∙ why_told r;
-  fulfills = λ w after m r l p. fulfills_live evaluation Executes stopped calls_live p l ∙ why_told r;
-  rejects = λ w after m v l p. rejects_live evaluation Executes stopped calls_live p ∙ l;
+  evaluates = λ w after m r l p. evaluates_live evaluation CallsForBody stopped calls_live w m p l ∙ why_told r;
+  fulfills = λ w after m r l p. fulfills_live evaluation CallsForBody stopped calls_live p l ∙ why_told r;
+  rejects = λ w after m v l p. rejects_live evaluation CallsForBody stopped calls_live p ∙ l;
   resumes = λ w m how r s l p. resumes_body_lives StopOf BeginsImport imports_live same_url modules_in p l ∙ same_told r;
 }

@@ -10,7 +10,7 @@ use Rattle.esm_loads.specs.Loading.{Loading}
 use Rattle.esm_loads.specs.ImportCall.{BeginsImport}
 use Rattle.esm_eval.specs.Nodes.{Call, CallAnswer}
 use Rattle.esm_world.specs.World.{World, modules_in}
-use Rattle.esm_world.specs.Layers.{Executes, evaluation, with_linked}
+use Rattle.esm_world.specs.Layers.{CallsForBody, evaluation, with_linked}
 use Rattle.esm_world.specs.Jobs.{EvaluatesLoad, Reacts, when_evaluated}
 use Rattle.esm_world.specs.Jobs.Reacts.{entry_linked, entry_fault, entry_refused, entry_ended, entry_threw, linked, fault, refused, evaluated, threw, body_ended, body_threw, resumes}
 use Rattle.esm_world.specs.Loaded.{FitsLoading}
@@ -36,14 +36,14 @@ imported = record {
   call = λ {o} {x} {m} {text} {p} {r} b. record { fits = λ f. loading_stays_fit.begins o x m text p r f b; unlinked = imports_stay b.imports };
 }
 
-executes_keeps : {v w : World} {c : Call Url} {r : Result (CallAnswer (Value Url) c) Limit} → Executes v c r w → KeepsLoading v.loading w.loading
-executes_keeps (Executes.start p) = (starts_body_keeps same_url modules_in BeginsImport KeepsLoading imported p).imports
-executes_keeps (Executes.run p) = (runs_body_keeps same_url modules_in BeginsImport KeepsLoading imported p).imports
+executes_keeps : {v w : World} {c : Call Url} {r : Result (CallAnswer (Value Url) c) Limit} → CallsForBody v c r w → KeepsLoading v.loading w.loading
+executes_keeps (CallsForBody.start p) = (starts_body_keeps same_url modules_in BeginsImport KeepsLoading imported p).imports
+executes_keeps (CallsForBody.run p) = (runs_body_keeps same_url modules_in BeginsImport KeepsLoading imported p).imports
 
 abbrev KeepsWorld : World → World → Type 0
 KeepsWorld v w = KeepsLoading v.loading w.loading
 
-lasts : Lasts evaluation Executes KeepsWorld
+lasts : Lasts evaluation CallsForBody KeepsWorld
 lasts = record {
   same = λ w. same w.loading;
   on = λ p q. on p q;
@@ -61,7 +61,7 @@ by_answer w r (Ok p) = refl
 by_answer w r (Err why) = refl
 
 load_keeps : {v w : World} {s : ℕ} {a : Result ℕ Limit} → EvaluatesLoad v s a w → (r : Reaction Url) → KeepsWorld v (when_evaluated w r a)
-load_keeps {v} {w} {a = a} p r = subst (λ l. KeepsLoading v.loading l) (sym (by_answer w r a)) (evaluates_keeps evaluation Executes KeepsWorld lasts (with_linked v p.linked) p.root p.evaluates)
+load_keeps {v} {w} {a = a} p r = subst (λ l. KeepsLoading v.loading l) (sym (by_answer w r a)) (evaluates_keeps evaluation CallsForBody KeepsWorld lasts (with_linked v p.linked) p.root p.evaluates)
 
 pub reacts_keep_loading : {v : World} {r : Reaction Url} {how : Settled (Value Url)} {w : World} → Reacts v r how w → KeepsLoading v.loading w.loading
 reacts_keep_loading (entry_linked p) = load_keeps p _
@@ -74,6 +74,6 @@ reacts_keep_loading {v} (fault p root f ls n l) = same v.loading
 reacts_keep_loading {v} (refused p n) = same v.loading
 reacts_keep_loading {v} (evaluated p root n o) = same v.loading
 reacts_keep_loading {v} (threw p n) = same v.loading
-reacts_keep_loading (body_ended p) = fulfills_keeps evaluation Executes KeepsWorld lasts p
-reacts_keep_loading (body_threw p) = rejects_keeps evaluation Executes KeepsWorld lasts p
+reacts_keep_loading (body_ended p) = fulfills_keeps evaluation CallsForBody KeepsWorld lasts p
+reacts_keep_loading (body_threw p) = rejects_keeps evaluation CallsForBody KeepsWorld lasts p
 reacts_keep_loading (resumes p) = (resumes_body_keeps same_url modules_in BeginsImport KeepsLoading imported p).imports

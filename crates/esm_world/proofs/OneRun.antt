@@ -20,9 +20,9 @@ use Rattle.esm_eval.specs.Evaluate.{Evaluates}
 use Rattle.esm_eval.proofs.OneEvaluation.{evaluates_one, rejects_one, fulfills_one}
 use Rattle.esm_body.proofs.OneAct.{BeginsOne, displays_one}
 use Rattle.esm_body.proofs.OneSegment.{starts_body_one, runs_body_one, resumes_body_one}
-use Rattle.esm_world.specs.World.{World, Failed, modules_in, state_of, with_state, with_host}
-use Rattle.esm_world.specs.Layers.{Executes, evaluation, LinksTo, with_linked, with_promises}
-use Rattle.esm_world.specs.Jobs.{LinksLoad, EvaluatesLoad, Reacts, Jobs, when_evaluated, with_entry, link_failed, new_error, settle_promise}
+use Rattle.esm_world.specs.World.{World, Failed, modules_in, body_state, with_state, with_host}
+use Rattle.esm_world.specs.Layers.{CallsForBody, evaluation, LinksTo, with_linked, with_promises}
+use Rattle.esm_world.specs.Jobs.{LinksLoad, EvaluatesLoad, Reacts, Jobs, when_evaluated, with_entry_state, link_failed, new_error, settle_promise}
 use Rattle.esm_world.specs.Jobs.Reacts.{entry_linked, entry_fault, entry_refused, entry_ended, entry_threw, linked, fault, refused, evaluated, threw, body_ended, body_threw, resumes}
 use Rattle.esm_world.specs.Turn.{Tasks, Turn}
 use Rattle.esm_world.specs.LastLine.{Ending, Stopped, Uncaught, Done, Pending, IsLastLine}
@@ -32,11 +32,11 @@ use Rattle.esm_ast.specs.Deliveries.{Delivery}
 pub begins_one : BeginsOne BeginsImport
 begins_one = record { one = λ {o} {x} {y} {m} {text} {p} {r} {s} a b. let k = one_load.begins o x y m text p r s a b in (sym k.0, sym k.1) }
 
-executes_one : {w : World} {c : Call Url} {r s : Result (CallAnswer (Value Url) c) Limit} {x y : World} → Executes w c r x → Executes w c s y → (s ≡ r) × (y ≡ x)
-executes_one {w} (Executes.start p) (Executes.start q) = let k = starts_body_one same_url modules_in BeginsImport begins_one p q in (k.0, ap (with_state w) k.1)
-executes_one {w} (Executes.run p) (Executes.run q) = let k = runs_body_one same_url modules_in BeginsImport begins_one p q in (k.0, ap (with_state w) k.1)
+executes_one : {w : World} {c : Call Url} {r s : Result (CallAnswer (Value Url) c) Limit} {x y : World} → CallsForBody w c r x → CallsForBody w c s y → (s ≡ r) × (y ≡ x)
+executes_one {w} (CallsForBody.start p) (CallsForBody.start q) = let k = starts_body_one same_url modules_in BeginsImport begins_one p q in (k.0, ap (with_state w) k.1)
+executes_one {w} (CallsForBody.run p) (CallsForBody.run q) = let k = runs_body_one same_url modules_in BeginsImport begins_one p q in (k.0, ap (with_state w) k.1)
 
-pub calls_one : HasOneOutcome evaluation Executes
+pub calls_one : HasOneOutcome evaluation CallsForBody
 calls_one = record { one = executes_one }
 
 some_same : {A : Type 0} {o : Option A} {a b : A} → o ≡ Some a → o ≡ Some b → b ≡ a
@@ -58,8 +58,8 @@ links_one w s {a} {b} {h = h} {y = y} l k =
 load_one : (w : World) (s : ℕ) {a b : Result ℕ Limit} {x y : World} → EvaluatesLoad w s a x → EvaluatesLoad w s b y → (b ≡ a) × (y ≡ x)
 load_one w s {b = b} {y = y} p q =
     let k = links_one w s p.links q.links in
-    evaluates_one evaluation Executes calls_one (with_linked w p.linked) p.root p.evaluates
-    (subst (λ a. Evaluates evaluation Executes (with_linked w p.linked) a b y) k.0 (subst (λ x. Evaluates evaluation Executes (with_linked w x) q.root b y) k.2 q.evaluates))
+    evaluates_one evaluation CallsForBody calls_one (with_linked w p.linked) p.root p.evaluates
+    (subst (λ a. Evaluates evaluation CallsForBody (with_linked w p.linked) a b y) k.0 (subst (λ x. Evaluates evaluation CallsForBody (with_linked w x) q.root b y) k.2 q.evaluates))
 
 apart : (w : World) (s : ℕ) {a : Result ℕ Limit} {x : World} {root : Url} {f : FaultAt Url} {ls : List Url} → EvaluatesLoad w s a x → LinksLoad w s root (Some f) ls → ⊥
 apart w s p l = let k = links_one w s p.links l in none_some (sym k.1)
@@ -71,7 +71,7 @@ reacts_one {w} (entry_fault a f xs l) (entry_linked q) = absurd (apart w 0 q l)
 reacts_one {w} (entry_fault a f xs l) (entry_fault b h ys k) =
     let r = links_one w 0 l k in
     let e = some_of r.1 in
-    λ i. with_entry (link_failed w (e i) (r.2 i)) (Failed (new_error w))
+    λ i. with_entry_state (link_failed w (e i) (r.2 i)) (Failed (new_error w))
 reacts_one entry_refused entry_refused = refl
 reacts_one entry_ended entry_ended = refl
 reacts_one entry_threw entry_threw = refl
@@ -86,7 +86,7 @@ reacts_one {w} (fault {s = s} p a f xs n l) (fault p' b h ys n' k) =
 reacts_one {w} (refused {v = v} p n) (refused p' n') = ap (λ p. settle_promise w p (Rejected v)) (some_same n n')
 reacts_one {w} (evaluated p a n o) (evaluated p' b n' o') = let same = some_same n n' in let root = some_same o o' in λ i. settle_promise w (same i) (Fulfilled (Namespace (root i)))
 reacts_one {w} (threw {v = v} p n) (threw p' n') = ap (λ p. settle_promise w p (Rejected v)) (some_same n n')
-reacts_one (body_ended p) (body_ended q) = (fulfills_one evaluation Executes calls_one p q).1
+reacts_one (body_ended p) (body_ended q) = (fulfills_one evaluation CallsForBody calls_one p q).1
 reacts_one (body_threw p) (body_threw q) = rejects_one evaluation p q
 reacts_one {w} (resumes p) (resumes q) = ap (with_state w) (resumes_body_one same_url modules_in BeginsImport begins_one p q).1
 
@@ -154,7 +154,7 @@ runs_one (d ∷ ds) w a b p q = runs_one ds p.1 a b p.3 (subst (λ m. Runs m ds 
 line_one : (w : World) (e : Option Ending) (s t : List ℕ) → IsLastLine w e s → IsLastLine w e t → s ≡ t
 line_one w None s t p q = p ∙ sym q
 line_one w (Some (Stopped limit)) s t p q = p ∙ sym q
-line_one w (Some (Uncaught v)) s t p q = p.2 ∙ ap (λ text. codes "Uncaught " ++ text) (displays_one modules_in (state_of w) v q.1 p.1) ∙ sym q.2
+line_one w (Some (Uncaught v)) s t p q = p.2 ∙ ap (λ text. codes "Uncaught " ++ text) (displays_one modules_in (body_state w) v q.1 p.1) ∙ sym q.2
 line_one w (Some Done) s t p q = p ∙ sym q
 line_one w (Some Pending) s t p q = p ∙ sym q
 

@@ -22,7 +22,7 @@ use Rattle.esm_env.specs.Writing.{Writing, writing_of}
 use Rattle.esm_env.specs.Writing.{Writing as writing}
 use Rattle.esm_body.specs.Scopes.{Scope, in_scopes}
 use Rattle.esm_body.specs.Rest.{Rest}
-use Rattle.esm_body.specs.State.{Event, Begins, Ends, Throws, Standing, State, Importing, Answered, steps_by, add_line, line_by, note, note_by, event_behind, event_line}
+use Rattle.esm_body.specs.State.{Event, Begins, Ends, Throws, Standing, State, Importing, AnswerWith, steps_by, add_line, line_by, note, note_by, event_behind, event_line}
 use Rattle.esm_body.specs.Acts.{Inner, Performs, AnswersAct, ReadsMemberOf, BeginsBy, read_answer, set_at, write_in, scope_write, module_write, modules_of}
 use Rattle.esm_body.specs.BodyRewriting.{RewrittenBody, On, Gives, Waits, RewritesBody, own_url}
 use Rattle.esm_body.specs.BodyRewriting.RewritesBody.{begins_at, does, drops, sets, writes, throws, returns, prints, chooses, awaits, inner, inner_end, tries, tries_end}
@@ -39,7 +39,7 @@ module _ {N I : Type 0} where
   abbrev pub around : State N I → Around N I
   around w = (w.outer, w.engine.standing)
 
-  abbrev pub told_around : {A : Type 0} → Answered A (State N I) → Around N I
+  abbrev pub told_around : {A : Type 0} → AnswerWith A (State N I) → Around N I
   told_around t = around t.1
 
   abbrev pub with_errors : Outer N I → Errors → Outer N I
@@ -77,7 +77,7 @@ module _ {N I : Type 0} where
   note_around : (url : N → List ℕ) (w : State N I) (event : Event N) → told_around (note url w event) ≡ around w
   note_around url w event = by_note url w event w.engine.trace
 
-  pub noted : (url : N → List ℕ) (w : State N I) (event : Event N) (t : Answered (Unit {0}) (State N I)) → note url w event ≡ t → told_around t ≡ around w
+  pub noted : (url : N → List ℕ) (w : State N I) (event : Event N) (t : AnswerWith (Unit {0}) (State N I)) → note url w event ≡ t → told_around t ≡ around w
   noted url w event t e = subst (λ t. told_around t ≡ around w) e (note_around url w event)
 
   -- ---- how a call for a body ends
@@ -100,7 +100,7 @@ module _ {N I : Type 0} where
   segment_so url m p (Stopped why) w = EndsSo.stays
 
   -- where a body that doesn't await has ended, if it has
-  abbrev IsRan : Option (Answered (Ran (Value N)) (State N I)) → State N I → Type 0
+  abbrev IsRan : Option (AnswerWith (Ran (Value N)) (State N I)) → State N I → Type 0
   IsRan None w = Unit {0}
   IsRan (Some t) w = told_around t ≡ around w
 
@@ -114,7 +114,7 @@ module _ {N I : Type 0} where
   body_around url m (Awaiting v rest) w = tt
   body_around url m (Stopped why) w = refl
 
-  ran_is : (w : State N I) {o : Option (Answered (Ran (Value N)) (State N I))} {t : Answered (Ran (Value N)) (State N I)} → o ≡ Some t → IsRan o w → told_around t ≡ around w
+  ran_is : (w : State N I) {o : Option (AnswerWith (Ran (Value N)) (State N I))} {t : AnswerWith (Ran (Value N)) (State N I)} → o ≡ Some t → IsRan o w → told_around t ≡ around w
   ran_is w e h = subst (λ o. IsRan o w) e h
 
 -- a relation that stays, goes on, and holds where an error is made, of an import() that is refused at once, and of one that begins with a
@@ -148,7 +148,7 @@ module _ {N I : Type 0} (same : N → N → Bool) (modules : I → Modules N) (b
   on p q = record { outer = k.on p.outer q.outer; standing = q.standing ∙ p.standing }
 
   module _ (m : N) where
-    abbrev inner_around : {A : Type 0} → Answered A (Inner N I) → Around N I
+    abbrev inner_around : {A : Type 0} → AnswerWith A (Inner N I) → Around N I
     inner_around t = around t.1.state
 
     abbrev KeepInner : Inner N I → Inner N I → Type 0
@@ -162,10 +162,10 @@ module _ {N I : Type 0} (same : N → N → Bool) (modules : I → Modules N) (b
     read_keeps w x reading.Unset = new_keeps w _
     read_keeps w x reading.Undeclared = new_keeps w _
 
-    by_told : {A : Type 0} (w : Inner N I) {t u : Answered A (Inner N I)} → t ≡ u → K (around w.state) (inner_around u) → K (around w.state) (inner_around t)
+    by_told : {A : Type 0} (w : Inner N I) {t u : AnswerWith A (Inner N I)} → t ≡ u → K (around w.state) (inner_around u) → K (around w.state) (inner_around t)
     by_told w e h = subst (λ t. K (around w.state) (inner_around t)) (sym e) h
 
-    member_keeps : (w : Inner N I) (v : Value N) (x : List ℕ) (t : Answered (Completion (Value N)) (Inner N I)) → ReadsMemberOf same modules begins m w v x t → K (around w.state) (inner_around t)
+    member_keeps : (w : Inner N I) (v : Value N) (x : List ℕ) (t : AnswerWith (Completion (Value N)) (Inner N I)) → ReadsMemberOf same modules begins m w v x t → K (around w.state) (inner_around t)
     member_keeps w Undefined x t p = by_told w p (new_keeps w _)
     member_keeps w (Truth b) x t p = by_told w p (new_keeps w _)
     member_keeps w (Text s) x t p = by_told w p (new_keeps w _)
@@ -174,11 +174,11 @@ module _ {N I : Type 0} (same : N → N → Bool) (modules : I → Modules N) (b
     member_keeps w (Namespace n) x t p = by_told w p.2 (read_keeps w x p.0)
     member_keeps w (Promise i) x t p = by_told w p (new_keeps w _)
 
-    begin_keeps : (w : Inner N I) (text : Option (List ℕ)) (t : Answered (Value N) (Inner N I)) → BeginsBy same modules begins m w text t → K (around w.state) (inner_around t)
+    begin_keeps : (w : Inner N I) (text : Option (List ℕ)) (t : AnswerWith (Value N) (Inner N I)) → BeginsBy same modules begins m w text t → K (around w.state) (inner_around t)
     begin_keeps w None t p = by_told w p (record { outer = k.refuses w.state.outer _ _; standing = refl })
     begin_keeps w (Some text) t p = by_told w p.3 (record { outer = k.imports w.state.outer p.1 m text p.0 p.2; standing = refl })
 
-    tells_keeps : (w : Inner N I) (a : Act (Value N)) (t : Answered (AnswerTo a) (Inner N I)) → AnswersAct same modules begins m w a t → K (around w.state) (inner_around t)
+    tells_keeps : (w : Inner N I) (a : Act (Value N)) (t : AnswerWith (AnswerTo a) (Inner N I)) → AnswersAct same modules begins m w a t → K (around w.state) (inner_around t)
     tells_keeps w (act.Read x) t p = by_told w p.2 (read_keeps w x p.0)
     tells_keeps w (act.Member of x) t p = member_keeps w of x t p
     tells_keeps w (act.Display of) t p = by_told w p.2 (kept refl)

@@ -16,8 +16,8 @@ use Rattle.esm_eval.specs.Evaluation.{error_of, wait_on, wait_by, add_wait, root
 use Rattle.esm_eval.specs.Evaluate.{WalkEnd, Ends, Marks, Leaves, enter, close, fail, closed_phase}
 use Rattle.esm_eval.specs.Evaluate.{Executes as executes}
 use Rattle.esm_body.specs.State.{State}
-use Rattle.esm_world.specs.World.{World, state_of, with_state}
-use Rattle.esm_world.specs.Layers.{Executes, evaluation}
+use Rattle.esm_world.specs.World.{World, body_state, with_state}
+use Rattle.esm_world.specs.Layers.{CallsForBody, evaluation}
 use Rattle.esm_world.specs.Plain.{RunInOrder, IsPlain, HaveTargets, LeadsTo}
 
 -- a node without error and waits
@@ -52,11 +52,11 @@ close_plain : (w : World) (x : Url) (ys : List Url) → IsPlain w → IsPlain (c
 close_plain w x [] p = p
 close_plain w x (y ∷ ys) p = close_plain (evaluation.put w y (closed_node w x y)) x ys (put_plain w y (closed_node w x y) p (record { error = p.no_error y; waits = p.no_waits y }))
 
-close_state : (w : World) (x : Url) (ys : List Url) → state_of (close evaluation w x ys) ≡ state_of w
+close_state : (w : World) (x : Url) (ys : List Url) → body_state (close evaluation w x ys) ≡ body_state w
 close_state w x [] = refl
 close_state w x (y ∷ ys) = close_state (evaluation.put w y (closed_node w x y)) x ys
 
-fail_state : (w : World) (v : Value Url) (ys : List Url) → state_of (fail evaluation w v ys) ≡ state_of w
+fail_state : (w : World) (v : Value Url) (ys : List Url) → body_state (fail evaluation w v ys) ≡ body_state w
 fail_state w v [] = refl
 fail_state w v (y ∷ ys) = fail_state (evaluation.put w y (record (w.nodes y) { phase = Evaluated; error = Some v })) v ys
 
@@ -85,28 +85,28 @@ module _ (to : Url → List Url) where
   order_from {after = after} {xs = xs} {end = end} e q = subst (λ s. RunInOrder s xs end after) (sym e) q
 
   leaves_on : (w : World) (x : Url) (opened : List Url) (ms : List (Mark Url)) (end : WalkEnd (Value Url) Limit) (mid : World) (s : State Url Loading)
-      → Leaves evaluation Executes w x Ends mid → (b : Bool) → closes same_url to opened x ≡ b → opened_after same_url to (open_behind same_url b opened x) ms ≡ []
+      → Leaves evaluation CallsForBody w x Ends mid → (b : Bool) → closes same_url to opened x ≡ b → opened_after same_url to (open_behind same_url b opened x) ms ≡ []
       → (opened_after same_url to opened ms ≡ [] → LeadsTo to mid opened ms end s)
       → (opened_after same_url to (opened_before same_url opened x) ms ≡ [] → LeadsTo to (close evaluation mid x (opened_from same_url opened x)) (opened_before same_url opened x) ms end s)
       → LeadsTo to w opened (Leave x ∷ ms) end s
   leaves_on w x opened ms end mid s l true e o stay shut = let k = shut o in record { after = k.after; marks = Marks.component l e k.marks; state = k.state }
   leaves_on w x opened ms end mid s l false e o stay shut = let k = stay o in record { after = k.after; marks = Marks.stays l e k.marks; state = k.state }
 
-  pub plain : (ms : List (Mark Url)) (w : World) (opened : List Url) (end : WalkEnd (Value Url) Limit) (s : State Url Loading) → IsPlain w → HaveTargets to ms → opened_after same_url to opened ms ≡ [] → RunInOrder (state_of w) (leaves ms) end s → LeadsTo to w opened ms end s
+  pub plain : (ms : List (Mark Url)) (w : World) (opened : List Url) (end : WalkEnd (Value Url) Limit) (s : State Url Loading) → IsPlain w → HaveTargets to ms → opened_after same_url to opened ms ≡ [] → RunInOrder (body_state w) (leaves ms) end s → LeadsTo to w opened ms end s
   plain [] w opened end s p h o RunInOrder.done = subst (λ (v : List Url). LeadsTo to w v [] end s) (sym o) (record { after = w; marks = Marks.done; state = refl })
   plain (Enter x ∷ ms) w opened end s p h o q = let k = plain ms (enter evaluation w x) (opened ++ x ∷ []) end s (enter_plain w x p) h o q in record { after = k.after; marks = Marks.enters k.marks; state = k.state }
   plain (Pass x i ∷ ms) w opened end s p h o q =
       let k = plain ms w opened end s p h.2 o q in
       let same : add_wait evaluation w x (wait_on evaluation w h.0) ≡ w = ap (add_wait evaluation w x) (no_wait w h.0 p) in
-      record { after = k.after; marks = Marks.passes h.1 (no_throw w h.0 p) (subst (λ v. Marks evaluation Executes to v opened ms end k.after) (sym same) k.marks); state = k.state }
+      record { after = k.after; marks = Marks.passes h.1 (no_throw w h.0 p) (subst (λ v. Marks evaluation CallsForBody to v opened ms end k.after) (sym same) k.marks); state = k.state }
   plain (Leave x ∷ ms) w opened end s p h o (RunInOrder.next {mid = mid} a r q) =
       let v = with_state w mid in
-      let l : Leaves evaluation Executes w x Ends v = Leaves.runs (p.no_waits x) a (executes.ends (Executes.run r)) in
+      let l : Leaves evaluation CallsForBody w x Ends v = Leaves.runs (p.no_waits x) a (executes.ends (CallsForBody.run r)) in
       let shut = close evaluation v x (opened_from same_url opened x) in
       leaves_on w x opened ms end v s l (closes same_url to opened x) refl o
       (λ o. plain ms v opened end s (state_plain w mid p) h o q)
       (λ o. plain ms shut (opened_before same_url opened x) end s (close_plain v x (opened_from same_url opened x) (state_plain w mid p)) h o (order_from (close_state v x (opened_from same_url opened x)) q))
   plain (Leave x ∷ ms) w opened end s p h o (RunInOrder.throws v a r) =
-      record { after = fail evaluation (with_state w s) v opened; marks = Marks.leave_throws v (Leaves.runs (p.no_waits x) a (executes.throws v (Executes.run r))); state = fail_state (with_state w s) v opened }
+      record { after = fail evaluation (with_state w s) v opened; marks = Marks.leave_throws v (Leaves.runs (p.no_waits x) a (executes.throws v (CallsForBody.run r))); state = fail_state (with_state w s) v opened }
   plain (Leave x ∷ ms) w opened end s p h o (RunInOrder.stops why a r) =
-      record { after = with_state w s; marks = Marks.leave_stops why (Leaves.runs (p.no_waits x) a (executes.stops why (Executes.run r))); state = refl }
+      record { after = with_state w s; marks = Marks.leave_stops why (Leaves.runs (p.no_waits x) a (executes.stops why (CallsForBody.run r))); state = refl }

@@ -17,11 +17,11 @@ use Rattle.esm_eval.specs.Nodes.{Call, CallAnswer, Start, Run, module_of}
 use Rattle.esm_eval.specs.BodyEnd.{Fulfills}
 use Rattle.esm_body.specs.Acts.{modules_of}
 use Rattle.esm_body.specs.Rest.{fill_rest}
-use Rattle.esm_body.specs.State.{State, Answered, Event, Begins, Ends, Throws, note, note_by, line_by, add_line, event_behind, event_line}
+use Rattle.esm_body.specs.State.{State, AnswerWith, Event, Begins, Ends, Throws, note, note_by, line_by, add_line, event_behind, event_line}
 use Rattle.esm_body.specs.Segment.{Ended, Normal, Thrown, Awaiting, Stopped}
 use Rattle.esm_body.specs.Bodies.{StartsBody, RunsBody, ResumesBody, segment_end, settle_done, body_end, ran_by, await_on, without_standing, given_by, url_in, whole_body}
-use Rattle.esm_world.specs.World.{World, modules_in, state_of, with_state, stopped}
-use Rattle.esm_world.specs.Layers.{Executes, evaluation, with_linked, with_promises}
+use Rattle.esm_world.specs.World.{World, modules_in, body_state, with_state, stopped}
+use Rattle.esm_world.specs.Layers.{CallsForBody, evaluation, with_linked, with_promises}
 use Rattle.esm_world.specs.Jobs.{EvaluatesLoad, Reacts, when_evaluated}
 use Rattle.esm_world.specs.Jobs.Reacts.{entry_linked, entry_fault, entry_refused, entry_ended, entry_threw, linked, fault, refused, evaluated, threw, body_ended, body_threw, resumes}
 use Rattle.esm_world.specs.Measure.{JobsLower, Queue, left, queue, standing_weight, weight_of, weight_rest}
@@ -39,7 +39,7 @@ abbrev S : Type 0
 S = State Url Loading
 
 abbrev Told : Type 0 → Type 0
-Told A = Answered A S
+Told A = AnswerWith A S
 
 abbrev told : {A : Type 0} → Told A → Counted Url
 told t = counted t.1
@@ -267,24 +267,24 @@ abbrev IsRun : Call Url → Type 0
 IsRun (Start m done) = ⊥
 IsRun (Run m) = Unit {0}
 
-ran_world : (v : World) (s : S) → Runs (state_of v) s → CalmWorld v (with_state v s)
+ran_world : (v : World) (s : S) → Runs (body_state v) s → CalmWorld v (with_state v s)
 ran_world v s p = record { steps = p.calm.grows; within = p.within; quiet = λ e. let w = ap of_waiting (p.calm.quiet e) in omega (arith, w) }
 
-begin_calm : (v : World) (m : Url) {ps : Queue} {c : Call Url} {r : Result (CallAnswer (Value Url) c) Limit} {w : World} → evaluation.awaits v m ≡ true → module_of c ≡ m → Executes (with_promises v ps) c r w → IsStart c → IsOk r → CalmWorld v w
-begin_calm v m {w = w} o q (Executes.start {m = x} {end = end} {s = s} p) at h =
+begin_calm : (v : World) (m : Url) {ps : Queue} {c : Call Url} {r : Result (CallAnswer (Value Url) c) Limit} {w : World} → evaluation.awaits v m ≡ true → module_of c ≡ m → CallsForBody (with_promises v ps) c r w → IsStart c → IsOk r → CalmWorld v w
+begin_calm v m {w = w} o q (CallsForBody.start {m = x} {end = end} {s = s} p) at h =
     let k = starts_rise (entries_first (body v.loading x) (ap (λ u. evaluation.awaits v u) q ∙ o)) p (ok_unit end h) in
     let l = k.rises in
     record { steps = omega (arith, l); within = k.within; quiet = λ e. absurd (omega (arith, l, e)) }
-begin_calm v m o q (Executes.run p) at h = absurd at
+begin_calm v m o q (CallsForBody.run p) at h = absurd at
 
-run_calm : {v w : World} {c : Call Url} {r : Result (CallAnswer (Value Url) c) Limit} → Executes v c r w → IsRun c → IsOk r → CalmWorld v w
-run_calm (Executes.start p) at h = absurd at
-run_calm {v} (Executes.run {end = end} {s = s} p) at h = let k = ok_some end h in ran_world v s (runs_calm p k.0 k.1)
+run_calm : {v w : World} {c : Call Url} {r : Result (CallAnswer (Value Url) c) Limit} → CallsForBody v c r w → IsRun c → IsOk r → CalmWorld v w
+run_calm (CallsForBody.start p) at h = absurd at
+run_calm {v} (CallsForBody.run {end = end} {s = s} p) at h = let k = ok_some end h in ran_world v s (runs_calm p k.0 k.1)
 
 abbrev Keep : World → World → Type 0
 Keep v w = CalmWorld v w
 
-lasts : LastsLive evaluation Executes Keep
+lasts : LastsLive evaluation CallsForBody Keep
 lasts = record {
   same = λ w. calm_same w;
   on = λ p q. calm_on p q;
@@ -353,15 +353,15 @@ less_promises n v w one e q =
 load_less : {v w : World} {s : ℕ} (a : Result ℕ Limit) → EvaluatesLoad v s a w → (r : Reaction Url) → weight_of r ≡ 1 → stopped (when_evaluated w r a) ≡ None → Less 2 v (when_evaluated w r a)
 load_less {v} {w} (Ok p) e r one live =
     let q = register_queue w.promises p r in
-    let c : CalmWorld (with_linked v e.linked) w = evaluates_live evaluation Executes Keep lasts (with_linked v e.linked) e.root e.evaluates in
+    let c : CalmWorld (with_linked v e.linked) w = evaluates_live evaluation CallsForBody Keep lasts (with_linked v e.linked) e.root e.evaluates in
     record { steps = c.steps; within = c.within; quiet = λ f. let k = c.quiet f in omega (arith, q, k, one) }
-load_less {v} {w} (Err limit) e r one live = absurd (live_not w (evaluates_stop evaluation Executes IsStopped stops_call (with_linked v e.linked) e.root e.evaluates) live)
+load_less {v} {w} (Err limit) e r one live = absurd (live_not w (evaluates_stop evaluation CallsForBody IsStopped stops_call (with_linked v e.linked) e.root e.evaluates) live)
 
-fulfills_less : {v w : World} {m : Url} (a : Result (Unit {0}) Limit) → Fulfills evaluation Executes v m a w → stopped w ≡ None → Less 1 v w
-fulfills_less {v} {w} (Ok tt) p live = less_of 1 (omega arith) (fulfills_live evaluation Executes Keep lasts p)
-fulfills_less {v} {w} (Err limit) p live = absurd (live_not w (fulfills_stop evaluation Executes IsStopped stops_call p) live)
+fulfills_less : {v w : World} {m : Url} (a : Result (Unit {0}) Limit) → Fulfills evaluation CallsForBody v m a w → stopped w ≡ None → Less 1 v w
+fulfills_less {v} {w} (Ok tt) p live = less_of 1 (omega arith) (fulfills_live evaluation CallsForBody Keep lasts p)
+fulfills_less {v} {w} (Err limit) p live = absurd (live_not w (fulfills_stop evaluation CallsForBody IsStopped stops_call p) live)
 
-resumes_less : {v : World} {m : Url} {how : Settled (Value Url)} (end : Result (Unit {0}) Limit) {s : S} → ResumesBody same_url modules_in BeginsImport (state_of v) m how end s → stopped (with_state v s) ≡ None → Less 1 v (with_state v s)
+resumes_less : {v : World} {m : Url} {how : Settled (Value Url)} (end : Result (Unit {0}) Limit) {s : S} → ResumesBody same_url modules_in BeginsImport (body_state v) m how end s → stopped (with_state v s) ≡ None → Less 1 v (with_state v s)
 resumes_less {v} (Ok tt) {s} p live =
     let c = resumes_calm p refl in
     record { steps = c.grows; within = c.within; quiet = λ f. let q = c.quiet f in omega (arith, q) }
@@ -379,7 +379,7 @@ reacts_less {v} {w = w} (refused p n) live = less_promises 2 v w (omega arith) r
 reacts_less {v} {w = w} (evaluated p root n o) live = less_promises 1 v w (omega arith) refl (settle_queue v.promises p _)
 reacts_less {v} {w = w} (threw p n) live = less_promises 1 v w (omega arith) refl (settle_queue v.promises p _)
 reacts_less (body_ended {end = a} p) live = fulfills_less a p live
-reacts_less (body_threw p) live = less_of 1 (omega arith) (rejects_live evaluation Executes Keep lasts p)
+reacts_less (body_threw p) live = less_of 1 (omega arith) (rejects_live evaluation CallsForBody Keep lasts p)
 reacts_less {v} (resumes {end = a} p) live = resumes_less a p live
 
 -- ---- counts
@@ -417,7 +417,7 @@ job_within w mid r rest how few p live = (reacts_less p live).within few
 -- as a law
 pub jobs_lower : JobsLower
 jobs_lower = record {
-  steps = λ w after d. (reacts_less d.reacts d.live).steps;
-  within = λ w after d few. (reacts_less d.reacts d.live).within few;
-  less = λ w after d e. let q = (reacts_less d.reacts d.live).quiet e in let n = next_queue w.promises d.rest d.job d.first in omega (arith, q, n);
+  steps = λ w after d live. (reacts_less d.reacts live).steps;
+  within = λ w after d live few. (reacts_less d.reacts live).within few;
+  less = λ w after d live e. let q = (reacts_less d.reacts live).quiet e in let n = next_queue w.promises d.left d.job d.first in omega (arith, q, n);
 }

@@ -13,16 +13,16 @@ use Rattle.esm_loads.specs.Arrival.{open_asks}
 use Rattle.esm_loads.specs.ImportCall.{BeginsImport}
 use Rattle.esm_eval.specs.Nodes.{Call, CallAnswer, Start, module_of}
 use Rattle.esm_eval.specs.Begins.{First, HaveBegunOnce}
-use Rattle.esm_body.specs.State.{State, Event, Standing, Answered, has_begun, Begins, Ends, Throws, note}
+use Rattle.esm_body.specs.State.{State, Event, Standing, AnswerWith, has_begun, Begins, Ends, Throws, note}
 use Rattle.esm_body.specs.Segment.{Ended, Normal, Thrown, Awaiting, Stopped}
 use Rattle.esm_body.specs.Bodies.{StartsBody, ResumesBody, segment_end, settle_done, url_in}
-use Rattle.esm_world.specs.World.{World, modules_in, state_of, with_state, with_host, opening, stopped}
-use Rattle.esm_world.specs.Layers.{Executes, evaluation, with_linked, with_promises}
+use Rattle.esm_world.specs.World.{World, modules_in, body_state, with_state, with_host, opening, stopped}
+use Rattle.esm_world.specs.Layers.{CallsForBody, evaluation, with_linked, with_promises}
 use Rattle.esm_world.specs.Jobs.{EvaluatesLoad, Reacts, Jobs, when_evaluated}
 use Rattle.esm_world.specs.Turn.{Tasks, Turn, fetched}
 use Rattle.esm_ast.specs.Deliveries.{Delivery}
 use Rattle.esm_world.specs.Run.{Runs}
-use Rattle.esm_world.specs.Awaits.{standing_of, AwaitsHaveBodies, RunsHaveBodies}
+use Rattle.esm_world.specs.Awaits.{standing_count, AwaitsHaveBodies, RunsHaveBodies}
 use Rattle.esm_world.proofs.AwaitCounts.{standing_more, take_count, taken_is}
 use Rattle.esm_world.proofs.AwaitsKept.{awaits_keep_bodies}
 use Rattle.esm_world.proofs.OuterKeeps.{LastsOuter, noted, segment_around, runs_around}
@@ -51,7 +51,7 @@ data Stood (m : Url) (end : Result (Unit {0}) Limit) (old : Stand) : Stand → T
 note_standing : (url : Url → List ℕ) (w : S) (event : Event Url) → (note url w event).1.engine.standing ≡ w.engine.standing
 note_standing url w event = ap (λ a. a.1) (noted url w event (note url w event) refl)
 
-done_standing : (p : ℕ) (how : Settled (Value Url)) (t : Answered (Unit {0}) S) → (settle_done p how t).1.engine.standing ≡ t.1.engine.standing
+done_standing : (p : ℕ) (how : Settled (Value Url)) (t : AnswerWith (Unit {0}) S) → (settle_done p how t).1.engine.standing ≡ t.1.engine.standing
 done_standing p how (Ok noted, w) = refl
 done_standing p how (Err why, w) = refl
 
@@ -74,20 +74,20 @@ started_so {v} {m = m} {w = w} (StartsBody.stopped {why = why} h) =
 started_so {v} {m = m} {done = done} {end = end} {w = w} (StartsBody.segment {mid = mid} {late = late} {how = how} h p e) =
     stood_from m end v.engine.standing late.engine.standing w.engine.standing
     ((segment_around same_url modules_in BeginsImport (λ o x. Unit {0}) any_outer p).standing ∙ ap (λ a. a.1) (noted (url_in same_url modules_in BeginsImport v) v (Begins m) _ h))
-    (subst (λ (t : Answered (Unit {0}) S). Stood m t.0 late.engine.standing t.1.engine.standing) e (ended_so (url_in same_url modules_in BeginsImport v) m done how late))
+    (subst (λ (t : AnswerWith (Unit {0}) S). Stood m t.0 late.engine.standing t.1.engine.standing) e (ended_so (url_in same_url modules_in BeginsImport v) m done how late))
 
 resumed_so : {v : S} {m : Url} {how : Settled (Value Url)} {end : Result (Unit {0}) Limit} {w : S} → (p : ResumesBody same_url modules_in BeginsImport v m how end w) → Stood m end p.taken.others w.engine.standing
 resumed_so {v} {m = m} {end = end} {w = w} p =
     stood_from m end p.taken.others p.late.engine.standing w.engine.standing
     (segment_around same_url modules_in BeginsImport (λ o x. Unit {0}) any_outer p.runs).standing
-    (subst (λ (t : Answered (Unit {0}) S). Stood m t.0 p.late.engine.standing t.1.engine.standing) p.ends (ended_so (url_in same_url modules_in BeginsImport v) m p.taken.standing.done p.ended p.late))
+    (subst (λ (t : AnswerWith (Unit {0}) S). Stood m t.0 p.late.engine.standing t.1.engine.standing) p.ends (ended_so (url_in same_url modules_in BeginsImport v) m p.taken.standing.done p.ended p.late))
 
 -- ---- each stands once
 
 -- no body stands at two awaits, and one that hasn't begun at none
 pub record StandOnce (w : World) : Type 0 where
-  pub once : (m : Url) → standing_of m w.engine.standing ≤ 1
-  pub unbegun : (m : Url) → evaluation.begun w m ≡ false → standing_of m w.engine.standing ≡ 0
+  pub once : (m : Url) → standing_count m w.engine.standing ≤ 1
+  pub unbegun : (m : Url) → evaluation.begun w m ≡ false → standing_count m w.engine.standing ≡ 0
 
 abbrev one : Url → Url → ℕ
 one m x = cond (same_url m x) 1 0
@@ -102,22 +102,22 @@ unbegun_before v w x f h = by (cases (evaluation.begun v x))
 
 same_stand : (v w : World) → w.engine.standing ≡ v.engine.standing → ((x : Url) → evaluation.begun v x ≡ true → evaluation.begun w x ≡ true) → StandOnce v → StandOnce w
 same_stand v w e f h = record {
-  once = λ m. subst (λ ss. standing_of m ss ≤ 1) (sym e) (h.once m);
-  unbegun = λ m n. ap (λ ss. standing_of m ss) e ∙ h.unbegun m (unbegun_before v w m (f m) n);
+  once = λ m. subst (λ ss. standing_count m ss ≤ 1) (sym e) (h.once m);
+  unbegun = λ m n. ap (λ ss. standing_count m ss) e ∙ h.unbegun m (unbegun_before v w m (f m) n);
 }
 
 -- the body of a module that hasn't begun stands besides
 more_stand : (v w : World) (m : Url) (s : Standing Url) → s.at ≡ m → w.engine.standing ≡ v.engine.standing ++ s ∷ [] → ((x : Url) → evaluation.begun v x ≡ true → evaluation.begun w x ≡ true) → evaluation.begun v m ≡ false → evaluation.begun w m ≡ true → StandOnce v → StandOnce w
 more_stand v w m s at e f late begun h = record { once = λ x. once x (cases (same_url m x)); unbegun = λ x n. unbegun x n (cases (same_url m x)) }
   where
-    count : (x : Url) → standing_of x w.engine.standing ≡ standing_of x v.engine.standing + one m x
+    count : (x : Url) → standing_count x w.engine.standing ≡ standing_count x v.engine.standing + one m x
     count x =
-        let a = ap (λ ss. standing_of x ss) e in
+        let a = ap (λ ss. standing_count x ss) e in
         let b = standing_more x v.engine.standing (s ∷ []) in
         let c : ◌≡◌ {A = ℕ} (one s.at x) (one m x) = ap (λ y. one y x) at in
         omega (arith, a, b, c)
 
-    once : (x : Url) → (same_url m x ≡ true) ⊎ (same_url m x ≡ false) → standing_of x w.engine.standing ≤ 1
+    once : (x : Url) → (same_url m x ≡ true) ⊎ (same_url m x ≡ false) → standing_count x w.engine.standing ≤ 1
     once x (inl t) =
         let k = count x in
         let o : ◌≡◌ {A = ℕ} (one m x) 1 = ap (λ b. by b) t in
@@ -135,7 +135,7 @@ more_stand v w m s at e f late begun h = record { once = λ x. once x (cases (sa
         by : Bool → ℕ
         by b = cond b 1 0
 
-    unbegun : (x : Url) → evaluation.begun w x ≡ false → (same_url m x ≡ true) ⊎ (same_url m x ≡ false) → standing_of x w.engine.standing ≡ 0
+    unbegun : (x : Url) → evaluation.begun w x ≡ false → (same_url m x ≡ true) ⊎ (same_url m x ≡ false) → standing_count x w.engine.standing ≡ 0
     unbegun x n (inl t) = absurd (let k : evaluation.begun w x ≡ true = subst (λ y. evaluation.begun w y ≡ true) (same_text m x t) begun in cc)
     unbegun x n (inr d) =
         let k = count x in
@@ -151,21 +151,21 @@ more_stand v w m s at e f late begun h = record { once = λ x. once x (cases (sa
 abbrev Grows : World → World → Type 0
 Grows v w = (x : Url) → evaluation.begun v x ≡ true → evaluation.begun w x ≡ true
 
-call_stands : {v w : World} {c : Call Url} {r : Result (CallAnswer (Value Url) c) Limit} → Executes v c r w → evaluation.begun v (module_of c) ≡ false → StandOnce v → StandOnce w
-call_stands {v} (Executes.start {m = m} {done = done} {end = end} {s = s} q) late h = by (begun_keeps (call_begins (Executes.start {w = v} q))) s.engine.standing refl (started_so q)
+call_stands : {v w : World} {c : Call Url} {r : Result (CallAnswer (Value Url) c) Limit} → CallsForBody v c r w → evaluation.begun v (module_of c) ≡ false → StandOnce v → StandOnce w
+call_stands {v} (CallsForBody.start {m = m} {done = done} {end = end} {s = s} q) late h = by (begun_keeps (call_begins (CallsForBody.start {w = v} q))) s.engine.standing refl (started_so q)
   where
     by : Grows v (with_state v s) → (ss : Stand) → s.engine.standing ≡ ss → Stood m end v.engine.standing ss → StandOnce (with_state v s)
     by grows ss e Stood.same = same_stand v (with_state v s) e grows h
     by grows ss e (Stood.more t at ok) =
         more_stand v (with_state v s) m t at e grows late
-        (steady.starts v (with_state v s) (Start m done) tt (Executes.start {w = v} (subst (λ o. StartsBody same_url modules_in BeginsImport (state_of v) m done o s) ok q))) h
-call_stands {v} (Executes.run {s = s} q) late h =
-    same_stand v (with_state v s) (runs_around same_url modules_in BeginsImport (λ o x. Unit {0}) any_outer q).standing (begun_keeps (call_begins (Executes.run {w = v} q))) h
+        (steady.starts v (with_state v s) (Start m done) tt (CallsForBody.start {w = v} (subst (λ o. StartsBody same_url modules_in BeginsImport (body_state v) m done o s) ok q))) h
+call_stands {v} (CallsForBody.run {s = s} q) late h =
+    same_stand v (with_state v s) (runs_around same_url modules_in BeginsImport (λ o x. Unit {0}) any_outer q).standing (begun_keeps (call_begins (CallsForBody.run {w = v} q))) h
 
 abbrev Keep : World → World → Type 0
 Keep v w = StandOnce v → StandOnce w
 
-lasts : Lasts evaluation (First evaluation Executes) Keep
+lasts : Lasts evaluation (First evaluation CallsForBody) Keep
 lasts = record {
   same = λ w h. h;
   on = λ p q h. q (p h);
@@ -193,9 +193,9 @@ load_stands {v} {w} {a = a} b p r h =
     let now = with_linked v p.linked in
     let first = makes_first_calls.evaluates now w p.root a (calm_same v now b refl refl refl) p.evaluates in
     same_engine w (when_evaluated w r a) (by_answer w r a)
-    (evaluates_keeps evaluation (First evaluation Executes) Keep lasts now p.root first (same_engine v now refl h))
+    (evaluates_keeps evaluation (First evaluation CallsForBody) Keep lasts now p.root first (same_engine v now refl h))
 
-resumes_stand : {v : World} {m : Url} {how : Settled (Value Url)} {end : Result (Unit {0}) Limit} {s : S} → ResumesBody same_url modules_in BeginsImport (state_of v) m how end s → StandOnce v → StandOnce (with_state v s)
+resumes_stand : {v : World} {m : Url} {how : Settled (Value Url)} {end : Result (Unit {0}) Limit} {s : S} → ResumesBody same_url modules_in BeginsImport (body_state v) m how end s → StandOnce v → StandOnce (with_state v s)
 resumes_stand {v} {m} {how} {end} {s} p h = by s.engine.standing refl (resumed_so p)
   where
     now : World
@@ -207,23 +207,23 @@ resumes_stand {v} {m} {how} {end} {s} p h = by s.engine.standing refl (resumed_s
     at : p.taken.standing.at ≡ m
     at = taken_is v.engine.standing m p.taken p.stands
 
-    left : (x : Url) → standing_of x v.engine.standing ≡ one m x + standing_of x p.taken.others
+    left : (x : Url) → standing_count x v.engine.standing ≡ one m x + standing_count x p.taken.others
     left x =
         let c = take_count x v.engine.standing m p.taken p.stands in
         let d : ◌≡◌ {A = ℕ} (one p.taken.standing.at x) (one m x) = ap (λ y. one y x) at in
         omega (arith, c, d)
 
-    less : ((x : Url) → standing_of x s.engine.standing ≤ standing_of x v.engine.standing) → StandOnce now
+    less : ((x : Url) → standing_count x s.engine.standing ≤ standing_count x v.engine.standing) → StandOnce now
     less f = record {
       once = λ x. let a = f x in let b = h.once x in omega (arith, a, b);
       unbegun = λ x n. let a = f x in let b = h.unbegun x (sym (grows x) ∙ n) in omega (arith, a, b);
     }
 
     by : (ss : Stand) → s.engine.standing ≡ ss → Stood m end p.taken.others ss → StandOnce now
-    by ss e Stood.same = less (λ x. let a = left x in let b = ap (λ ss. standing_of x ss) e in omega (arith, a, b))
+    by ss e Stood.same = less (λ x. let a = left x in let b = ap (λ ss. standing_count x ss) e in omega (arith, a, b))
     by ss e (Stood.more t own ok) = less (λ x.
         let a = left x in
-        let b = ap (λ ss. standing_of x ss) e in
+        let b = ap (λ ss. standing_count x ss) e in
         let c = standing_more x p.taken.others (t ∷ []) in
         let d : ◌≡◌ {A = ℕ} (one t.at x) (one m x) = ap (λ y. one y x) own in
         omega (arith, a, b, c, d))
@@ -239,8 +239,8 @@ reacts_stand {v} {w = w} b (Reacts.fault p root f ls n l) h = same_engine v w re
 reacts_stand {v} {w = w} b (Reacts.refused p n) h = same_engine v w refl h
 reacts_stand {v} {w = w} b (Reacts.evaluated p root n o) h = same_engine v w refl h
 reacts_stand {v} {w = w} b (Reacts.threw p n) h = same_engine v w refl h
-reacts_stand {v} {w = w} b (Reacts.body_ended {m = m} {end = a} p) h = fulfills_keeps evaluation (First evaluation Executes) Keep lasts (makes_first_calls.fulfills v w m a b p) h
-reacts_stand b (Reacts.body_threw p) h = rejects_keeps evaluation (First evaluation Executes) Keep lasts p h
+reacts_stand {v} {w = w} b (Reacts.body_ended {m = m} {end = a} p) h = fulfills_keeps evaluation (First evaluation CallsForBody) Keep lasts (makes_first_calls.fulfills v w m a b p) h
+reacts_stand b (Reacts.body_threw p) h = rejects_keeps evaluation (First evaluation CallsForBody) Keep lasts p h
 reacts_stand b (Reacts.resumes p) h = resumes_stand p h
 
 -- ---- runs

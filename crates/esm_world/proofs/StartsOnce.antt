@@ -28,8 +28,8 @@ use Rattle.esm_eval.specs.Waiting.{IsBetweenCalls, HasOpenWait}
 use Rattle.esm_eval.specs.Laws.{MakesFirstCalls}
 use Rattle.esm_eval.proofs.OnceEnds.{begins_once}
 use Rattle.esm_body.specs.State.{State, Event, Begins, Ends, Throws, begins_at}
-use Rattle.esm_world.specs.World.{World, modules_in, state_of, with_host, opening, stopped}
-use Rattle.esm_world.specs.Layers.{Executes, evaluation, with_linked, with_promises}
+use Rattle.esm_world.specs.World.{World, modules_in, body_state, with_host, opening, stopped}
+use Rattle.esm_world.specs.Layers.{CallsForBody, evaluation, with_linked, with_promises}
 use Rattle.esm_world.specs.Jobs.{EvaluatesLoad, Reacts, Jobs, when_evaluated}
 use Rattle.esm_world.specs.Jobs.Reacts.{entry_linked, entry_fault, entry_refused, entry_ended, entry_threw, linked, fault, refused, evaluated, threw, body_ended, body_threw, resumes}
 use Rattle.esm_world.specs.Turn.{Tasks, Turn, fetched}
@@ -67,11 +67,11 @@ stops_state = record {
   begin = λ {o} {x} {m} {text} {p} {limit} b w. import_stop x.imports.stopped w.engine.stopped limit b.ends;
 }
 
-by_stop : {v w : World} {c : Call Url} {r : Result (CallAnswer (Value Url) c) Limit} → Executes v c r w → StopsTold IsStoppedState r (state_of w)
-by_stop (Executes.start p) = starts_body_stop BeginsImport IsStoppedState stops_state same_url modules_in p
-by_stop (Executes.run p) = runs_body_stop BeginsImport IsStoppedState stops_state same_url modules_in p
+by_stop : {v w : World} {c : Call Url} {r : Result (CallAnswer (Value Url) c) Limit} → CallsForBody v c r w → StopsTold IsStoppedState r (body_state w)
+by_stop (CallsForBody.start p) = starts_body_stop BeginsImport IsStoppedState stops_state same_url modules_in p
+by_stop (CallsForBody.run p) = runs_body_stop BeginsImport IsStoppedState stops_state same_url modules_in p
 
-pub stops_call : StopsCall evaluation Executes IsStopped
+pub stops_call : StopsCall evaluation CallsForBody IsStopped
 stops_call = record { call = λ p. by_stop p }
 
 -- ---- bodies that have begun
@@ -95,9 +95,9 @@ begun_alike v w e m = begun_is w m ∙ ap (λ xs. has xs m) e ∙ sym (begun_is 
 pub record CallBegins (v : World) (m : Url) (w : World) : Type 0 where
   pub starts_are : (starts w ≡ starts v) ⊎ (starts w ≡ starts v ++ m ∷ [])
 
-pub call_begins : {v w : World} {c : Call Url} {r : Result (CallAnswer (Value Url) c) Limit} → Executes v c r w → CallBegins v (module_of c) w
-call_begins (Executes.start p) = record { starts_are = (starts_body_keeps same_url modules_in BeginsImport Progress imported p).starts }
-call_begins (Executes.run p) = record { starts_are = (runs_body_keeps same_url modules_in BeginsImport Progress imported p).starts }
+pub call_begins : {v w : World} {c : Call Url} {r : Result (CallAnswer (Value Url) c) Limit} → CallsForBody v c r w → CallBegins v (module_of c) w
+call_begins (CallsForBody.start p) = record { starts_are = (starts_body_keeps same_url modules_in BeginsImport Progress imported p).starts }
+call_begins (CallsForBody.run p) = record { starts_are = (runs_body_keeps same_url modules_in BeginsImport Progress imported p).starts }
 
 abbrev pub IsOk : {A : Type 0} → Result A Limit → Type 0
 IsOk (Ok a) = Unit {0}
@@ -111,9 +111,9 @@ pub ok_some : {A : Type 0} (r : Result A Limit) → IsOk r → (a : A) × (r ≡
 ok_some (Ok a) h = (a, refl)
 ok_some (Err limit) h = absurd h
 
-pub call_starts : {v w : World} {c : Call Url} {r : Result (CallAnswer (Value Url) c) Limit} → Executes v c r w → IsOk r → starts w ≡ starts v ++ module_of c ∷ []
-call_starts (Executes.start {end = end} p) h = starts_body_begins same_url modules_in BeginsImport Progress imported p (ok_unit end h)
-call_starts (Executes.run {end = end} p) h = let k = ok_some end h in runs_body_begins same_url modules_in BeginsImport Progress imported p k.0 k.1
+pub call_starts : {v w : World} {c : Call Url} {r : Result (CallAnswer (Value Url) c) Limit} → CallsForBody v c r w → IsOk r → starts w ≡ starts v ++ module_of c ∷ []
+call_starts (CallsForBody.start {end = end} p) h = starts_body_begins same_url modules_in BeginsImport Progress imported p (ok_unit end h)
+call_starts (CallsForBody.run {end = end} p) h = let k = ok_some end h in runs_body_begins same_url modules_in BeginsImport Progress imported p k.0 k.1
 
 has_on : (us : List Url) (m x : Url) → has us x ≡ true → has (us ++ m ∷ []) x ≡ true
 has_on us m x h = has_append us (m ∷ []) x ∙ or_left (has us x) (has (m ∷ []) x) h
@@ -139,15 +139,15 @@ lawful = record {
   names = record { own = own_text; equal = same_text };
   put = λ w x n. record { node = λ y. refl; stamps = refl; begun = λ y. refl; awaits = λ y. refl };
   add_stamp = λ w x. record { nodes = λ y. refl; stamps = refl; begun = λ y. refl; awaits = λ y. refl };
-  make_promise = λ w. record { nodes = λ y. refl; stamps = refl; begun = λ y. refl; awaits = λ y. refl };
-  make_body_promise = λ w x. record { nodes = λ y. refl; stamps = refl; begun = λ y. refl; awaits = λ y. refl };
-  fulfill = λ w p. record { nodes = λ y. refl; stamps = refl; begun = λ y. refl; awaits = λ y. refl };
-  reject = λ w p v. record { nodes = λ y. refl; stamps = refl; begun = λ y. refl; awaits = λ y. refl };
+  make_promise = λ w. record { far = record { nodes = λ y. refl; stamps = refl; begun = λ y. refl }; awaits = λ y. refl };
+  make_body_promise = λ w x. record { far = record { nodes = λ y. refl; stamps = refl; begun = λ y. refl }; awaits = λ y. refl };
+  fulfill = λ w p. record { far = record { nodes = λ y. refl; stamps = refl; begun = λ y. refl }; awaits = λ y. refl };
+  reject = λ w p v. record { far = record { nodes = λ y. refl; stamps = refl; begun = λ y. refl }; awaits = λ y. refl };
 }
 
-nodes_of : {v w : World} {c : Call Url} {r : Result (CallAnswer (Value Url) c) Limit} → Executes v c r w → (w.nodes ≡ v.nodes) × (w.stamps ≡ v.stamps)
-nodes_of (Executes.start p) = (refl, refl)
-nodes_of (Executes.run p) = (refl, refl)
+nodes_of : {v w : World} {c : Call Url} {r : Result (CallAnswer (Value Url) c) Limit} → CallsForBody v c r w → (w.nodes ≡ v.nodes) × (w.stamps ≡ v.stamps)
+nodes_of (CallsForBody.start p) = (refl, refl)
+nodes_of (CallsForBody.run p) = (refl, refl)
 
 pub begun_keeps : {v w : World} {m : Url} → CallBegins v m w → (x : Url) → evaluation.begun v x ≡ true → evaluation.begun w x ≡ true
 begun_keeps {v} {w} {m} p x h = by p.starts_are
@@ -167,7 +167,7 @@ begins_other {v} {w} {m} p x h = by p.starts_are
     by (inl e) = inl (sym (begun_alike v w e x) ∙ h)
     by (inr e) = on (has_split (starts v) m x (sym (ap (λ xs. has xs x) e) ∙ sym (begun_is w x) ∙ h))
 
-pub steady : IsSteady evaluation Executes
+pub steady : IsSteady evaluation CallsForBody
 steady = record {
   call = λ w v c r p. record {
     nodes = λ x. ap (λ ns. ns x) (nodes_of p).0;
@@ -178,11 +178,11 @@ steady = record {
   starts = λ w v c r p. begun_is v (module_of c) ∙ ap (λ xs. has xs (module_of c)) (call_starts p tt) ∙ has_last (starts w) (module_of c);
 }
 
-begins_its_own : BeginsOne evaluation Executes
+begins_its_own : BeginsOne evaluation CallsForBody
 begins_its_own = record { call = λ w v c r p x h. begins_other (call_begins p) x h }
 
-pub makes_first_calls : MakesFirstCalls evaluation Executes
-makes_first_calls = begins_once evaluation Executes lawful steady begins_its_own
+pub makes_first_calls : MakesFirstCalls evaluation CallsForBody
+makes_first_calls = begins_once evaluation CallsForBody lawful steady begins_its_own
 
 -- ---- an evaluation whose calls are of bodies that haven't begun
 
@@ -192,14 +192,14 @@ Grow v w = Adds (starts v) (starts w)
 grow_same : (w : World) → Grow w w
 grow_same w = same
 
-first_call : (v w : World) (c : Call Url) (r : Result (CallAnswer (Value Url) c) Limit) → First evaluation Executes v c r w → Grow v w
+first_call : (v w : World) (c : Call Url) (r : Result (CallAnswer (Value Url) c) Limit) → First evaluation CallsForBody v c r w → Grow v w
 first_call v w c r p = by (call_begins p.1).starts_are
   where
     by : (starts w ≡ starts v) ⊎ (starts w ≡ starts v ++ module_of c ∷ []) → Grow v w
     by (inl e) = adds_same e
     by (inr e) = add (module_of c) (sym (begun_is v (module_of c)) ∙ p.0) (adds_same e)
 
-grows_first : Lasts evaluation (First evaluation Executes) Grow
+grows_first : Lasts evaluation (First evaluation CallsForBody) Grow
 grows_first = record {
   same = grow_same;
   on = λ p q. adds_on p q;
@@ -256,25 +256,25 @@ by_answer : (w : World) (r : Reaction Url) (a : Result ℕ Limit) → ((when_eva
 by_answer w r (Ok p) = (refl, refl, refl, refl)
 by_answer w r (Err limit) = (refl, refl, refl, refl)
 
-evaluated_once : (v : World) (m : Url) (a : Result ℕ Limit) (w : World) → HaveBegunOnce evaluation v → AreDistinct (starts v) → Evaluates evaluation Executes v m a w → Once w
+evaluated_once : (v : World) (m : Url) (a : Result ℕ Limit) (w : World) → HaveBegunOnce evaluation v → AreDistinct (starts v) → Evaluates evaluation CallsForBody v m a w → Once w
 evaluated_once v m a w h d p = record {
-  distinct = adds_distinct (evaluates_keeps evaluation (First evaluation Executes) Grow grows_first v m (makes_first_calls.evaluates v w m a h p)) d;
+  distinct = adds_distinct (evaluates_keeps evaluation (First evaluation CallsForBody) Grow grows_first v m (makes_first_calls.evaluates v w m a h p)) d;
   calm = by a p;
 }
   where
-    by : (a : Result ℕ Limit) → Evaluates evaluation Executes v m a w → stopped w ≡ None → HaveBegunOnce evaluation w
+    by : (a : Result ℕ Limit) → Evaluates evaluation CallsForBody v m a w → stopped w ≡ None → HaveBegunOnce evaluation w
     by (Ok n) p live = makes_first_calls.keeps_evaluates v w m n h p
-    by (Err limit) p live = absurd (none_stopped (stopped w) (evaluates_stop evaluation Executes IsStopped stops_call v m p) live)
+    by (Err limit) p live = absurd (none_stopped (stopped w) (evaluates_stop evaluation CallsForBody IsStopped stops_call v m p) live)
 
-fulfilled_once : (v : World) (m : Url) (a : Result (Unit {0}) Limit) (w : World) → HaveBegunOnce evaluation v → AreDistinct (starts v) → Fulfills evaluation Executes v m a w → Once w
+fulfilled_once : (v : World) (m : Url) (a : Result (Unit {0}) Limit) (w : World) → HaveBegunOnce evaluation v → AreDistinct (starts v) → Fulfills evaluation CallsForBody v m a w → Once w
 fulfilled_once v m a w h d p = record {
-  distinct = adds_distinct (fulfills_keeps evaluation (First evaluation Executes) Grow grows_first (makes_first_calls.fulfills v w m a h p)) d;
+  distinct = adds_distinct (fulfills_keeps evaluation (First evaluation CallsForBody) Grow grows_first (makes_first_calls.fulfills v w m a h p)) d;
   calm = by a p;
 }
   where
-    by : (a : Result (Unit {0}) Limit) → Fulfills evaluation Executes v m a w → stopped w ≡ None → HaveBegunOnce evaluation w
+    by : (a : Result (Unit {0}) Limit) → Fulfills evaluation CallsForBody v m a w → stopped w ≡ None → HaveBegunOnce evaluation w
     by (Ok tt) p live = makes_first_calls.keeps_fulfills v w m h p
-    by (Err limit) p live = absurd (none_stopped (stopped w) (fulfills_stop evaluation Executes IsStopped stops_call p) live)
+    by (Err limit) p live = absurd (none_stopped (stopped w) (fulfills_stop evaluation CallsForBody IsStopped stops_call p) live)
 
 once_to : (v w : World) → Once v → w.nodes ≡ v.nodes → w.stamps ≡ v.stamps → starts w ≡ starts v → stopped w ≡ stopped v → Once w
 once_to v w o n s e l = record { distinct = subst AreDistinct (sym e) o.distinct; calm = λ live. calm_same v w (o.calm (sym l ∙ live)) n s e }
@@ -298,7 +298,7 @@ reacts_once {v} {w = w} h d (evaluated p root n o) = once_same v w h d refl refl
 reacts_once {v} {w = w} h d (threw p n) = once_same v w h d refl refl refl
 reacts_once {v} {w = w} h d (body_ended {m = m} {end = a} p) = fulfilled_once v m a w h d p
 reacts_once {v} {w = w} h d (body_threw {m = m} {v = u} p) = record {
-  distinct = adds_distinct (rejects_keeps evaluation (First evaluation Executes) Grow grows_first p) d;
+  distinct = adds_distinct (rejects_keeps evaluation (First evaluation CallsForBody) Grow grows_first p) d;
   calm = λ live. makes_first_calls.keeps_rejects v w m u h p;
 }
 reacts_once {v} {w = w} h d (resumes p) = once_same v w h d refl refl (resumes_body_keeps same_url modules_in BeginsImport Progress imported p).starts
@@ -341,7 +341,7 @@ starts_once maps built entry trace ds what p =
 pub stops_are_told : StopsAreTold
 stops_are_told = record {
   executes = λ w after c limit p. by_stop p;
-  evaluates = λ w after m limit p. evaluates_stop evaluation Executes IsStopped stops_call w m p;
-  fulfills = λ w after m limit p. fulfills_stop evaluation Executes IsStopped stops_call p;
+  evaluates = λ w after m limit p. evaluates_stop evaluation CallsForBody IsStopped stops_call w m p;
+  fulfills = λ w after m limit p. fulfills_stop evaluation CallsForBody IsStopped stops_call p;
   resumes = λ w m how limit s p. resumes_body_stop BeginsImport IsStoppedState stops_state same_url modules_in p;
 }

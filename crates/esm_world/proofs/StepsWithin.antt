@@ -11,7 +11,7 @@ use Rattle.esm_values.specs.Operators.{values, text_of}
 use Rattle.esm_env.specs.Modules.{Modules}
 use Rattle.esm_body.specs.Scopes.{in_scopes}
 use Rattle.esm_body.specs.Rest.{Rest}
-use Rattle.esm_body.specs.State.{State, Importing, Answered, steps_by}
+use Rattle.esm_body.specs.State.{State, Importing, AnswerWith, steps_by}
 use Rattle.esm_body.specs.Acts.{Inner, Performs, AnswersAct, over_scopes, modules_of}
 use Rattle.esm_body.specs.BodyRewriting.{RewrittenBody, On, Gives, Waits, RewritesBody, own_url}
 use Rattle.esm_body.specs.BodyRewriting.RewritesBody.{begins_at, does, drops, sets, writes, throws, returns, prints, chooses, awaits, inner, inner_end, tries, tries_end}
@@ -30,7 +30,7 @@ pub within_same : {m n : ℕ} → n ≡ m → Within m n
 within_same {m} {n} e = λ h. omega (arith, e, h)
 
 module _ {N I : Type 0} where
-  abbrev told_steps : {A : Type 0} → Answered A (Inner N I) → ℕ
+  abbrev told_steps : {A : Type 0} → AnswerWith A (Inner N I) → ℕ
   told_steps t = steps_of t.1
 
   by_within : (w : Inner N I) (n : ℕ) (b : Bool) → nat_lt MAX_STEPS (steps_of w + n) ≡ b → Within (steps_of w) (told_steps (over_scopes w (steps_by b w.state n)))
@@ -42,7 +42,7 @@ module _ {N I : Type 0} (same : N → N → Bool) (modules : I → Modules N) (b
     abbrev Keep : Inner N I → Inner N I → Type 0
     Keep v w = Within (steps_of v) (steps_of w)
 
-    act_within : (w : Inner N I) (a : Act (Value N)) (t : Answered (AnswerTo a) (Inner N I)) → AnswersAct same modules begins m w a t → Keep w t.1
+    act_within : (w : Inner N I) (a : Act (Value N)) (t : AnswerWith (AnswerTo a) (Inner N I)) → AnswersAct same modules begins m w a t → Keep w t.1
     act_within w (act.Read x) t p = within_same (ap (λ t. t.0) (act_counted same modules begins m w (act.Read x) t tt p))
     act_within w (act.Member of x) t p = within_same (ap (λ t. t.0) (act_counted same modules begins m w (act.Member of x) t tt p))
     act_within w (act.Display of) t p = within_same (ap (λ t. t.0) (act_counted same modules begins m w (act.Display of) t tt p))

@@ -24,8 +24,8 @@ use Rattle.esm_eval.specs.Nodes.{Node, Call, CallAnswer}
 use Rattle.esm_body.specs.State.{State, Standing}
 use Rattle.esm_body.specs.Bodies.{Taken, take_standing, take_by, await_on}
 use Rattle.esm_world.specs.World.{World, EntryState, opening, stopped, host_of, with_host, with_state, modules_in}
-use Rattle.esm_world.specs.Layers.{Executes, evaluation, with_linked, with_promises}
-use Rattle.esm_world.specs.Jobs.{EvaluatesLoad, Reacts, Jobs, when_evaluated, with_entry}
+use Rattle.esm_world.specs.Layers.{CallsForBody, evaluation, with_linked, with_promises}
+use Rattle.esm_world.specs.Jobs.{EvaluatesLoad, Reacts, Jobs, when_evaluated, with_entry_state}
 use Rattle.esm_world.specs.Jobs.Reacts.{entry_linked, entry_fault, entry_refused, entry_ended, entry_threw, linked, fault, refused, evaluated, threw, body_ended, body_threw, resumes}
 use Rattle.esm_world.specs.Turn.{Tasks, Turn, fetched}
 use Rattle.esm_world.specs.Run.{IsAllowed, Runs}
@@ -123,11 +123,11 @@ segment_told h ss late t a k =
 pub call_told : (h : Host) (ss : List (Standing Url)) (m : Url) (done : ℕ) (w : Around Url Loading) → IsHostTold h → AreFree h ss → IsFree h.imports h.promises done → CallEnds KeepsTold m done (h, ss) w → AroundTold h w
 call_told h ss m done w t a f c = ends_told h m done c.late w (segment_told h ss c.late t a c.keeps) f c.ends
 
-calls : {v w : World} {c : Call Url} {r : Result (CallAnswer (Value Url) c) Limit} → AreTold v → FreeCall FreeIn v c → Executes v c r w → KeptWorld v w
-calls {v} t f (Executes.start {m = m} {done = done} {s = s} p) =
+calls : {v w : World} {c : Call Url} {r : Result (CallAnswer (Value Url) c) Limit} → AreTold v → FreeCall FreeIn v c → CallsForBody v c r w → KeptWorld v w
+calls {v} t f (CallsForBody.start {m = m} {done = done} {s = s} p) =
     let a = call_told (host_of v) v.engine.standing m done (around s) t.host t.standing f (starts_around same_url modules_in BeginsImport KeepsTold lasts_told p) in
     state_world v s t a.kept a.standing
-calls {v} t f (Executes.run {m = m} {s = s} p) =
+calls {v} t f (CallsForBody.run {m = m} {s = s} p) =
     let a = segment_told (host_of v) v.engine.standing (around s) t.host t.standing (runs_around same_url modules_in BeginsImport KeepsTold lasts_told p) in
     state_world v s t a.kept a.standing
 
@@ -146,7 +146,7 @@ stamps w x t = record { told = record { host = t.host; nodes = t.nodes; standing
 body_kept : (w : World) (x : Url) → AreTold w → KeptOf w.loading w.promises w.loading (make w.promises (BodyEnd x ∷ []))
 body_kept w x t = record { told = make_told w.loading w.promises (BodyEnd x ∷ []) t.host.told (tt, tt); free = made_free w.loading w.promises (BodyEnd x ∷ []); continues = continues_same w.loading }
 
-pub holding : Holding evaluation Executes AreTold FreeIn KeptWorld
+pub holding : Holding evaluation CallsForBody AreTold FreeIn KeptWorld
 holding = record {
   same = same;
   on = λ a b. on a b;
@@ -189,7 +189,7 @@ taken_told w j left t e =
 pub linked_told : (w : World) (ls : List Url) → AreTold w → AreTold (with_linked w ls)
 linked_told w ls t = record { host = t.host; nodes = t.nodes; standing = t.standing }
 
-pub entry_told : (w : World) (e : EntryState) → AreTold w → AreTold (with_entry w e)
+pub entry_told : (w : World) (e : EntryState) → AreTold w → AreTold (with_entry_state w e)
 entry_told w e t = record { host = t.host; nodes = t.nodes; standing = t.standing }
 
 pub errors_told : (w : World) (es : Errors) → AreTold w → AreTold (record w { errors = es })
@@ -208,7 +208,7 @@ import_settled w q s r how t is = (promises_world w (settle w.promises q how) t 
 
 pub evaluates_told : (w : World) (s : ℕ) (a : Result ℕ Limit) (after : World) → AreTold w → EvaluatesLoad w s a after → KeptWorld w after
 evaluates_told w s a after t p =
-    let k = evaluates_holds evaluation Executes AreTold FreeIn KeptWorld holding (with_linked w p.linked) p.root (linked_told w p.linked t) p.evaluates in
+    let k = evaluates_holds evaluation CallsForBody AreTold FreeIn KeptWorld holding (with_linked w p.linked) p.root (linked_told w p.linked t) p.evaluates in
     record { told = k.told; free = λ q f. k.free q (record { made = f.made; apart = f.apart }); continues = k.continues }
 
 some_is : {A : Type 0} {x y : A} → Some x ≡ Some y → x ≡ y
@@ -267,8 +267,8 @@ reacts_told {v} p t m i (fault {s = s} q root f ls n l) = job_of refl (import_se
 reacts_told {v} p t m i (refused {s = s} {v = u} q n) = job_of refl (import_settled v q s p (Rejected u) t (purpose_of v.loading s q p n m))
 reacts_told {v} p t m i (evaluated {s = s} q root n o) = job_of refl (import_settled v q s m.load (Fulfilled (Namespace root)) t (loaded_of v.loading s q n m))
 reacts_told {v} p t m i (threw {s = s} {v = u} q n) = job_of refl (import_settled v q s m.load (Rejected u) t (loaded_of v.loading s q n m))
-reacts_told p t m i (body_ended e) = of_world (fulfills_holds evaluation Executes AreTold FreeIn KeptWorld holding t e)
-reacts_told p t m i (body_threw e) = of_world (rejects_holds evaluation Executes AreTold FreeIn KeptWorld holding t e)
+reacts_told p t m i (body_ended e) = of_world (fulfills_holds evaluation CallsForBody AreTold FreeIn KeptWorld holding t e)
+reacts_told p t m i (body_threw e) = of_world (rejects_holds evaluation CallsForBody AreTold FreeIn KeptWorld holding t e)
 reacts_told {v} p t m i (resumes {m = x} {s = s} e) =
     let a = taken_free v.engine.standing x (host_of v) e.taken e.stands t.standing in
     let k = call_told (host_of v) e.taken.others x e.taken.standing.done (around s) t.host a.1 a.0 (resumes_around same_url modules_in BeginsImport KeepsTold lasts_told e) in

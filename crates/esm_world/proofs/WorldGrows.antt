@@ -9,7 +9,7 @@ use Rattle.esm_promise.specs.Reactions.{Reaction}
 use Rattle.esm_loads.specs.ImportCall.{BeginsImport}
 use Rattle.esm_eval.specs.Nodes.{Call, CallAnswer}
 use Rattle.esm_world.specs.World.{World, modules_in}
-use Rattle.esm_world.specs.Layers.{Executes, evaluation, with_linked}
+use Rattle.esm_world.specs.Layers.{CallsForBody, evaluation, with_linked}
 use Rattle.esm_world.specs.Jobs.{EvaluatesLoad, Reacts, Jobs, when_evaluated}
 use Rattle.esm_world.specs.Jobs.Reacts.{entry_linked, entry_fault, entry_refused, entry_ended, entry_threw, linked, fault, refused, evaluated, threw, body_ended, body_threw, resumes}
 use Rattle.esm_world.specs.Turn.{Tasks}
@@ -20,14 +20,14 @@ use Rattle.esm_body.proofs.BodyKeeps.{Imported, starts_body_keeps, runs_body_kee
 pub imported : Imported BeginsImport Progress
 imported = record { same = same_progress; on = λ p q. progress_on p q; call = λ p. begins_progress p }
 
-pub executes_progress : {v w : World} {c : Call Url} {r : Result (CallAnswer (Value Url) c) Limit} → Executes v c r w → Progress v.loading w.loading
-executes_progress (Executes.start p) = (starts_body_keeps same_url modules_in BeginsImport Progress imported p).imports
-executes_progress (Executes.run p) = (runs_body_keeps same_url modules_in BeginsImport Progress imported p).imports
+pub executes_progress : {v w : World} {c : Call Url} {r : Result (CallAnswer (Value Url) c) Limit} → CallsForBody v c r w → Progress v.loading w.loading
+executes_progress (CallsForBody.start p) = (starts_body_keeps same_url modules_in BeginsImport Progress imported p).imports
+executes_progress (CallsForBody.run p) = (runs_body_keeps same_url modules_in BeginsImport Progress imported p).imports
 
 abbrev WorldProgress : World → World → Type 0
 WorldProgress v w = Progress v.loading w.loading
 
-lasts : Lasts evaluation Executes WorldProgress
+lasts : Lasts evaluation CallsForBody WorldProgress
 lasts = record {
   same = λ w. same_progress w.loading;
   on = λ p q. progress_on p q;
@@ -45,7 +45,7 @@ by_answer w r (Ok p) = refl
 by_answer w r (Err limit) = refl
 
 load_progress : {v w : World} {s : ℕ} {a : Result ℕ Limit} → EvaluatesLoad v s a w → (r : Reaction Url) → WorldProgress v (when_evaluated w r a)
-load_progress {v} {w} {a = a} p r = subst (λ l. Progress v.loading l) (sym (by_answer w r a)) (evaluates_keeps evaluation Executes WorldProgress lasts (with_linked v p.linked) p.root p.evaluates)
+load_progress {v} {w} {a = a} p r = subst (λ l. Progress v.loading l) (sym (by_answer w r a)) (evaluates_keeps evaluation CallsForBody WorldProgress lasts (with_linked v p.linked) p.root p.evaluates)
 
 reacts_progress : {v : World} {r : Reaction Url} {how : Settled (Value Url)} {w : World} → Reacts v r how w → WorldProgress v w
 reacts_progress (entry_linked p) = load_progress p _
@@ -58,8 +58,8 @@ reacts_progress {v} (fault p root f ls n l) = same_progress v.loading
 reacts_progress {v} (refused p n) = same_progress v.loading
 reacts_progress {v} (evaluated p root n o) = same_progress v.loading
 reacts_progress {v} (threw p n) = same_progress v.loading
-reacts_progress (body_ended p) = fulfills_keeps evaluation Executes WorldProgress lasts p
-reacts_progress (body_threw p) = rejects_keeps evaluation Executes WorldProgress lasts p
+reacts_progress (body_ended p) = fulfills_keeps evaluation CallsForBody WorldProgress lasts p
+reacts_progress (body_threw p) = rejects_keeps evaluation CallsForBody WorldProgress lasts p
 reacts_progress (resumes p) = (resumes_body_keeps same_url modules_in BeginsImport Progress imported p).imports
 
 pub jobs_progress : {v w : World} → Jobs v w → WorldProgress v w

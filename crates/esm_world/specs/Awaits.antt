@@ -47,9 +47,9 @@ module _ (m : Url) where
   awaits_of ps = awaits_in_jobs ps.jobs + awaits_pending ps.all
 
   -- how often the body of the module stands at an await
-  abbrev pub standing_of : List (Standing Url) → ℕ
-  standing_of [] = 0
-  standing_of (s ∷ ss) = cond (same_url s.at m) 1 0 + standing_of ss
+  abbrev pub standing_count : List (Standing Url) → ℕ
+  standing_count [] = 0
+  standing_count (s ∷ ss) = cond (same_url s.at m) 1 0 + standing_count ss
 
 -- each job's promise is settled
 abbrev pub AreSettled : Promises (Reaction Url) (Value Url) → List (Job (Reaction Url)) → Type 0
@@ -57,7 +57,7 @@ AreSettled ps jobs = AllByRecursion (λ (j : Job (Reaction Url)). is_some (settl
 
 -- each reaction to an await, of a pending promise or in a job, has a body that stands at an await, and each job has a result
 pub record HaveStanding (ps : Promises (Reaction Url) (Value Url)) (standing : List (Standing Url)) : Type 0 where
-  pub bodies : (m : Url) → awaits_of m ps ≤ standing_of m standing
+  pub bodies : (m : Url) → awaits_of m ps ≤ standing_count m standing
   pub jobs : AreSettled ps ps.jobs
 
 -- so it is in the world
@@ -81,7 +81,7 @@ pub record AwaitsKeepBodies : Type 0 where
 -- so it is in each world of a run, and no body stands at two awaits
 pub record RunHasBodies (w : World) : Type 0 where
   pub bodies : AwaitsHaveBodies w
-  pub once : (m : Url) → standing_of m w.engine.standing ≤ 1
+  pub once : (m : Url) → standing_count m w.engine.standing ≤ 1
 
 abbrev pub RunsHaveBodies : Type 0
 RunsHaveBodies = (maps : Maps) (built : List Item → Bool) (entry : Url) (trace : Bool) (deliveries : List Delivery) (w : World)

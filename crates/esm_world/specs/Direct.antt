@@ -19,9 +19,9 @@ use Rattle.esm_loads.specs.Loading.{LoadComplete, no_pending, opening_loading}
 use Rattle.esm_loads.specs.Host.{Host}
 use Rattle.esm_loads.specs.Arrival.{bytes_of}
 use Rattle.esm_world.specs.ImportCalls.{holds_import}
-use Rattle.esm_world.specs.World.{World, world_of, stopped}
+use Rattle.esm_world.specs.World.{World, world_over, stopped}
 use Rattle.esm_world.specs.Jobs.{Jobs}
-use Rattle.esm_world.specs.LastLine.{IsLastLine, Ending, ending_by, status_of}
+use Rattle.esm_world.specs.LastLine.{IsLastLine, Ending, ending_by, exit_status}
 use Rattle.esm_world.specs.Run.{Shown}
 use Rattle.esm_ast.specs.Deliveries.{Files}
 
@@ -81,7 +81,7 @@ module _ (maps : Maps) (built : List Item → Bool) (files : Files) where
   -- is left
   pub record DirectRun (entry : Url) (trace : Bool) (modules : List Url) (after : World) : Type 0 where
     pub closure : AreClosure entry modules
-    pub jobs : Jobs (world_of (gathered entry modules) trace) after
+    pub jobs : Jobs (world_over (gathered entry modules) trace) after
 
   abbrev pub file_bytes_by : Option OutcomeView → ℕ
   file_bytes_by (Some c) = bytes_of c
@@ -107,5 +107,5 @@ pub record ShowsDirect (after : World) (what : Shown) : Type 0 where
   pub ends : direct_ending after ≡ Some ending
   pub log : what.log ≡ after.engine.log
   pub events : what.events ≡ after.engine.events
-  pub status : what.status ≡ Some (status_of ending)
+  pub status : what.status ≡ Some (exit_status ending)
   pub last_line : IsLastLine after (Some ending) what.last_line

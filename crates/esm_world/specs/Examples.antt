@@ -1,5 +1,5 @@
 -- Worked examples: whole standard runs, each held against its text.
-use Rattle.std.specs.Prelude.{Bool, true, false, List, [], ◌∷◌, ◌++◌, Some, codes}
+use Rattle.std.specs.Prelude.{true, false, List, [], ◌∷◌, ◌++◌, Some, codes}
 use Rattle.esm_base.specs.declared.status.Status.{Status}
 use Rattle.esm_base.specs.declared.status.Status.TheVariants as statuses
 use Rattle.esm_base.specs.Urls.{Text, Url}
@@ -9,13 +9,10 @@ use Rattle.esm_tree.specs.declared.node.ImportBinding.{ImportBinding}
 use Rattle.esm_tree.specs.declared.node.Wanted.TheVariants.{Named}
 use Rattle.esm_ast.specs.Outcome.{Script, Absent}
 use Rattle.esm_import_map.specs.ImportMap.{no_maps}
+use Rattle.esm_loads.specs.LoadsView.{every_form}
 use Rattle.esm_body.specs.State.{Event, Begins, Ends, Throws}
 use Rattle.esm_world.specs.Run.{Shown, StandardRun}
 use Rattle.esm_ast.specs.Deliveries.{Delivery, completed}
-
--- all module texts can be run
-abbrev pub all_built : List Item → Bool
-all_built items = true
 
 abbrev pub main_url : Url
 main_url = codes "a:/m"
@@ -29,7 +26,7 @@ file u text items = completed u (Script (record { bytes = text; items = items })
 
 -- the standard run of a:/m, without a map and without trace lines, over these deliveries shows this
 abbrev pub Run : List Delivery → Shown → Type 0
-Run deliveries what = StandardRun no_maps all_built main_url false deliveries what
+Run deliveries what = StandardRun no_maps every_form main_url false deliveries what
 
 -- a run that has ended
 abbrev pub ended : Status → List Url → Text → Text → List (Event Url) → Shown

@@ -15,8 +15,8 @@ use Rattle.esm_loads.specs.ImportCall.{BeginsImport}
 use Rattle.esm_eval.specs.Keeping.{HasOutcomes}
 use Rattle.esm_body.specs.State.{State}
 use Rattle.esm_body.specs.Bodies.{Taken, take_standing, ResumesBody}
-use Rattle.esm_world.specs.World.{World, opening, host_of, with_host, modules_in, state_of, with_state}
-use Rattle.esm_world.specs.Layers.{Executes, evaluation, with_linked}
+use Rattle.esm_world.specs.World.{World, opening, host_of, with_host, modules_in, body_state, with_state}
+use Rattle.esm_world.specs.Layers.{CallsForBody, evaluation, with_linked}
 use Rattle.esm_world.specs.Turn.{fetched}
 use Rattle.esm_world.specs.Fits.{IsLinkedModule, AreModules, IsKnownValue, FitSettled, FitsWorld, IsFit}
 
@@ -34,7 +34,7 @@ pub record WorldsFit : Type 0 where
 -- in worlds that fit each call of evaluation has an outcome that fits
 abbrev pub HasFitEvaluation : Type 0
 HasFitEvaluation = (linked : List Url) (entries : Entries) → AreModules linked entries
-    → HasOutcomes evaluation Executes (FitsWorld linked entries) (IsLinkedModule linked entries) (IsKnownValue linked entries)
+    → HasOutcomes evaluation CallsForBody (FitsWorld linked entries) (IsLinkedModule linked entries) (IsKnownValue linked entries)
 
 -- and so has a body that stands at an await and goes on
 abbrev pub HasFitResumption : Type 0
@@ -42,4 +42,4 @@ HasFitResumption = (linked : List Url) (entries : Entries) → AreModules linked
     → (w : World) (m : Url) (t : Taken Url) (how : Settled (Value Url)) → FitsWorld linked entries w → IsLinkedModule linked entries m
     → take_standing same_url w.engine.standing m ≡ Some t → FitSettled linked entries how
     → (end : Result (Unit {0}) Limit) × ((s : State Url Loading)
-    × (ResumesBody same_url modules_in BeginsImport (state_of w) m how end s × FitsWorld linked entries (with_state w s)))
+    × (ResumesBody same_url modules_in BeginsImport (body_state w) m how end s × FitsWorld linked entries (with_state w s)))

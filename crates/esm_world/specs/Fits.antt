@@ -16,7 +16,7 @@ use Rattle.esm_eval.specs.Nodes.{was_entered}
 use Rattle.esm_eval.specs.Keeping.{IsNodeOf}
 use Rattle.esm_body.specs.Fits.{IsKnown, FitsState}
 use Rattle.esm_body.specs.State.{Event, Begins, Ends, Throws}
-use Rattle.esm_world.specs.World.{World, EntryState, Underway, Ended, Failed, modules_in, state_of}
+use Rattle.esm_world.specs.World.{World, EntryState, Underway, Ended, Failed, modules_in, body_state}
 use Rattle.esm_loads.specs.LoadsView.{url_at}
 
 -- over these linked modules and these entries of the table
@@ -88,7 +88,7 @@ module _ (linked : List Url) (entries : Entries) where
   pub record FitsWorld (w : World) : Type 0 where
     pub modules : AreModules
     pub linked_are : w.linked ≡ linked
-    pub state : FitsState modules_in (λ l. has linked) FitsHost (state_of w)
+    pub state : FitsState modules_in (λ l. has linked) FitsHost (body_state w)
     pub nodes : (u : Url) → IsNodeOf IsLinkedModule IsKnownValue (w.nodes u)
     pub stamps : All IsLinkedModule w.stamps
     -- what evaluation has entered is linked

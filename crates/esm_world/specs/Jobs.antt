@@ -14,11 +14,11 @@ use Rattle.esm_eval.specs.Evaluate.{Evaluates}
 use Rattle.esm_eval.specs.BodyEnd.{Rejects, Fulfills}
 use Rattle.esm_body.specs.Bodies.{ResumesBody}
 use Rattle.esm_body.specs.State.{State}
-use Rattle.esm_world.specs.World.{World, EntryState, Ended, Failed, stopped, modules_in, state_of, with_state}
-use Rattle.esm_world.specs.Layers.{Executes, evaluation, LinksTo, with_linked, with_promises}
+use Rattle.esm_world.specs.World.{World, EntryState, Ended, Failed, stopped, modules_in, body_state, with_state}
+use Rattle.esm_world.specs.Layers.{CallsForBody, evaluation, LinksTo, with_linked, with_promises}
 
-abbrev pub with_entry : World → EntryState → World
-with_entry w e = record w { entry = e }
+abbrev pub with_entry_state : World → EntryState → World
+with_entry_state w e = record w { entry = e }
 
 abbrev pub settle_promise : World → ℕ → Settled (Value Url) → World
 settle_promise w p how = with_promises w (settle w.promises p how)
@@ -52,7 +52,7 @@ pub record EvaluatesLoad (w : World) (load : ℕ) (answer : Result ℕ Limit) (a
   pub root : Url
   pub linked : List Url
   pub links : LinksLoad w load root None linked
-  pub evaluates : Evaluates evaluation Executes (with_linked w linked) root answer after
+  pub evaluates : Evaluates evaluation CallsForBody (with_linked w linked) root answer after
 
 -- ECMA-262, NewPromiseReactionJob: what a reaction does in its job, where its promise was settled so
 pub data Reacts : World → Reaction Url → Settled (Value Url) → World → Type 0 where
@@ -60,10 +60,10 @@ pub data Reacts : World → Reaction Url → Settled (Value Url) → World → T
   entry_linked : {w after : World} {v : Value Url} {answer : Result ℕ Limit} → EvaluatesLoad w 0 answer after
       → Reacts w EntryLoaded (Fulfilled v) (when_evaluated after EntryDone answer)
   entry_fault : {w : World} {v : Value Url} (root : Url) (f : FaultAt Url) (linked : List Url) → LinksLoad w 0 root (Some f) linked
-      → Reacts w EntryLoaded (Fulfilled v) (with_entry (link_failed w f linked) (Failed (new_error w)))
-  entry_refused : {w : World} {v : Value Url} → Reacts w EntryLoaded (Rejected v) (with_entry w (Failed v))
-  entry_ended : {w : World} {v : Value Url} → Reacts w EntryDone (Fulfilled v) (with_entry w Ended)
-  entry_threw : {w : World} {v : Value Url} → Reacts w EntryDone (Rejected v) (with_entry w (Failed v))
+      → Reacts w EntryLoaded (Fulfilled v) (with_entry_state (link_failed w f linked) (Failed (new_error w)))
+  entry_refused : {w : World} {v : Value Url} → Reacts w EntryLoaded (Rejected v) (with_entry_state w (Failed v))
+  entry_ended : {w : World} {v : Value Url} → Reacts w EntryDone (Fulfilled v) (with_entry_state w Ended)
+  entry_threw : {w : World} {v : Value Url} → Reacts w EntryDone (Rejected v) (with_entry_state w (Failed v))
   -- ECMA-262, ContinueDynamicImport: what was imported is linked and evaluated
   linked : {w after : World} {s : ℕ} {v : Value Url} {answer : Result ℕ Limit} → EvaluatesLoad w s answer after
       → Reacts w (Loaded s) (Fulfilled v) (when_evaluated after (Evaluated s) answer)
@@ -78,12 +78,22 @@ pub data Reacts : World → Reaction Url → Settled (Value Url) → World → T
       → Reacts w (Evaluated s) (Rejected v) (settle_promise w promise (Rejected v))
   -- ECMA-262, AsyncModuleExecutionFulfilled and AsyncModuleExecutionRejected
   body_ended : {w after : World} {m : Url} {v : Value Url} {end : Result (Unit {0}) Limit}
-      → Fulfills evaluation Executes w m end after → Reacts w (BodyEnd m) (Fulfilled v) after
+      → Fulfills evaluation CallsForBody w m end after → Reacts w (BodyEnd m) (Fulfilled v) after
   body_threw : {w after : World} {m : Url} {v : Value Url} → Rejects evaluation w m v after
       → Reacts w (BodyEnd m) (Rejected v) after
   -- ECMA-262, Await: the body goes on
   resumes : {w : World} {m : Url} {how : Settled (Value Url)} {end : Result (Unit {0}) Limit} {s : State Url Loading}
-      → ResumesBody same_url modules_in BeginsImport (state_of w) m how end s → Reacts w (Await m) how (with_state w s)
+      → ResumesBody same_url modules_in BeginsImport (body_state w) m how end s → Reacts w (Await m) how (with_state w s)
+
+-- the first job is taken and done; the constructor `job` of Jobs has the same parts
+pub record IsJob (w after : World) : Type 0 where
+  pub live : stopped w ≡ None
+  pub job : Job (Reaction Url)
+  pub left : Promises (Reaction Url) (Value Url)
+  pub how : Settled (Value Url)
+  pub first : next_job w.promises ≡ Some (job, left)
+  pub settled_so : settled left job.promise ≡ Some how
+  pub reacts : Reacts (with_promises w left) job.reaction how after
 
 -- HTML, "perform a microtask checkpoint": jobs run, first in, first out, until none is left or a limit stops the world
 pub data Jobs : World → World → Type 0 where

@@ -7,7 +7,7 @@ use Rattle.esm_base.specs.Limits.{limit_name}
 use Rattle.esm_base.specs.Urls.{Text, Url}
 use Rattle.esm_values.specs.Value.{Value}
 use Rattle.esm_body.specs.Acts.{Displays}
-use Rattle.esm_world.specs.World.{World, EntryState, Underway, Ended, Failed, modules_in, state_of}
+use Rattle.esm_world.specs.World.{World, EntryState, Underway, Ended, Failed, modules_in, body_state}
 
 -- how a run has ended
 pub data Ending : Type 0 where
@@ -28,17 +28,17 @@ ending_by None [] (Failed v) = Some (Uncaught v)
 ending_by None [] Ended = Some Done
 ending_by None [] Underway = Some Pending
 
-abbrev pub status_of : Ending → Status
-status_of (Stopped limit) = statuses.Limit
-status_of (Uncaught v) = statuses.EntryFailed
-status_of Done = statuses.Fulfilled
-status_of Pending = statuses.Unsettled
+abbrev pub exit_status : Ending → Status
+exit_status (Stopped limit) = statuses.Limit
+exit_status (Uncaught v) = statuses.EntryFailed
+exit_status Done = statuses.Fulfilled
+exit_status Pending = statuses.Unsettled
 
 -- the last line, where the world has ended so: of an uncaught value it has the display text
 abbrev pub IsLastLine : World → Option Ending → Text → Type 0
 IsLastLine w None line = line ≡ []
 IsLastLine w (Some (Stopped limit)) line = line ≡ codes "Limit " ++ limit_name limit
 IsLastLine w (Some (Uncaught v)) line =
-    (text : Text) × Displays modules_in (state_of w) v text × (line ≡ codes "Uncaught " ++ text)
+    (text : Text) × Displays modules_in (body_state w) v text × (line ≡ codes "Uncaught " ++ text)
 IsLastLine w (Some Done) line = line ≡ []
 IsLastLine w (Some Pending) line = line ≡ codes "Unsettled"

@@ -20,8 +20,8 @@ use Rattle.esm_eval.specs.BodyEnd.{Fulfills}
 use Rattle.esm_body.specs.Bodies.{ResumesBody}
 use Rattle.esm_body.specs.State.{State}
 use Rattle.esm_body.specs.Keeps.{started}
-use Rattle.esm_world.specs.World.{World, opening, stopped, modules_in, state_of, with_state}
-use Rattle.esm_world.specs.Layers.{Executes, evaluation}
+use Rattle.esm_world.specs.World.{World, opening, stopped, modules_in, body_state, with_state}
+use Rattle.esm_world.specs.Layers.{CallsForBody, evaluation}
 use Rattle.esm_world.specs.Jobs.{Jobs}
 use Rattle.esm_world.specs.Turn.{Tasks, Turn}
 use Rattle.esm_world.specs.Run.{asks, Runs, IsAllowed, Shown, StandardRun}
@@ -116,10 +116,10 @@ BytesStopFirst = (w after : World) (u : Url) (c : OutcomeView) → MAX_DELIVERED
 -- a limit is told only where it has stopped the world: by a call for a body, an evaluation, what follows the end of a body, and a
 -- body that goes on
 pub record StopsAreTold : Type 0 where
-  pub executes : (w after : World) (c : Call Url) (limit : Limit) → Executes w c (Err limit) after → is_some (stopped after) ≡ true
-  pub evaluates : (w after : World) (m : Url) (limit : Limit) → Evaluates evaluation Executes w m (Err limit) after
+  pub executes : (w after : World) (c : Call Url) (limit : Limit) → CallsForBody w c (Err limit) after → is_some (stopped after) ≡ true
+  pub evaluates : (w after : World) (m : Url) (limit : Limit) → Evaluates evaluation CallsForBody w m (Err limit) after
       → is_some (stopped after) ≡ true
-  pub fulfills : (w after : World) (m : Url) (limit : Limit) → Fulfills evaluation Executes w m (Err limit) after
+  pub fulfills : (w after : World) (m : Url) (limit : Limit) → Fulfills evaluation CallsForBody w m (Err limit) after
       → is_some (stopped after) ≡ true
   pub resumes : (w : World) (m : Url) (how : Settled (Value Url)) (limit : Limit) (s : State Url Loading)
-      → ResumesBody same_url modules_in BeginsImport (state_of w) m how (Err limit) s → is_some (stopped (with_state w s)) ≡ true
+      → ResumesBody same_url modules_in BeginsImport (body_state w) m how (Err limit) s → is_some (stopped (with_state w s)) ≡ true

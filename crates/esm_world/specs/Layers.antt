@@ -16,18 +16,18 @@ use Rattle.esm_eval.specs.Nodes.{Call, CallAnswer, Start, Run}
 use Rattle.esm_eval.specs.Evaluation.{Evaluation}
 use Rattle.esm_body.specs.State.{State, has_begun}
 use Rattle.esm_body.specs.Bodies.{StartsBody, RunsBody}
-use Rattle.esm_world.specs.World.{World, modules_in, state_of, with_state}
+use Rattle.esm_world.specs.World.{World, modules_in, body_state, with_state}
 
 -- ---- calls for bodies
 
 -- what a call for a body does
-pub data Executes : World → (c : Call Url) → Result (CallAnswer (Value Url) c) Limit → World → Type 0 where
+pub data CallsForBody : World → (c : Call Url) → Result (CallAnswer (Value Url) c) Limit → World → Type 0 where
   -- ECMA-262, ExecuteAsyncModule, up to the first await
   start : {w : World} {m : Url} {done : ℕ} {end : Result (Unit {0}) Limit} {s : State Url Loading}
-      → StartsBody same_url modules_in BeginsImport (state_of w) m done end s → Executes w (Start m done) end (with_state w s)
+      → StartsBody same_url modules_in BeginsImport (body_state w) m done end s → CallsForBody w (Start m done) end (with_state w s)
   -- ECMA-262, ExecuteModule
   run : {w : World} {m : Url} {end : Result (Ran (Value Url)) Limit} {s : State Url Loading}
-      → RunsBody same_url modules_in BeginsImport (state_of w) m end s → Executes w (Run m) end (with_state w s)
+      → RunsBody same_url modules_in BeginsImport (body_state w) m end s → CallsForBody w (Run m) end (with_state w s)
 
 -- ---- evaluation
 

@@ -11,8 +11,8 @@ use Rattle.esm_eval.specs.Evaluate.{Evaluates}
 use Rattle.esm_eval.specs.BodyEnd.{Fulfills, Rejects}
 use Rattle.esm_body.specs.Bodies.{ResumesBody}
 use Rattle.esm_body.specs.State.{State}
-use Rattle.esm_world.specs.World.{World, stopped, modules_in, state_of, with_state}
-use Rattle.esm_world.specs.Layers.{Executes, evaluation}
+use Rattle.esm_world.specs.World.{World, stopped, modules_in, body_state, with_state}
+use Rattle.esm_world.specs.Layers.{CallsForBody, evaluation}
 
 -- the limit that an answer tells, if it tells one
 abbrev pub told_limit : {A : Type 0} → Result A Limit → Option Limit
@@ -23,13 +23,13 @@ told_limit (Err limit) = Some limit
 -- limit that has stopped the world then, or none where none has
 pub record LimitsAreExact : Type 0 where
   pub executes : (w after : World) (c : Call Url) (r : Result (CallAnswer (Value Url) c) Limit) → stopped w ≡ None
-      → Executes w c r after → stopped after ≡ told_limit r
-  pub evaluates : (w after : World) (m : Url) (r : Result ℕ Limit) → stopped w ≡ None → Evaluates evaluation Executes w m r after
+      → CallsForBody w c r after → stopped after ≡ told_limit r
+  pub evaluates : (w after : World) (m : Url) (r : Result ℕ Limit) → stopped w ≡ None → Evaluates evaluation CallsForBody w m r after
       → stopped after ≡ told_limit r
   pub fulfills : (w after : World) (m : Url) (r : Result (Unit {0}) Limit) → stopped w ≡ None
-      → Fulfills evaluation Executes w m r after → stopped after ≡ told_limit r
+      → Fulfills evaluation CallsForBody w m r after → stopped after ≡ told_limit r
   pub rejects : (w after : World) (m : Url) (v : Value Url) → stopped w ≡ None → Rejects evaluation w m v after
       → stopped after ≡ None
   pub resumes : (w : World) (m : Url) (how : Settled (Value Url)) (r : Result (Unit {0}) Limit) (s : State Url Loading)
-      → stopped w ≡ None → ResumesBody same_url modules_in BeginsImport (state_of w) m how r s
+      → stopped w ≡ None → ResumesBody same_url modules_in BeginsImport (body_state w) m how r s
       → stopped (with_state w s) ≡ told_limit r

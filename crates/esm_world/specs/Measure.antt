@@ -1,24 +1,23 @@
 -- Why jobs come to an end: each takes a step, of which there are only so many, or leaves less by this measure. own
 -- It counts the reactions that are still to run, and how much of each body remains at its await.
-use Rattle.std.specs.Prelude.{◌≡◌, ℕ, suc, ◌+◌, ◌<◌, ◌≤◌, List, [], ◌∷◌, Some, None}
+use Rattle.std.specs.Prelude.{◌≡◌, ℕ, suc, ◌+◌, ◌<◌, ◌≤◌, List, [], ◌∷◌, None}
 use Rattle.esm_base.specs.declared.limits.TheConstants.{MAX_STEPS}
 use Rattle.esm_base.specs.Urls.{Url}
 use Rattle.esm_values.specs.Value.{Value}
 use Rattle.esm_expr_eval.specs.Sizes.{size}
-use Rattle.esm_promise.specs.Promises.{Promise, Pending, Done, Promises, Settled, Job, next_job}
+use Rattle.esm_promise.specs.Promises.{Promise, Pending, Done, Promises, Job}
 use Rattle.esm_promise.specs.Reactions.{Reaction, Loaded, EntryLoaded}
-use Rattle.esm_body.specs.Rest.{Use, Part, Rest, count, end, more}
+use Rattle.esm_body.specs.Rest.{Use, Part, Rest, stmt_count, end, more}
 use Rattle.esm_body.specs.Rest.{Part as part}
 use Rattle.esm_body.specs.Rest.{Use as use_of}
 use Rattle.esm_body.specs.State.{Standing}
 use Rattle.esm_world.specs.World.{World, stopped}
-use Rattle.esm_world.specs.Layers.{with_promises}
-use Rattle.esm_world.specs.Jobs.{Reacts}
+use Rattle.esm_world.specs.Jobs.{IsJob}
 
 -- ---- how much of a body remains
 
 abbrev pub weight_use : Use → ℕ
-weight_use (use_of.Chooses ss others) = suc (count ss + count others)
+weight_use (use_of.Chooses ss others) = suc (stmt_count ss + stmt_count others)
 weight_use (use_of.Awaits purpose) = suc (weight_use purpose)
 weight_use _ = 0
 
@@ -28,7 +27,7 @@ abbrev mutual
   weight_part (part.Does u e) = weight_use u + size e
   weight_part (part.Stands u) = weight_use u + 1
   weight_part (part.In scope rest) = suc (weight_rest rest)
-  weight_part (part.Tries rest x handler) = suc (suc (weight_rest rest + count handler))
+  weight_part (part.Tries rest x handler) = suc (suc (weight_rest rest + stmt_count handler))
 
   pub weight_rest : {V : Type 0} → Rest V → ℕ
   weight_rest end = 0
@@ -73,17 +72,8 @@ queue ps = of_jobs ps.jobs + of_all ps.all
 abbrev pub left : World → ℕ
 left w = queue w.promises + standing_weight w.engine.standing
 
--- the first job has led from w to this world, which no limit has stopped
-pub record DoesJob (w after : World) : Type 0 where
-  pub job : Job (Reaction Url)
-  pub rest : Queue
-  pub how : Settled (Value Url)
-  pub first : next_job w.promises ≡ Some (job, rest)
-  pub reacts : Reacts (with_promises w rest) job.reaction how after
-  pub live : stopped after ≡ None
-
--- a job takes back no step, and takes no more than there may be; where it takes none, less is left
+-- a job that no limit stops takes back no step, and takes no more than there may be; where it takes none, less is left
 pub record JobsLower : Type 0 where
-  pub steps : (w after : World) → DoesJob w after → w.engine.steps ≤ after.engine.steps
-  pub within : (w after : World) → DoesJob w after → w.engine.steps ≤ MAX_STEPS → after.engine.steps ≤ MAX_STEPS
-  pub less : (w after : World) → DoesJob w after → after.engine.steps ≡ w.engine.steps → left after < left w
+  pub steps : (w after : World) → IsJob w after → stopped after ≡ None → w.engine.steps ≤ after.engine.steps
+  pub within : (w after : World) → IsJob w after → stopped after ≡ None → w.engine.steps ≤ MAX_STEPS → after.engine.steps ≤ MAX_STEPS
+  pub less : (w after : World) → IsJob w after → stopped after ≡ None → after.engine.steps ≡ w.engine.steps → left after < left w

@@ -12,8 +12,8 @@ use Rattle.esm_loads.specs.ImportCall.{BeginsImport}
 use Rattle.esm_eval.specs.Evaluate.{WalkEnd, Ends, Throws, Stops, Marks}
 use Rattle.esm_body.specs.State.{State}
 use Rattle.esm_body.specs.Bodies.{RunsBody}
-use Rattle.esm_world.specs.World.{World, modules_in, state_of}
-use Rattle.esm_world.specs.Layers.{Executes, evaluation}
+use Rattle.esm_world.specs.World.{World, modules_in, body_state}
+use Rattle.esm_world.specs.Layers.{CallsForBody, evaluation}
 
 -- x doesn't await
 abbrev pub IsPlainModule : State Url Loading → Url → Type 0
@@ -47,11 +47,11 @@ HaveTargets to (Leave x ∷ ms) = HaveTargets to ms
 pub record LeadsTo (to : Url → List Url) (w : World) (opened : List Url) (ms : List (Mark Url)) (end : WalkEnd (Value Url) Limit)
     (s : State Url Loading) : Type 0 where
   pub after : World
-  pub marks : Marks evaluation Executes to w opened ms end after
-  pub state : state_of after ≡ s
+  pub marks : Marks evaluation CallsForBody to w opened ms end after
+  pub state : body_state after ≡ s
 
 -- where nothing waits, the marks of a walk whose components all close run the bodies in the order in which it leaves them
 abbrev pub PlainEvaluation : Type 0
 PlainEvaluation = (to : Url → List Url) (ms : List (Mark Url)) (w : World) (opened : List Url) (end : WalkEnd (Value Url) Limit)
     (s : State Url Loading) → IsPlain w → HaveTargets to ms → opened_after same_url to opened ms ≡ []
-    → RunInOrder (state_of w) (leaves ms) end s → LeadsTo to w opened ms end s
+    → RunInOrder (body_state w) (leaves ms) end s → LeadsTo to w opened ms end s

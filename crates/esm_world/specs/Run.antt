@@ -11,7 +11,7 @@ use Rattle.esm_loads.specs.Arrival.{open_asks}
 use Rattle.esm_body.specs.State.{Event}
 use Rattle.esm_world.specs.World.{World, opening, stopped}
 use Rattle.esm_world.specs.Turn.{Turn}
-use Rattle.esm_world.specs.LastLine.{Ending, ending_by, status_of, IsLastLine}
+use Rattle.esm_world.specs.LastLine.{Ending, ending_by, exit_status, IsLastLine}
 
 -- the open asks, in order of asking. Where a limit has stopped the world there are none
 abbrev pub asks : World → List Url
@@ -61,7 +61,7 @@ shown w line = record {
   asked = w.loading.asked;
   asks = asks w;
   ended = is_some (ending w);
-  status = option_map status_of (ending w);
+  status = option_map exit_status (ending w);
   log = w.engine.log;
   last_line = line;
   events = w.engine.events;

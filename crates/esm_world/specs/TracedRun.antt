@@ -5,7 +5,8 @@ use Rattle.esm_base.specs.Urls.{Text}
 use Rattle.esm_import_map.specs.ImportMap.{no_maps}
 use Rattle.esm_body.specs.State.{Begins, Ends}
 use Rattle.esm_world.specs.Run.{StandardRun}
-use Rattle.esm_world.specs.Examples.{all_built, main_url, b_url, cycle_main, printing_b, ended, line}
+use Rattle.esm_world.specs.Examples.{main_url, b_url, cycle_main, printing_b, ended, line}
+use Rattle.esm_loads.specs.LoadsView.{every_form}
 
 -- what the entry of the cycle prints, where the other module only prints: each body stands between its two lines
 abbrev pub traced_log : Text
@@ -14,5 +15,5 @@ traced_log = line (codes "# start a:/b") ++ line (codes "b") ++ line (codes "# e
 
 -- the lines stand in the log, and the events are those of a run without them
 abbrev pub TraceLines : Type 0
-TraceLines = StandardRun no_maps all_built main_url true (cycle_main ∷ printing_b ∷ []) (ended statuses.Fulfilled (main_url ∷ b_url ∷ [])
+TraceLines = StandardRun no_maps every_form main_url true (cycle_main ∷ printing_b ∷ []) (ended statuses.Fulfilled (main_url ∷ b_url ∷ [])
     traced_log [] (Begins b_url ∷ Ends b_url ∷ Begins main_url ∷ Ends main_url ∷ []))

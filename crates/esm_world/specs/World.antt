@@ -1,5 +1,5 @@
 -- The world: one record of the parts of all layers, each as its owner defines it. own: a module is named by its URL.
-use Rattle.std.specs.Prelude.{ℕ, Bool, List, [], length, slice_index_or, Option}
+use Rattle.std.specs.Prelude.{Bool, List, [], length, Option}
 use Rattle.std.specs.Option.{option_or}
 use Rattle.esm_tree.specs.Syntax.{Item}
 use Rattle.esm_base.specs.declared.limits.Limit.{Limit}
@@ -13,6 +13,7 @@ use Rattle.esm_promise.specs.Reactions.{Reaction}
 use Rattle.esm_env.specs.Modules.{Modules}
 use Rattle.esm_env.specs.Cells.{Cells, no_cells}
 use Rattle.esm_loads.specs.Loading.{Loading, targets, body}
+use Rattle.esm_loads.specs.LoadsView.{url_at}
 use Rattle.esm_loads.specs.Host.{Host, opening_host}
 use Rattle.esm_eval.specs.Nodes.{Node, untouched}
 use Rattle.esm_body.specs.State.{Engine, State, opening_engine}
@@ -43,8 +44,8 @@ pub record World : Type 0 where
   pub engine : Engine Url
   pub entry : EntryState
 
-abbrev pub world_of : Host → Bool → World
-world_of h trace = record {
+abbrev pub world_over : Host → Bool → World
+world_over h trace = record {
   loading = h.imports;
   linked = [];
   nodes = λ u. untouched;
@@ -59,7 +60,7 @@ world_of h trace = record {
 -- the world in which the entry alone is asked, under this import map, where these are the module texts that can be run, with or
 -- without trace lines
 abbrev pub opening : Maps → (List Item → Bool) → Url → Bool → World
-opening maps built entry trace = world_of (opening_host maps built entry) trace
+opening maps built entry trace = world_over (opening_host maps built entry) trace
 
 -- own: the limit that has stopped the world: one that loading met, or one that a body met
 abbrev pub stopped : World → Option Limit
@@ -67,11 +68,7 @@ stopped w = option_or w.loading.stopped w.engine.stopped
 
 -- ---- modules
 
--- the URL with this number: a URL's number is its place in the order of asking
-abbrev pub url_at : List Url → ℕ → Url
-url_at urls n = slice_index_or urls n []
-
--- the modules that loading has brought. ECMA-262, GetImportedModule
+-- the modules that loading has brought; a URL's number is its place in the order of asking. ECMA-262, GetImportedModule
 abbrev pub modules_in : Loading → Modules Url
 modules_in l = record {
   url = λ u. u;
@@ -92,8 +89,8 @@ abbrev pub with_host : World → Host → World
 with_host w h = record w { loading = h.imports; promises = h.promises; errors = h.errors }
 
 -- those of bodies
-abbrev pub state_of : World → State Url Loading
-state_of w = record { engine = w.engine; cells = w.cells; outer = host_of w }
+abbrev pub body_state : World → State Url Loading
+body_state w = record { engine = w.engine; cells = w.cells; outer = host_of w }
 
 abbrev pub with_state : World → State Url Loading → World
 with_state w s = record w {

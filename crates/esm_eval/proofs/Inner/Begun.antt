@@ -80,7 +80,7 @@ module _ {W : Type 0} (E : CodeEvaluation W) where
     pub unbegun_keep : (w v : W) (m : ℕ) → Unbegun E w → v ≡ keep (numbered E) w m → Keeps E linked left w v → Unbegun E v
     unbegun_keep w v m u e k =
         let mid : W = E.make_promise w in
-        unbegun_like w v (begun_at w v (keep (numbered E) w m) e (λ y. (L.put mid m _).begun y ∙ (L.make_promise w).begun y)) k.phases u
+        unbegun_like w v (begun_at w v (keep (numbered E) w m) e (λ y. (L.put mid m _).begun y ∙ (L.make_promise w).far.begun y)) k.phases u
 
   module _ {S : Type 0} (acts : CodeCalls W S) (L : IsLawful (numbered E)) (steady : IsSteady (numbered E) acts) (one : BeginsOne (numbered E) acts) where
     -- where x is left no other body begins

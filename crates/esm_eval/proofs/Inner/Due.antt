@@ -14,7 +14,7 @@ use Rattle.esm_eval.specs.Begins.{BeginsOne, HaveBegunOnce}
 use Rattle.esm_eval.specs.Calls.{CodeEvaluation, CodeCalls, numbered}
 use Rattle.esm_eval.specs.declared.walk.EvalEnd.{EvalEnd}
 use Rattle.esm_eval.specs.Inner.Ends.{BeginsOnly, IsEndOf}
-use Rattle.esm_eval.specs.EndSteps.{AreLinked, Begins, Runs, Stays}
+use Rattle.esm_eval.specs.EndSteps.{EachIsLinked, Begins, Runs, Stays}
 use Rattle.esm_eval.proofs.Once.{run_of, start_of}
 use Rattle.esm_eval.proofs.OnceEnds.{quiet_finish, quiet_rejects, ready_each}
 use Rattle.esm_eval.proofs.Inner.Steps.{drop_at}
@@ -28,7 +28,7 @@ module _ {W : Type 0} (linked : W → ℕ → Bool) (knows : W → CodeValue →
 
 module _ {W : Type 0} (E : CodeEvaluation W) (linked : W → ℕ → Bool) where
   pub record AreDue (w : W) (xs : List ℕ) : Type 0 where
-    pub links : AreLinked linked w xs
+    pub links : EachIsLinked linked w xs
     pub unbegun : (y : ℕ) → is_in nat_eq xs y ≡ true → E.begun w y ≡ false
     pub distinct : EachOnce nat_eq xs
 
@@ -72,7 +72,7 @@ module _ {W S : Type 0} (E : CodeEvaluation W) (acts : CodeCalls W S) (L : IsLaw
   ran_only w x ran mid p (Err end) v e = tt
 
   -- the modules that are ready once m is done
-  pub ready_due : (linked : W → ℕ → Bool) (w u : W) (m : ℕ) (xs : List ℕ) → HaveBegunOnce (numbered E) w → u ≡ finish (numbered E) w m → ReadyAmong (numbered E) u (E.stamps u) xs → AreLinked linked u xs → AreDue E linked u xs
+  pub ready_due : (linked : W → ℕ → Bool) (w u : W) (m : ℕ) (xs : List ℕ) → HaveBegunOnce (numbered E) w → u ≡ finish (numbered E) w m → ReadyAmong (numbered E) u (E.stamps u) xs → EachIsLinked linked u xs → AreDue E linked u xs
   ready_due linked w u m xs h e r n =
       let k = ready_each (numbered E) acts L steady one w m xs h (subst (λ s. ReadyAmong (numbered E) s (E.stamps s) xs) e r) in
       record { links = n; unbegun = λ y i. subst (λ s. E.begun s y ≡ false) (sym e) (k.1 y i); distinct = k.0 }

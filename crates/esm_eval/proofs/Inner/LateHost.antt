@@ -17,7 +17,7 @@ use Rattle.esm_eval.specs.Calls.{CodeEvaluation, numbered}
 use Rattle.esm_eval.specs.Host.{Outside, HostFits, evaluation, knows_in}
 use Rattle.esm_eval.specs.Table.{Table, node_at, with_node, size}
 use Rattle.esm_eval.specs.Counts.{is_over, unfinished}
-use Rattle.esm_eval.specs.EndSteps.{AreLinked, IsEvaluated, IsFinished, SameWaiters, Stays}
+use Rattle.esm_eval.specs.EndSteps.{EachIsLinked, IsEvaluated, IsFinished, SameWaiters, Stays}
 use Rattle.esm_eval.specs.Inner.Hosts.{lawful}
 use Rattle.esm_eval.specs.Inner.Orders.{has_one_of, Joins}
 use Rattle.esm_eval.specs.Inner.Ready as ready
@@ -175,7 +175,7 @@ module _ {B : Type 0} (targets : B → ℕ → List ℕ) (awaits begun : B → �
     pub wait_linked : (x k y : ℕ) → slice_get (waits E w x) k ≡ Some y → linked w.bodies y ≡ true
     wait_linked x k y at = all_in w.bodies (waits E w x) y (f.nodes_fit x).waits (has_at (waits E w x) k y at)
 
-    pub among_linked : {A X : Type 0} (items : A → List ℕ) (res : Result A X) → IfOk res (λ xs. ReadyAmong E w w.nodes.stamps (items xs)) → IfOk res (λ xs. AreLinked links w (items xs))
+    pub among_linked : {A X : Type 0} (items : A → List ℕ) (res : Result A X) → IfOk res (λ xs. ReadyAmong E w w.nodes.stamps (items xs)) → IfOk res (λ xs. EachIsLinked links w (items xs))
     among_linked items (Ok xs) r = λ y i. all_in w.bodies w.nodes.stamps y f.stamps_fit (among_in E (lawful targets awaits begun) r y i)
     among_linked items (Err x) r = tt
 

@@ -49,9 +49,7 @@ reads ns x n y = by (cases (nat_eq x y))
 module _ {B : Type 0} (targets : B → ℕ → List ℕ) (awaits begun : B → ℕ → Bool) where
   alike : (w v : EvalHost B) → v.nodes ≡ w.nodes → v.bodies ≡ w.bodies → IsAlike (evaluation targets awaits begun) w v
   alike w v n b = record {
-    nodes = λ x. ap (λ t. node_at t x) n;
-    stamps = ap (λ t. t.stamps) n;
-    begun = λ x. ap (λ o. begun o x) b;
+    far = record { nodes = λ x. ap (λ t. node_at t x) n; stamps = ap (λ t. t.stamps) n; begun = λ x. ap (λ o. begun o x) b };
     awaits = λ x. ap (λ o. awaits o x) b;
   }
 

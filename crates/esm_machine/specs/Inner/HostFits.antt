@@ -59,12 +59,12 @@ module _ (linked : List Url) (entries : Entries) (modules : AreModules linked en
   import_fits (asks u r q n) k = k
   import_fits (answers u e r q n a) k = fit_answered linked entries modules a k
 
-  abbrev pub Begun : Host → Url → List ℕ → ℕ → Type 0
-  Begun h u text p = (r : Result (Unit {0}) Limit) ×
+  abbrev pub HasBeginning : Host → Url → List ℕ → ℕ → Type 0
+  HasBeginning h u text p = (r : Result (Unit {0}) Limit) ×
       ((after : Host) × (BeginsImport h u text p r after ×
       (FitsHost linked entries after × ((v : Value Url) → Knows h.imports v → Knows after.imports v))))
 
-  pub host_begun : (h : Host) (u : Url) (text : List ℕ) (p : ℕ) → FitsHost linked entries h → Begun h u text p
+  pub host_begun : (h : Host) (u : Url) (text : List ℕ) (p : ℕ) → FitsHost linked entries h → HasBeginning h u text p
   host_begun h u text p f =
       let b = has_load.begins h u text p f.orderly in
       let e = (only_grows.imports h b.1 u text p b.2.imports).entries ∙ f.entries_are in

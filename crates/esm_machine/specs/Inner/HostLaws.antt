@@ -29,7 +29,7 @@ use Rattle.esm_body.proofs.BodyKeeps.{Imported, bodies_begin, starts_body_begins
 use Rattle.esm_loads.specs.LoadsView.{url_at}
 use Rattle.esm_world.specs.Fits.{FitsHost}
 use Rattle.esm_world.proofs.FitLists.{made}
-use Rattle.esm_machine.specs.Seen.{Seen, names, modules, linked, host, Fits, Begins}
+use Rattle.esm_machine.specs.Seen.{Seen, names, modules, linked, host, Fits, BeginsById}
 use Rattle.esm_machine.specs.Inner.Lawful.{imports_are_lawful}
 use Rattle.esm_machine.specs.Inner.Numbers.{number}
 use Rattle.esm_machine.specs.Inner.Parts.{CallsBodies, FitsBodies, KnowsBy, awaits_by, begun_by, linked_by, targets_by}
@@ -44,7 +44,7 @@ pub record SameModules (s t : Seen) : Type 0 where
   pub linked_are : t.linked ≡ s.linked
   pub table : t.loading.entries ≡ s.loading.entries
 
-pub imports_leave : Imported Begins SameModules
+pub imports_leave : Imported BeginsById SameModules
 imports_leave = record {
   same = λ i. record { urls = refl; linked_are = refl; table = refl };
   on = λ p q. record { urls = q.urls ∙ p.urls; linked_are = q.linked_are ∙ p.linked_are; table = q.table ∙ p.table };
@@ -89,7 +89,7 @@ module _ (s t : Seen) (k : SameModules s t) where
 -- ---- bodies that have begun
 
 pub begun_is : (e : Engine ℕ) (x : ℕ) → has_begun nat_eq e x ≡ list_any (nat_eq x) (started e.events)
-begun_is e x = (bodies_begin nat_eq modules Begins).begun e x
+begun_is e x = (bodies_begin nat_eq modules BeginsById).begun e x
 
 abbrev any_of : ℕ → List ℕ → Bool
 any_of x xs = list_any (nat_eq x) xs
@@ -127,21 +127,21 @@ module _ (e after : Engine ℕ) (m : ℕ) where
 
 pub calls_leave : (o v : Outside BodyHost) (c : Call ℕ) (r : Result (CallAnswer CodeValue c) Limit) → CallsBodies o c r v
     → SameModules (seen_by o.bodies) (seen_by v.bodies)
-calls_leave o v (Start m done) r p = (starts_body_keeps nat_eq modules Begins SameModules imports_leave p).imports
-calls_leave o v (Run m) r p = (runs_body_keeps nat_eq modules Begins SameModules imports_leave p).imports
+calls_leave o v (Start m done) r p = (starts_body_keeps nat_eq modules BeginsById SameModules imports_leave p).imports
+calls_leave o v (Run m) r p = (runs_body_keeps nat_eq modules BeginsById SameModules imports_leave p).imports
 
 calls_start : (o v : Outside BodyHost) (c : Call ℕ) (r : Result (CallAnswer CodeValue c) Limit) → CallsBodies o c r v
     → Starts (engine_by o.bodies) (engine_by v.bodies) (module_of c)
-calls_start o v (Start m done) r p = (starts_body_keeps nat_eq modules Begins SameModules imports_leave p).starts
-calls_start o v (Run m) r p = (runs_body_keeps nat_eq modules Begins SameModules imports_leave p).starts
+calls_start o v (Start m done) r p = (starts_body_keeps nat_eq modules BeginsById SameModules imports_leave p).starts
+calls_start o v (Run m) r p = (runs_body_keeps nat_eq modules BeginsById SameModules imports_leave p).starts
 
 ok_unit : (u : Unit {0}) → ◌≡◌ {A = Result (Unit {0}) Limit} (Ok u) (Ok tt)
 ok_unit tt = refl
 
 calls_begin : (o v : Outside BodyHost) (c : Call ℕ) (r : CallAnswer CodeValue c) → CallsBodies o c (Ok r) v
     → started (engine_by v.bodies).events ≡ started (engine_by o.bodies).events ++ module_of c ∷ []
-calls_begin o v (Start m done) r p = starts_body_begins nat_eq modules Begins SameModules imports_leave p (ok_unit r)
-calls_begin o v (Run m) r p = runs_body_begins nat_eq modules Begins SameModules imports_leave p r refl
+calls_begin o v (Start m done) r p = starts_body_begins nat_eq modules BeginsById SameModules imports_leave p (ok_unit r)
+calls_begin o v (Run m) r p = runs_body_begins nat_eq modules BeginsById SameModules imports_leave p r refl
 
 pub begins_its_own : BeginsItsOwn CallsBodies begun_by
 begins_its_own = record {
@@ -176,8 +176,7 @@ makes_end o m f l =
       modules = f.modules;
       host = subst (FitsHost s.linked s.loading.entries)
           (λ i. record (host o) { promises = sym ((follows_names (names s).name).makes o.promises (BodyEnd m ∷ [])) i }) fit;
-      apart = f.apart;
-      have_ids = f.have_ids;
+      ids = f.ids;
     }
 
 abbrev pub outer : Outside BodyHost → Outer ℕ Seen

@@ -13,7 +13,7 @@ use Rattle.esm_link.specs.Realm.{is_linked}
 use Rattle.esm_body.specs.Fits.{AreLinked}
 use Rattle.esm_body.specs.Importers.{HasLinked}
 use Rattle.esm_machine.specs.Seen.{names, modules, linked}
-use Rattle.esm_machine.specs.ModuleStore.{Imported, linked_urls, linked_by, seen_of, size_by, loaded_or, or_itself, target_of, graph_of, urls_of, ImportsAreThere}
+use Rattle.esm_machine.specs.ModuleStore.{Imported, linked_urls, known_linked, seen_of, size_by, loaded_or, or_itself, target_of, graph_of, urls_by_id, ImportsAreThere}
 use Rattle.esm_machine.specs.declared.condition.Condition.{Condition}
 use Rattle.esm_machine.specs.declared.condition.Condition.TheVariants as conditions
 use Rattle.esm_machine.specs.Inner.Below.{below}
@@ -59,7 +59,7 @@ Named rs m = (numbering (map url_of rs)).name m
 pub short : (rs : List RecordParts) (m : ℕ) → has (map url_of (Linked rs)) (Named rs m) ≡ true → m < length rs
 short rs m h = let l = below (map url_of rs) m (among rs (Named rs m) h) in omega (arith, l, length-map rs url_of)
 
-short_by : (c : Condition) (rs : List RecordParts) (m : ℕ) → has (linked_by c (linked_urls rs)) (Named rs m) ≡ true → m < size_by c
+short_by : (c : Condition) (rs : List RecordParts) (m : ℕ) → has (known_linked c (linked_urls rs)) (Named rs m) ≡ true → m < size_by c
     (length rs)
 short_by conditions.Whole rs m h = short rs m h
 short_by (conditions.Stopped limit) rs m h = short rs m h
@@ -83,7 +83,7 @@ module _ (i : Imported) where
   -- ---- laws of an importer
 
   pub has_linked : AreLinked (modules (seen_of i)) (linked (seen_of i)) → HasLinked (modules (seen_of i)) (linked (seen_of i)) (graph_of i)
-      (urls_of i)
+      (urls_by_id i)
   has_linked a = record {
     below = there;
     target = λ m request k lt.

@@ -32,8 +32,8 @@ use Rattle.esm_world.proofs.FitBodies.{are_linked}
 use Rattle.esm_env.specs.Naming.{pulled}
 use Rattle.esm_values.specs.Numbering.{numbering, is_total}
 use Rattle.esm_env.specs.Faithful.{AreScopesOf}
-use Rattle.esm_body.specs.Importers.{IsLawful, KeepsModules}
-use Rattle.esm_machine.specs.Seen.{Seen, names, modules, linked, host, Fits, Begins}
+use Rattle.esm_body.specs.Importers.{ImportsAreLawful, KeepsModules}
+use Rattle.esm_machine.specs.Seen.{Seen, names, modules, linked, host, Fits, BeginsById}
 use Rattle.esm_machine.specs.Inner.HostFits.{host_makes, host_settles, host_awaits, host_begun}
 use Rattle.esm_machine.specs.Inner.Extended.{scopes_stay}
 use Rattle.esm_machine.specs.Inner.Numbers.{url, number, url_number, number_url}
@@ -125,8 +125,7 @@ module _ (o : Outer ℕ Seen) (f : Fits o) where
     modules = f.modules;
     host = subst
         (FitsHost S.linked S.loading.entries) e k;
-    apart = f.apart;
-    have_ids = f.have_ids;
+    ids = f.ids;
   }
 
   links : AreLinked (modules S) (linked S)
@@ -170,8 +169,7 @@ module _ (o : Outer ℕ Seen) (f : Fits o) where
             promises = subst (λ es. FitPromises S.linked es h.promises)
                 (sym k.entries_are) k.promises;
           });
-      apart = f.apart;
-      have_ids = f.have_ids;
+      ids = f.ids;
     }
 
     scopes : (e : Scopes) → AreScopesOf (modules S) (linked S) e → AreScopesOf (modules (record S { loading = h.imports })) (linked S) e
@@ -180,7 +178,7 @@ module _ (o : Outer ℕ Seen) (f : Fits o) where
         (subst (λ (us : List Url). AreScopesOf (by_number S.urls S.loading.entries us) (linked S) e) (sym g.asked)
         (scopes_grow S.urls S.loading.entries S.loading.asked g.more (linked S) e a))
 
-    keeps : KeepsModules modules linked Fits Begins o (by_ids h)
+    keeps : KeepsModules modules linked Fits BeginsById o (by_ids h)
     keeps = record {
       whole = fits_after;
       keeps = λ v q. known_number (record S { loading = h.imports }) v (knows (renamed_value (names S).name v) (known_url S v q));
@@ -190,14 +188,14 @@ module _ (o : Outer ℕ Seen) (f : Fits o) where
 
   abbrev Begun : ℕ → List ℕ → ℕ → Type 0
   Begun m text p = (r : Result (Unit {0}) Limit) ×
-      ((after : Outer ℕ Seen) × (Begins o m text p r after × KeepsModules modules linked Fits Begins o after))
+      ((after : Outer ℕ Seen) × (BeginsById o m text p r after × KeepsModules modules linked Fits BeginsById o after))
 
   begun : (m : ℕ) (text : List ℕ) (p : ℕ) → Begun m text p
   begun m text p =
       let b = host_begun S.linked S.loading.entries f.modules (host o) ((names S).name m) text p f.host in
       let h : Host = b.1.0 in
       let g : Grows S.loading h.imports = only_grows.imports (host o) h ((names S).name m) text p b.1.1.0.imports in
-      let begins : Begins o m text p b.0 (by_ids h) = record {
+      let begins : BeginsById o m text p b.0 (by_ids h) = record {
         urls = refl;
         linked = refl;
         begins = subst (λ (x : Host). BeginsImport (host o) ((names S).name m) text p b.0 x) (sym (same_host h)) b.1.1.0;
@@ -228,20 +226,19 @@ module _ (o : Outer ℕ Seen) where
         imports = record { loading = (all i).imports; urls = (e.0 ∙ sym d.0) i; linked = (e.1 ∙ sym d.1) i };
       })
 
-  one : (x y : Outer ℕ Seen) (m : ℕ) (text : List ℕ) (p : ℕ) (r s : Result (Unit {0}) Limit) → Begins o m text p r x
-      → Begins o m text p s y → (s ≡ r) × (y ≡ x)
+  one : (x y : Outer ℕ Seen) (m : ℕ) (text : List ℕ) (p : ℕ) (r s : Result (Unit {0}) Limit) → BeginsById o m text p r x
+      → BeginsById o m text p s y → (s ≡ r) × (y ≡ x)
   one x y m text p r s b c =
       let e = one_load.begins (host o) (host x) (host y) ((names o.imports).name m) text p r s b.begins c.begins in
       (sym e.0, one_host x y (b.urls, b.linked) (c.urls, c.linked) e.1)
 
-pub imports_are_lawful : IsLawful modules linked Fits Begins
+pub imports_are_lawful : ImportsAreLawful modules linked Fits BeginsById
 imports_are_lawful = record {
   links = λ o f. links o f;
   errors = λ o es f. record {
     modules = f.modules;
     host = record { entries_are = f.host.entries_are; orderly = f.host.orderly; promises = f.host.promises };
-    apart = f.apart;
-    have_ids = f.have_ids;
+    ids = f.ids;
   };
   makes = λ o f. makes o f;
   settles = λ o p how k f. settles o f p how k;

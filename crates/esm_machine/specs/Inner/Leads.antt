@@ -12,7 +12,7 @@ use Rattle.esm_values.specs.Errors.{next_error}
 use Rattle.esm_values.specs.Code.{value_of}
 use Rattle.esm_values.specs.declared.value.Value.{Value}
 use Rattle.esm_values.specs.declared.value.PromiseId.{PromiseId}
-use Rattle.esm_promise.specs.Promises.{Promises, Settled, Fulfilled, Rejected, Job, next_job, register, settle, settled}
+use Rattle.esm_promise.specs.Promises.{Settled, Fulfilled, Rejected, next_job, register, settle}
 use Rattle.esm_promise.specs.Reactions.{Reaction, EntryDone, Evaluated}
 use Rattle.esm_loads.specs.Arrival.{AnswersNext, next}
 use Rattle.esm_loads.specs.Host.{Host}
@@ -23,12 +23,12 @@ use Rattle.esm_link.specs.declared.LinkFault.{LinkFault}
 use Rattle.esm_eval.specs.Evaluate.{Evaluates}
 use Rattle.esm_world.specs.World.{World, stopped, host_of, with_host}
 use Rattle.esm_world.specs.Layers as layers
-use Rattle.esm_world.specs.Layers.{Executes, evaluation, LinksTo, with_linked}
-use Rattle.esm_world.specs.Jobs.{Reacts, Jobs, EvaluatesLoad, LinksLoad, link_failed, new_error}
+use Rattle.esm_world.specs.Layers.{CallsForBody, evaluation, LinksTo, with_linked}
+use Rattle.esm_world.specs.Jobs.{Reacts, Jobs, IsJob, EvaluatesLoad, LinksLoad, link_failed, new_error}
 use Rattle.esm_world.specs.Turn.{fetched}
 use Rattle.esm_machine.specs.Held.{EntryHeld, Ended, Failed, IsHalted}
 use Rattle.esm_machine.specs.Represents.{TurnEnd}
-use Rattle.esm_machine.specs.Inner.Parts.{AreLive, reaction_in, seen_in, settled_in, url_in, value_in, with_fault, with_promises}
+use Rattle.esm_machine.specs.Inner.Parts.{AreLive, reaction_in, seen_in, settled_in, url_in, value_in, with_fault, parts_with_promises}
 use Rattle.esm_machine.specs.Machine.{held_of}
 use Rattle.esm_machine.specs.declared.linking.Linked.{Linked}
 use Rattle.esm_machine.specs.declared.linking.Linked.TheVariants as outcomes
@@ -57,11 +57,11 @@ LinksRoot w root (Some v) p = (f : FaultAt Url) × (after : List Url) × LinksTo
     × (value_in p (value_of v) ≡ new_error w) × AreLive p (link_failed w f after)
 
 -- the module is evaluated, with this promise
-abbrev pub EvaluatesRoot : World → Url → Result PromiseId TurnEnd → Parts → Type 0
-EvaluatesRoot w root (Ok promise) p = (after : World) × Evaluates evaluation Executes w root (Ok promise.0) after × AreLive p after
-EvaluatesRoot w root (Err (ends.Fault limit)) p =
-    (after : World) × Evaluates evaluation Executes w root (Err limit) after × AreHalted limit p after
-EvaluatesRoot w root (Err ends.Memory) p = Unit {0}
+abbrev pub EvaluatesModule : World → Url → Result PromiseId TurnEnd → Parts → Type 0
+EvaluatesModule w root (Ok promise) p = (after : World) × Evaluates evaluation CallsForBody w root (Ok promise.0) after × AreLive p after
+EvaluatesModule w root (Err (ends.Fault limit)) p =
+    (after : World) × Evaluates evaluation CallsForBody w root (Err limit) after × AreHalted limit p after
+EvaluatesModule w root (Err ends.Memory) p = Unit {0}
 
 -- the root of a complete load is linked and evaluated, with the promise of its evaluation; or linking it has a fault, whose error is this
 -- value
@@ -84,22 +84,22 @@ TellsFault p ends.Memory error new = ⊥
 abbrev pub EvaluatesUnless : Parts → ℕ → Option Value → Result Linked TurnEnd → Parts → Type 0
 EvaluatesUnless old root (Some v) result new = (result ≡ Ok (outcomes.Fault v)) × (new ≡ old)
 EvaluatesUnless old root None (Ok (outcomes.Evaluates promise)) new =
-    (w : World) → AreLive old w → EvaluatesRoot w (url_in old root) (Ok promise) new
+    (w : World) → AreLive old w → EvaluatesModule w (url_in old root) (Ok promise) new
 EvaluatesUnless old root None (Ok (outcomes.Fault v)) new = ⊥
-EvaluatesUnless old root None (Err end) new = (w : World) → AreLive old w → EvaluatesRoot w (url_in old root) (Err end) new
+EvaluatesUnless old root None (Err end) new = (w : World) → AreLive old w → EvaluatesModule w (url_in old root) (Err end) new
 
 -- ---- what follows the linking of a root
 
 -- the reaction is registered on the promise, unless memory runs out
 abbrev pub Registers : Parts → PromiseId → Reaction ℕ → Result (Unit {0}) TurnEnd → Parts → Type 0
-Registers p promise r (Ok done) new = new ≡ with_promises p (register p.host.promises promise.0 r)
+Registers p promise r (Ok done) new = new ≡ parts_with_promises p (register p.host.promises promise.0 r)
 Registers p promise r (Err (ends.Fault limit)) new = ⊥
 Registers p promise r (Err ends.Memory) new = Unit {0}
 
 -- the promise of the import() that the load is for is settled so
 abbrev pub SettlesImport : Parts → ℕ → Settled (value.Value ℕ) → Parts → Type 0
 SettlesImport p load how new = (promise : ℕ) → import_promise (seen_in p).loading load ≡ Some promise
-    → new ≡ with_promises p (settle p.host.promises promise how)
+    → new ≡ parts_with_promises p (settle p.host.promises promise how)
 
 -- the end of the entry's evaluation is awaited; or the entry failed by a link fault
 abbrev pub TakesEntry : Parts → Linked → Result (Unit {0}) TurnEnd → Parts → Type 0
@@ -132,16 +132,6 @@ IsFetched u c w after = after ≡ fetched w u c
 -- the job of this reaction is done, whose promise was settled so
 abbrev pub DoesJob : Parts → Reaction ℕ → Settled (value.Value ℕ) → Result (Unit {0}) TurnEnd → Parts → Type 0
 DoesJob old r how result new = LeadsFrom old (λ w. Reacts w (reaction_in old r) (settled_in old how)) result new
-
--- the first job is taken and done
-pub record IsJob (w after : World) : Type 0 where
-  pub live : stopped w ≡ None
-  pub job : Job (Reaction Url)
-  pub left : Promises (Reaction Url) (value.Value Url)
-  pub how : Settled (value.Value Url)
-  pub first : next_job w.promises ≡ Some (job, left)
-  pub settled_so : settled left job.promise ≡ Some how
-  pub reacts : Reacts (layers.with_promises w left) job.reaction how after
 
 -- a job has led to the world that the parts are in, or none was left
 abbrev pub LeadsByJob : World → Result Bool TurnEnd → Parts → Type 0

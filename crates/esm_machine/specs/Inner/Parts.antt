@@ -1,7 +1,6 @@
 -- What contracts of private functions see of the parts of a machine, and what holds of them between two steps.
 use Rattle.std.specs.Prelude.{◌≡◌, ℕ, nat_eq, nat_lt, Bool, true, false, List, length, None}
-use Rattle.esm_base.specs.Lists.{EachOnce}
-use Rattle.esm_base.specs.Urls.{Url, has, same_url}
+use Rattle.esm_base.specs.Urls.{Url}
 use Rattle.esm_values.specs.Value.{Value}
 use Rattle.esm_values.specs.Errors.{Errors, make_error}
 use Rattle.esm_values.specs.Code.{CodeValue}
@@ -19,12 +18,12 @@ use Rattle.esm_eval.specs.Host.{Outside}
 use Rattle.esm_eval.specs.Table.{Table, size, with_one}
 use Rattle.esm_eval.specs.declared.host.EvalHost.{EvalHost}
 use Rattle.esm_base.specs.declared.limits.Limit.{Limit}
-use Rattle.esm_body.specs.Engines.{AreReady as TakesBodies, AreStanding}
+use Rattle.esm_body.specs.Engines.{TakesBodies, AreStanding}
 use Rattle.esm_body.specs.Fits.{IsKnown}
 use Rattle.esm_body.specs.State.{has_begun}
 use Rattle.esm_world.specs.World.{World}
 use Rattle.esm_world.specs.Sound.{TakesCalls, IsSound, MayReact}
-use Rattle.esm_machine.specs.Seen.{Seen, names, modules, linked, Fits, Begins}
+use Rattle.esm_machine.specs.Seen.{Seen, HaveIds, names, modules, linked, Fits, BeginsById}
 use Rattle.esm_machine.specs.Evaluating.{by_ids, ActsById}
 use Rattle.esm_machine.specs.Machine.{cells_by, engine_by, errors_by, held_of, scopes_by, seen_by}
 use Rattle.esm_machine.specs.ModuleStore.{is_whole}
@@ -51,11 +50,11 @@ begun_by b m = has_begun nat_eq (engine_by b) m
 abbrev pub KnowsBy : BodyHost → CodeValue → Type 0
 KnowsBy b v = IsKnown (modules (seen_by b)) (linked (seen_by b)) v
 
--- what a call for a body needs: nothing was refused, no limit has stopped the engine, it is ready, and only what is loaded has a scope
+-- what a call for a body needs: nothing was refused, no limit has stopped the engine, it takes bodies, and only what is loaded has a scope
 pub record FitsBodies (o : Outside BodyHost) : Type 0 where
   pub whole : is_whole o.bodies.imports.condition ≡ true
   pub live : (engine_by o.bodies).stopped ≡ None
-  pub ready : TakesBodies modules linked Fits Begins o.bodies.engine (scopes_by o.bodies) o.promises o.bodies.errors (seen_by o.bodies)
+  pub ready : TakesBodies modules linked Fits BeginsById o.bodies.engine (scopes_by o.bodies) o.promises o.bodies.errors (seen_by o.bodies)
   pub scopes : AreScopesIn (seen_by o.bodies) (scopes_by o.bodies)
 
 -- what a call for a body does
@@ -91,15 +90,15 @@ settled_in p how = renamed_settled (url_in p) how
 
 -- ---- with other parts
 
-abbrev pub with_promises : Parts → Numbered → Parts
-with_promises p ps = record p { host = record p.host { promises = ps } }
+abbrev pub parts_with_promises : Parts → Numbered → Parts
+parts_with_promises p ps = record p { host = record p.host { promises = ps } }
 
-abbrev pub with_errors : Parts → Errors → Parts
-with_errors p es = record p { host = record p.host { bodies = record p.host.bodies { errors = es } } }
+abbrev pub parts_with_errors : Parts → Errors → Parts
+parts_with_errors p es = record p { host = record p.host { bodies = record p.host.bodies { errors = es } } }
 
 -- the SyntaxError of a link fault was made
 abbrev pub with_fault : Parts → FaultAt ℕ → Parts
-with_fault p f = with_errors p (make_error p.host.bodies.errors (link_error (modules (seen_in p)) f))
+with_fault p f = parts_with_errors p (make_error p.host.bodies.errors (link_error (modules (seen_in p)) f))
 
 abbrev pub nodes_behind : Bool → Table → Table
 nodes_behind true t = with_one t
@@ -116,14 +115,13 @@ with_node_behind had p = record p { host = record p.host { nodes = nodes_behind 
 pub record AreInOrder (p : Parts) : Type 0 where
   pub whole : is_whole p.host.bodies.imports.condition ≡ true
   pub nodes : size p.host.nodes ≡ length (seen_in p).urls
-  pub apart : EachOnce same_url (seen_in p).urls
-  pub have_ids : (u : Url) → has (seen_in p).linked u ≡ true → has (seen_in p).urls u ≡ true
+  pub ids : HaveIds (seen_in p).urls (seen_in p).linked
   pub scopes : AreScopesIn (seen_in p) (scopes_by p.host.bodies)
   pub standing : AreStanding modules (seen_in p) p.host.bodies.engine.standing.items
   pub between : HaveBegunOnce ByIds p.host
 
 -- linking, evaluation and bodies can be called
-pub record AreReady (p : Parts) : Type 0 where
+pub record TakeCalls (p : Parts) : Type 0 where
   pub world : World
   pub live : AreLive p world
   pub ready : TakesCalls world

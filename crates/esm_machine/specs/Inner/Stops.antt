@@ -7,9 +7,9 @@ use Rattle.esm_eval.specs.declared.walk.EvalEnd.{EvalEnd}
 use Rattle.esm_eval.specs.declared.walk.EvalEnd.TheVariants as eval_ends
 use Rattle.esm_machine.specs.Represents.{TurnEnd}
 
-abbrev pub end_by : Stop → EvalEnd Limit
-end_by (stops.Limit limit) = eval_ends.Stopped limit
-end_by stops.Memory = eval_ends.Memory
+abbrev pub eval_end_of : Stop → EvalEnd Limit
+eval_end_of (stops.Limit limit) = eval_ends.Stopped limit
+eval_end_of stops.Memory = eval_ends.Memory
 
 abbrev pub turn_end_by : EvalEnd Limit → TurnEnd
 turn_end_by (eval_ends.Stopped limit) = ends.Fault limit

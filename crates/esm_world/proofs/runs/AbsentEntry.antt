@@ -13,14 +13,15 @@ use Rattle.esm_loads.specs.Host.{Host, Answered}
 use Rattle.esm_loads.specs.Arrival.{AnswersNext}
 use Rattle.esm_world.specs.World.{World, Failed, opening, with_host, host_of}
 use Rattle.esm_world.specs.Layers.{with_promises}
-use Rattle.esm_world.specs.Jobs.{Jobs, Reacts, with_entry}
+use Rattle.esm_world.specs.Jobs.{Jobs, Reacts, with_entry_state}
 use Rattle.esm_world.specs.Turn.{Tasks, Turn, fetched}
-use Rattle.esm_world.specs.Examples.{main_url, all_built}
+use Rattle.esm_world.specs.Examples.{main_url}
+use Rattle.esm_loads.specs.LoadsView.{every_form}
 use Rattle.esm_world.specs.FailingRuns.{EntryAbsent}
 use Rattle.esm_world.proofs.runs.Steps.{turn_from}
 
 abbrev w0 : World
-w0 = opening no_maps all_built main_url false
+w0 = opening no_maps every_form main_url false
 
 abbrev w1 : World
 w1 = record w0 { loading = record w0.loading { entries = put_at w0.loading.entries main_url (Some failed_entry) } }
@@ -52,7 +53,7 @@ abbrev w3 : World
 w3 = with_promises w2 (record w2.promises { jobs = [] })
 
 abbrev w4 : World
-w4 = with_entry w3 (Failed (Error 0))
+w4 = with_entry_state w3 (Failed (Error 0))
 
 jobs1 : Jobs w2 w4
 jobs1 = Jobs.job (job 0 EntryLoaded) w3.promises (Rejected (Error 0)) refl refl refl Reacts.entry_refused (Jobs.none refl)

@@ -44,11 +44,12 @@ use Rattle.esm_body.specs.BodyRewriting.{On, Waits, RewritesBody}
 use Rattle.esm_body.specs.Segment.{Segment, Awaiting}
 use Rattle.esm_body.specs.Segment.{Ended as ended}
 use Rattle.esm_body.specs.Bodies.{StartsBody, RunsBody, ResumesBody, stand, without_standing}
-use Rattle.esm_world.specs.World.{World, Ended, opening, modules_in, state_of, with_state, with_host, host_of}
-use Rattle.esm_world.specs.Layers.{Executes, evaluation, with_linked, with_promises}
-use Rattle.esm_world.specs.Jobs.{Jobs, Reacts, LinksLoad, EvaluatesLoad, with_reaction, with_entry, settle_promise}
+use Rattle.esm_world.specs.World.{World, Ended, opening, modules_in, body_state, with_state, with_host, host_of}
+use Rattle.esm_world.specs.Layers.{CallsForBody, evaluation, with_linked, with_promises}
+use Rattle.esm_world.specs.Jobs.{Jobs, Reacts, LinksLoad, EvaluatesLoad, with_reaction, with_entry_state, settle_promise}
 use Rattle.esm_world.specs.Turn.{Tasks, Turn, fetched}
-use Rattle.esm_world.specs.Examples.{main_url, b_url, all_built, importing_main, printing_b, AwaitsImport, prints, import_of}
+use Rattle.esm_world.specs.Examples.{main_url, b_url, importing_main, printing_b, AwaitsImport, prints, import_of}
+use Rattle.esm_loads.specs.LoadsView.{every_form}
 use Rattle.esm_world.proofs.runs.Steps.{Here, Runs, entry_of, arrived, turn_from, printing, prints_text, no_names, still_async, not_ready, other_url, put_other}
 
 abbrev main_items : List Item
@@ -60,7 +61,7 @@ b_items = prints (codes "b") ∷ []
 -- ---- the first turn: the importing module stands at its await
 
 abbrev w0 : World
-w0 = opening no_maps all_built main_url false
+w0 = opening no_maps every_form main_url false
 
 abbrev w1 : World
 w1 = arrived w0 main_url 32 (entry_of main_items [])
@@ -117,7 +118,7 @@ abbrev w7 : World
 w7 = evaluation.make_body_promise (evaluation.add_stamp w6 main_url) main_url
 
 abbrev k1 : Here
-k1 = add_event (Begins main_url) (state_of w7)
+k1 = add_event (Begins main_url) (body_state w7)
 
 abbrev behind : Rest (Value Url)
 behind = more (Whole (printing (codes "m"))) end
@@ -154,20 +155,20 @@ segment1 = Segment.goes (On (Goes (more (Does (Awaits Drops) (t.Import (Val (Tex
     (RewritesBody.does (Rewrites.begins (follow.asks tt refl (follow.asks (Promise 3) (Ok tt, o3, begins_b, refl) follow.ends)))) refl
     (Segment.over (Waits (Promise 3) standing_at) RewritesBody.awaits refl))
 
-started1 : Executes w7 (Start main_url 2) (Ok tt) (with_state w7 k5)
-started1 = Executes.start (StartsBody.segment {mid = k1} {late = k4} refl segment1 refl)
+started1 : CallsForBody w7 (Start main_url 2) (Ok tt) (with_state w7 k5)
+started1 = CallsForBody.start (StartsBody.segment {mid = k1} {late = k4} refl segment1 refl)
 
 abbrev w8 : World
 w8 = with_state w7 k5
 
-leaves1 : Leaves evaluation Executes w6 main_url Ends w8
+leaves1 : Leaves evaluation CallsForBody w6 main_url Ends w8
 unfolding entries_of entries_with request_of with_text add_request requests_after imports_of all_imports exports_of all_exports locals_of indirects_of stars_of item_awaits stmt_awaits stmts_await init_awaits bindings_await
 leaves1 = Leaves.starts refl refl (ExecutesAsync.starts started1)
 
 abbrev w9 : World
 w9 = close evaluation w8 main_url (main_url ∷ [])
 
-walk1 : Walks evaluation Executes w4 main_url w5 Ends w9
+walk1 : Walks evaluation CallsForBody w4 main_url w5 Ends w9
 unfolding entries_of entries_with request_of with_text add_request requests_after imports_of all_imports exports_of all_exports locals_of indirects_of stars_of item_awaits stmt_awaits stmts_await init_awaits bindings_await
 walk1 = record {
   closed = [];
@@ -253,7 +254,7 @@ abbrev v6 : World
 v6 = enter evaluation v5 b_url
 
 abbrev q1 : Here
-q1 = add_event (Begins b_url) (state_of v6)
+q1 = add_event (Begins b_url) (body_state v6)
 
 abbrev q2 : Here
 q2 = (add_line (take_steps (take_steps q1 1).1 1).1 (codes "b")).1
@@ -264,17 +265,17 @@ segment2 = prints_text {late = q2} refl refl refl Segment.ends
 abbrev v7 : World
 v7 = with_state v6 (add_event (ends_event b_url) q2)
 
-ran2 : Executes v6 (Run b_url) (Ok Normal) v7
-ran2 = Executes.run (RunsBody.segment {mid = q1} {late = q2} refl segment2 refl)
+ran2 : CallsForBody v6 (Run b_url) (Ok Normal) v7
+ran2 = CallsForBody.run (RunsBody.segment {mid = q1} {late = q2} refl segment2 refl)
 
-leaves2 : Leaves evaluation Executes v6 b_url Ends v7
+leaves2 : Leaves evaluation CallsForBody v6 b_url Ends v7
 unfolding entries_of entries_with request_of with_text add_request requests_after imports_of all_imports exports_of all_exports locals_of indirects_of stars_of item_awaits stmt_awaits stmts_await init_awaits bindings_await
 leaves2 = Leaves.runs refl refl (executes.ends ran2)
 
 abbrev v8 : World
 v8 = close evaluation v7 b_url (b_url ∷ [])
 
-walk2 : Walks evaluation Executes v4 b_url v5 Ends v8
+walk2 : Walks evaluation CallsForBody v4 b_url v5 Ends v8
 unfolding entries_of entries_with request_of with_text add_request requests_after imports_of all_imports exports_of all_exports locals_of indirects_of stars_of item_awaits stmt_awaits stmts_await init_awaits bindings_await
 walk2 = record {
   closed = main_url ∷ [];
@@ -305,7 +306,7 @@ abbrev v13 : World
 v13 = with_promises v12 (record v12.promises { jobs = [] })
 
 abbrev p0 : Here
-p0 = without_standing same_url modules_in BeginsImport (state_of v13) []
+p0 = without_standing same_url modules_in BeginsImport (body_state v13) []
 
 abbrev p1 : Here
 p1 = (add_line (take_steps (take_steps p0 1).1 1).1 (codes "m")).1
@@ -316,7 +317,7 @@ segment3 = Segment.goes (On (Goes behind)) RewritesBody.drops refl (prints_text 
 abbrev p2 : Here
 p2 = state_promises (add_event (ends_event main_url) p1) (settle p1.outer.promises 2 (Fulfilled Undefined))
 
-resumed : ResumesBody same_url modules_in BeginsImport (state_of v13) main_url (Fulfilled (Namespace b_url)) (Ok tt) p2
+resumed : ResumesBody same_url modules_in BeginsImport (body_state v13) main_url (Fulfilled (Namespace b_url)) (Ok tt) p2
 resumed = record {
   taken = record { standing = record { at = main_url; done = 2; rest = standing_at }; others = [] };
   ended = ended.Normal;
@@ -342,7 +343,7 @@ abbrev v17 : World
 v17 = with_promises v16 (record v16.promises { jobs = [] })
 
 abbrev v18 : World
-v18 = with_entry v17 Ended
+v18 = with_entry_state v17 Ended
 
 jobs2 : Jobs v2 v18
 jobs2 = Jobs.job (job 4 (Loaded 1)) v3.promises (Fulfilled Undefined) refl refl refl (Reacts.linked evaluates2)

@@ -46,11 +46,12 @@ use Rattle.esm_body.specs.Segment.{RewritesOutermost, Segment, Awaiting}
 use Rattle.esm_body.specs.Segment.{Ended as ended}
 use Rattle.esm_body.specs.Bodies.{StartsBody, ResumesBody, stand, without_standing}
 use Rattle.esm_body.specs.Scopes.{Scope, named_cell}
-use Rattle.esm_world.specs.World.{World, Ended, opening, modules_in, state_of, with_state, with_host, host_of}
-use Rattle.esm_world.specs.Layers.{Executes, evaluation, with_linked, with_promises}
-use Rattle.esm_world.specs.Jobs.{Jobs, Reacts, LinksLoad, EvaluatesLoad, with_reaction, with_entry}
+use Rattle.esm_world.specs.World.{World, Ended, opening, modules_in, body_state, with_state, with_host, host_of}
+use Rattle.esm_world.specs.Layers.{CallsForBody, evaluation, with_linked, with_promises}
+use Rattle.esm_world.specs.Jobs.{Jobs, Reacts, LinksLoad, EvaluatesLoad, with_reaction, with_entry_state}
 use Rattle.esm_world.specs.Turn.{Tasks, Turn, fetched}
-use Rattle.esm_world.specs.Examples.{main_url, b_url, all_built, catching_main, CatchesImport, import_of}
+use Rattle.esm_world.specs.Examples.{main_url, b_url, catching_main, CatchesImport, import_of}
+use Rattle.esm_loads.specs.LoadsView.{every_form}
 use Rattle.esm_world.proofs.runs.Steps.{Here, Runs, entry_of, arrived, turn_from, no_names, still_async, not_ready}
 
 abbrev e_name : List ℕ
@@ -68,7 +69,7 @@ items = x.Statement (x.TryCatch tried e_name handler) ∷ []
 -- ---- the first turn: the importing module stands at its await
 
 abbrev w0 : World
-w0 = opening no_maps all_built main_url false
+w0 = opening no_maps every_form main_url false
 
 abbrev w1 : World
 w1 = arrived w0 main_url 52 (entry_of items [])
@@ -129,7 +130,7 @@ abbrev trying : Rest (Value Url) → Rest (Value Url)
 trying r = more (Tries (more (In [] r) end) (Some e_name) handler) end
 
 abbrev k1 : Here
-k1 = add_event (Begins main_url) (state_of w7)
+k1 = add_event (Begins main_url) (body_state w7)
 
 abbrev k2 : Here
 k2 = (take_steps k1 1).1
@@ -178,20 +179,20 @@ move4 = RewritesBody.tries (RewritesBody.inner {scope' = []} RewritesBody.awaits
 segment1 : Runs k1 main_url (more (Whole (x.TryCatch tried e_name handler)) end) [] (Awaiting (Promise 3) standing_at) k5
 segment1 = Segment.goes _ move1 refl (Segment.goes _ move2 refl (Segment.goes _ move3 refl (Segment.over _ move4 refl)))
 
-started1 : Executes w7 (Start main_url 2) (Ok tt) (with_state w7 k6)
-started1 = Executes.start (StartsBody.segment {mid = k1} {late = k5} refl segment1 refl)
+started1 : CallsForBody w7 (Start main_url 2) (Ok tt) (with_state w7 k6)
+started1 = CallsForBody.start (StartsBody.segment {mid = k1} {late = k5} refl segment1 refl)
 
 abbrev w8 : World
 w8 = with_state w7 k6
 
-leaves1 : Leaves evaluation Executes w6 main_url Ends w8
+leaves1 : Leaves evaluation CallsForBody w6 main_url Ends w8
 unfolding entries_of entries_with request_of with_text add_request requests_after imports_of all_imports exports_of all_exports locals_of indirects_of stars_of item_awaits stmt_awaits stmts_await init_awaits bindings_await
 leaves1 = Leaves.starts refl refl (ExecutesAsync.starts started1)
 
 abbrev w9 : World
 w9 = close evaluation w8 main_url (main_url ∷ [])
 
-walk1 : Walks evaluation Executes w4 main_url w5 Ends w9
+walk1 : Walks evaluation CallsForBody w4 main_url w5 Ends w9
 unfolding entries_of entries_with request_of with_text add_request requests_after imports_of all_imports exports_of all_exports locals_of indirects_of stars_of item_awaits stmt_awaits stmts_await init_awaits bindings_await
 walk1 = record {
   closed = [];
@@ -245,7 +246,7 @@ v3 = with_promises v2 (record v2.promises { jobs = [] })
 -- the body goes on with the throw
 
 abbrev p0 : Here
-p0 = without_standing same_url modules_in BeginsImport (state_of v3) []
+p0 = without_standing same_url modules_in BeginsImport (body_state v3) []
 
 abbrev caught_scope : Scope (Value Url)
 caught_scope = named_cell e_name false (Some (Error 0)) ∷ []
@@ -295,7 +296,7 @@ segment2 = Segment.goes _ move5 refl (Segment.goes _ move6 refl (Segment.goes _ 
 abbrev p3 : Here
 p3 = state_promises (add_event (ends_event main_url) p2) (settle p2.outer.promises 2 (Fulfilled Undefined))
 
-resumed : ResumesBody same_url modules_in BeginsImport (state_of v3) main_url (Rejected (Error 0)) (Ok tt) p3
+resumed : ResumesBody same_url modules_in BeginsImport (body_state v3) main_url (Rejected (Error 0)) (Ok tt) p3
 resumed = record {
   taken = record { standing = record { at = main_url; done = 2; rest = standing_at }; others = [] };
   ended = ended.Normal;
@@ -321,7 +322,7 @@ abbrev v7 : World
 v7 = with_promises v6 (record v6.promises { jobs = [] })
 
 abbrev v8 : World
-v8 = with_entry v7 Ended
+v8 = with_entry_state v7 Ended
 
 jobs2 : Jobs v2 v8
 jobs2 = Jobs.job (job 3 (Await main_url)) v3.promises (Rejected (Error 0)) refl refl refl (Reacts.resumes resumed)

@@ -43,11 +43,12 @@ use Rattle.esm_body.specs.BodyRewriting.{On, Waits, RewritesBody}
 use Rattle.esm_body.specs.Segment.{RewritesOutermost, Segment, Awaiting, Ended as ended}
 use Rattle.esm_body.specs.Bodies.{StartsBody, ResumesBody, stand, without_standing, RunsBody}
 use Rattle.esm_body.specs.Scopes.{Scope, named_cell}
-use Rattle.esm_world.specs.World.{World, Ended, opening, modules_in, state_of, with_state, with_host, host_of}
-use Rattle.esm_world.specs.Layers.{Executes, evaluation, with_linked, with_promises}
-use Rattle.esm_world.specs.Jobs.{Jobs, Reacts, LinksLoad, EvaluatesLoad, with_reaction, with_entry, settle_promise}
+use Rattle.esm_world.specs.World.{World, Ended, opening, modules_in, body_state, with_state, with_host, host_of}
+use Rattle.esm_world.specs.Layers.{CallsForBody, evaluation, with_linked, with_promises}
+use Rattle.esm_world.specs.Jobs.{Jobs, Reacts, LinksLoad, EvaluatesLoad, with_reaction, with_entry_state, settle_promise}
 use Rattle.esm_world.specs.Turn.{Tasks, Turn, fetched}
-use Rattle.esm_world.specs.Examples.{main_url, b_url, all_built, catching_main, import_of}
+use Rattle.esm_world.specs.Examples.{main_url, b_url, catching_main, import_of}
+use Rattle.esm_loads.specs.LoadsView.{every_form}
 use Rattle.esm_world.specs.FailingRuns.{throwing_module, CatchesThrow}
 use Rattle.esm_world.proofs.runs.Steps.{Here, Runs, entry_of, arrived, turn_from, no_names, still_async, not_ready, other_url, put_other}
 use Rattle.esm_realm.proofs.Urls.{cases, same_text}
@@ -71,7 +72,7 @@ items = x.Statement (x.TryCatch tried e_name handler) ∷ []
 -- ---- the first turn: the importing module stands at its await
 
 abbrev w0 : World
-w0 = opening no_maps all_built main_url false
+w0 = opening no_maps every_form main_url false
 
 abbrev w1 : World
 w1 = arrived w0 main_url 52 (entry_of items [])
@@ -132,7 +133,7 @@ abbrev trying : Rest (Value Url) → Rest (Value Url)
 trying r = more (Tries (more (In [] r) end) (Some e_name) handler) end
 
 abbrev k1 : Here
-k1 = add_event (Begins main_url) (state_of w7)
+k1 = add_event (Begins main_url) (body_state w7)
 
 abbrev k2 : Here
 k2 = (take_steps k1 1).1
@@ -181,20 +182,20 @@ move4 = RewritesBody.tries (RewritesBody.inner {scope' = []} RewritesBody.awaits
 segment1 : Runs k1 main_url (more (Whole (x.TryCatch tried e_name handler)) end) [] (Awaiting (Promise 3) standing_at) k5
 segment1 = Segment.goes _ move1 refl (Segment.goes _ move2 refl (Segment.goes _ move3 refl (Segment.over _ move4 refl)))
 
-started1 : Executes w7 (Start main_url 2) (Ok tt) (with_state w7 k6)
-started1 = Executes.start (StartsBody.segment {mid = k1} {late = k5} refl segment1 refl)
+started1 : CallsForBody w7 (Start main_url 2) (Ok tt) (with_state w7 k6)
+started1 = CallsForBody.start (StartsBody.segment {mid = k1} {late = k5} refl segment1 refl)
 
 abbrev w8 : World
 w8 = with_state w7 k6
 
-leaves1 : Leaves evaluation Executes w6 main_url Ends w8
+leaves1 : Leaves evaluation CallsForBody w6 main_url Ends w8
 unfolding entries_of entries_with request_of with_text add_request requests_after imports_of all_imports exports_of all_exports locals_of indirects_of stars_of item_awaits stmt_awaits stmts_await init_awaits bindings_await
 leaves1 = Leaves.starts refl refl (ExecutesAsync.starts started1)
 
 abbrev w9 : World
 w9 = close evaluation w8 main_url (main_url ∷ [])
 
-walk1 : Walks evaluation Executes w4 main_url w5 Ends w9
+walk1 : Walks evaluation CallsForBody w4 main_url w5 Ends w9
 unfolding entries_of entries_with request_of with_text add_request requests_after imports_of all_imports exports_of all_exports locals_of indirects_of stars_of item_awaits stmt_awaits stmts_await init_awaits bindings_await
 walk1 = record {
   closed = [];
@@ -280,7 +281,7 @@ abbrev v6 : World
 v6 = enter evaluation v5 b_url
 
 abbrev q1 : Here
-q1 = add_event (Begins b_url) (state_of v6)
+q1 = add_event (Begins b_url) (body_state v6)
 
 abbrev q2 : Here
 q2 = (take_steps q1 1).1
@@ -296,17 +297,17 @@ segment2 = Segment.goes (On (Goes (more (Does throws_use (Val thrown)) end)))
 abbrev v7 : World
 v7 = with_state v6 (add_event (throws_event b_url) q2)
 
-ran2 : Executes v6 (Run b_url) (Ok (Thrown thrown)) v7
-ran2 = Executes.run (RunsBody.segment {mid = q1} {late = q2} refl segment2 refl)
+ran2 : CallsForBody v6 (Run b_url) (Ok (Thrown thrown)) v7
+ran2 = CallsForBody.run (RunsBody.segment {mid = q1} {late = q2} refl segment2 refl)
 
-leaves2 : Leaves evaluation Executes v6 b_url (Throws thrown) v7
+leaves2 : Leaves evaluation CallsForBody v6 b_url (Throws thrown) v7
 unfolding entries_of entries_with request_of with_text add_request requests_after imports_of all_imports exports_of all_exports locals_of indirects_of stars_of item_awaits stmt_awaits stmts_await init_awaits bindings_await
 leaves2 = Leaves.runs refl refl (executes.throws thrown ran2)
 
 abbrev v8 : World
 v8 = fail evaluation v7 thrown (b_url ∷ [])
 
-walk2 : Walks evaluation Executes v4 b_url v5 (Throws thrown) v8
+walk2 : Walks evaluation CallsForBody v4 b_url v5 (Throws thrown) v8
 unfolding entries_of entries_with request_of with_text add_request requests_after imports_of all_imports exports_of all_exports locals_of indirects_of stars_of item_awaits stmt_awaits stmts_await init_awaits bindings_await
 walk2 = record {
   closed = main_url ∷ [];
@@ -344,7 +345,7 @@ v13 = with_promises v12 (record v12.promises { jobs = [] })
 -- the importing body goes on with the throw
 
 abbrev p0 : Here
-p0 = without_standing same_url modules_in BeginsImport (state_of v13) []
+p0 = without_standing same_url modules_in BeginsImport (body_state v13) []
 
 abbrev caught_scope : Scope (Value Url)
 caught_scope = named_cell e_name false (Some thrown) ∷ []
@@ -394,7 +395,7 @@ segment3 = Segment.goes _ move5 refl (Segment.goes _ move6 refl (Segment.goes _ 
 abbrev p3 : Here
 p3 = state_promises (add_event (ends_event main_url) p2) (settle p2.outer.promises 2 (Fulfilled Undefined))
 
-resumed : ResumesBody same_url modules_in BeginsImport (state_of v13) main_url (Rejected thrown) (Ok tt) p3
+resumed : ResumesBody same_url modules_in BeginsImport (body_state v13) main_url (Rejected thrown) (Ok tt) p3
 resumed = record {
   taken = record { standing = record { at = main_url; done = 2; rest = standing_at }; others = [] };
   ended = ended.Normal;
@@ -420,7 +421,7 @@ abbrev v17 : World
 v17 = with_promises v16 (record v16.promises { jobs = [] })
 
 abbrev v18 : World
-v18 = with_entry v17 Ended
+v18 = with_entry_state v17 Ended
 
 jobs2 : Jobs v2 v18
 jobs2 = Jobs.job (job 4 (Loaded 1)) v3.promises (Fulfilled Undefined) refl refl refl (Reacts.linked evaluates2)

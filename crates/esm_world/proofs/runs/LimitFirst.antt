@@ -22,9 +22,10 @@ use Rattle.esm_loads.specs.Host.{Host, Answered, with_loading}
 use Rattle.esm_loads.specs.Arrival.{AnswersNext, count_by, store}
 use Rattle.esm_world.specs.World.{World, Failed, opening, with_host, host_of}
 use Rattle.esm_world.specs.Layers.{with_promises}
-use Rattle.esm_world.specs.Jobs.{Jobs, Reacts, with_entry}
+use Rattle.esm_world.specs.Jobs.{Jobs, Reacts, with_entry_state}
 use Rattle.esm_world.specs.Turn.{Tasks, Turn, fetched}
-use Rattle.esm_world.specs.Examples.{main_url, b_url, all_built}
+use Rattle.esm_world.specs.Examples.{main_url, b_url}
+use Rattle.esm_loads.specs.LoadsView.{every_form}
 use Rattle.esm_world.specs.FailingRuns.{c_url, two_imports, too_long, LimitFirst}
 use Rattle.esm_world.proofs.runs.Steps.{entry_of, arrived, turn_from, no_names}
 
@@ -34,7 +35,7 @@ items = x.ImportEffect (codes "./b") ∷ x.ImportEffect (codes "./c") ∷ []
 -- ---- the first turn: both URLs are asked for
 
 abbrev w0 : World
-w0 = opening no_maps all_built main_url false
+w0 = opening no_maps every_form main_url false
 
 abbrev w1 : World
 w1 = arrived w0 main_url 27 (entry_of items (b_url ∷ c_url ∷ []))
@@ -101,7 +102,7 @@ abbrev w5 : World
 w5 = with_promises w4 (record w4.promises { jobs = [] })
 
 abbrev w6 : World
-w6 = with_entry w5 (Failed (Error 0))
+w6 = with_entry_state w5 (Failed (Error 0))
 
 jobs2 : Jobs w4 w6
 jobs2 = Jobs.job (job 0 EntryLoaded) w5.promises (Rejected (Error 0)) refl refl refl Reacts.entry_refused (Jobs.none refl)

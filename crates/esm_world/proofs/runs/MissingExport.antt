@@ -31,9 +31,10 @@ use Rattle.esm_link.specs.declared.LinkKind.TheVariants.{K1}
 use Rattle.esm_link.specs.Link.{LinksMarks}
 use Rattle.esm_world.specs.World.{World, Failed, opening, modules_in, with_host, host_of}
 use Rattle.esm_world.specs.Layers.{with_promises}
-use Rattle.esm_world.specs.Jobs.{Jobs, Reacts, LinksLoad, link_failed, new_error, with_entry}
+use Rattle.esm_world.specs.Jobs.{Jobs, Reacts, LinksLoad, link_failed, new_error, with_entry_state}
 use Rattle.esm_world.specs.Turn.{Tasks, Turn, fetched}
-use Rattle.esm_world.specs.Examples.{main_url, b_url, all_built, default_main, empty_b, NoSuchExport}
+use Rattle.esm_world.specs.Examples.{main_url, b_url, default_main, empty_b, NoSuchExport}
+use Rattle.esm_loads.specs.LoadsView.{every_form}
 use Rattle.esm_world.proofs.runs.Steps.{entry_of, arrived, turn_from, no_names, some_names, utf8_d, no_export_of}
 
 abbrev main_items : List Item
@@ -45,7 +46,7 @@ b_items = []
 -- ---- the first turn: the module asks for what it imports
 
 abbrev w0 : World
-w0 = opening no_maps all_built main_url false
+w0 = opening no_maps every_form main_url false
 
 abbrev w1 : World
 w1 = arrived w0 main_url 20 (entry_of main_items (b_url ∷ []))
@@ -139,7 +140,7 @@ link1 = record {
 }
 
 abbrev w6 : World
-w6 = with_entry (link_failed w5 no_export (b_url ∷ [])) (Failed (new_error w5))
+w6 = with_entry_state (link_failed w5 no_export (b_url ∷ [])) (Failed (new_error w5))
 
 jobs2 : Jobs w4 w6
 jobs2 = Jobs.job (job 0 EntryLoaded) w5.promises (Fulfilled Undefined) refl refl refl (Reacts.entry_fault main_url no_export (b_url ∷ []) link1) (Jobs.none refl)

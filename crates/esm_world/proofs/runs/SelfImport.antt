@@ -42,11 +42,12 @@ use Rattle.esm_body.specs.BodyRewriting.{On, Waits, RewritesBody}
 use Rattle.esm_body.specs.Segment.{Segment, Awaiting}
 use Rattle.esm_body.specs.Segment.{Ended as ended}
 use Rattle.esm_body.specs.Bodies.{StartsBody, RunsBody, stand}
-use Rattle.esm_world.specs.World.{World, Ended, opening, state_of, with_state, with_host, host_of}
-use Rattle.esm_world.specs.Layers.{Executes, evaluation, with_linked, with_promises}
-use Rattle.esm_world.specs.Jobs.{Jobs, Reacts, LinksLoad, EvaluatesLoad, with_reaction, with_entry, settle_promise}
+use Rattle.esm_world.specs.World.{World, Ended, opening, body_state, with_state, with_host, host_of}
+use Rattle.esm_world.specs.Layers.{CallsForBody, evaluation, with_linked, with_promises}
+use Rattle.esm_world.specs.Jobs.{Jobs, Reacts, LinksLoad, EvaluatesLoad, with_reaction, with_entry_state, settle_promise}
 use Rattle.esm_world.specs.Turn.{Tasks, Turn, fetched}
-use Rattle.esm_world.specs.Examples.{main_url, all_built, waiting_main, WaitsForItself, self_main, ImportsItself, prints, import_of}
+use Rattle.esm_world.specs.Examples.{main_url, waiting_main, WaitsForItself, self_main, ImportsItself, prints, import_of}
+use Rattle.esm_loads.specs.LoadsView.{every_form}
 use Rattle.esm_world.proofs.runs.Steps.{Here, Runs, entry_of, arrived, turn_from, printing, prints_text, no_names}
 
 -- ---- it is awaited
@@ -55,7 +56,7 @@ abbrev waiting_items : List Item
 waiting_items = prints (codes "1") ∷ x.Statement (x.Await (import_of (codes "./m"))) ∷ prints (codes "2") ∷ []
 
 abbrev w0 : World
-w0 = opening no_maps all_built main_url false
+w0 = opening no_maps every_form main_url false
 
 abbrev w1 : World
 w1 = arrived w0 main_url 44 (entry_of waiting_items [])
@@ -113,7 +114,7 @@ abbrev w7 : World
 w7 = evaluation.make_body_promise (evaluation.add_stamp w6 main_url) main_url
 
 abbrev k1 : Here
-k1 = add_event (Begins main_url) (state_of w7)
+k1 = add_event (Begins main_url) (body_state w7)
 
 abbrev k2 : Here
 k2 = (add_line (take_steps (take_steps k1 1).1 1).1 (codes "1")).1
@@ -173,20 +174,20 @@ segment1 = prints_text {late = k2} refl refl refl
     (RewritesBody.does (Rewrites.begins (follow.asks tt refl (follow.asks (Promise 3) (Ok tt, o4, begins_main, refl) follow.ends)))) refl
     (Segment.over (Waits (Promise 3) (more (Stands Drops) behind)) RewritesBody.awaits refl)))
 
-started1 : Executes w7 (Start main_url 2) (Ok tt) (with_state w7 k6)
-started1 = Executes.start (StartsBody.segment {mid = k1} {late = k5} refl segment1 refl)
+started1 : CallsForBody w7 (Start main_url 2) (Ok tt) (with_state w7 k6)
+started1 = CallsForBody.start (StartsBody.segment {mid = k1} {late = k5} refl segment1 refl)
 
 abbrev w8 : World
 w8 = with_state w7 k6
 
-leaves1 : Leaves evaluation Executes w6 main_url Ends w8
+leaves1 : Leaves evaluation CallsForBody w6 main_url Ends w8
 unfolding entries_of entries_with request_of with_text add_request requests_after imports_of all_imports exports_of all_exports locals_of indirects_of stars_of item_awaits stmt_awaits stmts_await init_awaits bindings_await
 leaves1 = Leaves.starts refl refl (ExecutesAsync.starts started1)
 
 abbrev w9 : World
 w9 = close evaluation w8 main_url (main_url ∷ [])
 
-walk1 : Walks evaluation Executes w4 main_url w5 Ends w9
+walk1 : Walks evaluation CallsForBody w4 main_url w5 Ends w9
 unfolding entries_of entries_with request_of with_text add_request requests_after imports_of all_imports exports_of all_exports locals_of indirects_of stars_of item_awaits stmt_awaits stmts_await init_awaits bindings_await
 walk1 = record {
   closed = [];
@@ -289,7 +290,7 @@ abbrev v6 : World
 v6 = enter evaluation v5 main_url
 
 abbrev j1 : Here
-j1 = add_event (Begins main_url) (state_of v6)
+j1 = add_event (Begins main_url) (body_state v6)
 
 abbrev prints_m : Rest (Value Url)
 prints_m = more (Whole (printing (codes "m"))) end
@@ -335,17 +336,17 @@ self_segment = Segment.goes (On (Goes (more (Does Drops (t.Import (Val (Text (co
 abbrev v7 : World
 v7 = with_state v6 (add_event (ends_event main_url) j5)
 
-self_ran : Executes v6 (Run main_url) (Ok Normal) v7
-self_ran = Executes.run (RunsBody.segment {mid = j1} {late = j5} refl self_segment refl)
+self_ran : CallsForBody v6 (Run main_url) (Ok Normal) v7
+self_ran = CallsForBody.run (RunsBody.segment {mid = j1} {late = j5} refl self_segment refl)
 
-self_leaves : Leaves evaluation Executes v6 main_url Ends v7
+self_leaves : Leaves evaluation CallsForBody v6 main_url Ends v7
 unfolding entries_of entries_with request_of with_text add_request requests_after imports_of all_imports exports_of all_exports locals_of indirects_of stars_of item_awaits stmt_awaits stmts_await init_awaits bindings_await
 self_leaves = Leaves.runs refl refl (executes.ends self_ran)
 
 abbrev v8 : World
 v8 = close evaluation v7 main_url (main_url ∷ [])
 
-self_walk : Walks evaluation Executes v4 main_url v5 Ends v8
+self_walk : Walks evaluation CallsForBody v4 main_url v5 Ends v8
 unfolding entries_of entries_with request_of with_text add_request requests_after imports_of all_imports exports_of all_exports locals_of indirects_of stars_of item_awaits stmt_awaits stmts_await init_awaits bindings_await
 self_walk = record {
   closed = [];
@@ -384,7 +385,7 @@ abbrev v14 : World
 v14 = with_promises v13 (record v13.promises { jobs = job 1 (Evaluated_of 1) ∷ [] })
 
 abbrev v15 : World
-v15 = with_entry v14 Ended
+v15 = with_entry_state v14 Ended
 
 abbrev v16 : World
 v16 = with_promises v15 (record v15.promises { jobs = [] })

@@ -37,11 +37,12 @@ use Rattle.esm_body.specs.BodyRewriting.{On, Waits, RewritesBody}
 use Rattle.esm_body.specs.Segment.{Segment, Awaiting}
 use Rattle.esm_body.specs.Segment.{Ended as ended}
 use Rattle.esm_body.specs.Bodies.{StartsBody, ResumesBody, stand, without_standing}
-use Rattle.esm_world.specs.World.{World, Failed, opening, modules_in, state_of, with_state, with_host, host_of}
-use Rattle.esm_world.specs.Layers.{Executes, evaluation, with_linked, with_promises}
-use Rattle.esm_world.specs.Jobs.{Jobs, Reacts, LinksLoad, EvaluatesLoad, with_reaction, with_entry}
+use Rattle.esm_world.specs.World.{World, Failed, opening, modules_in, body_state, with_state, with_host, host_of}
+use Rattle.esm_world.specs.Layers.{CallsForBody, evaluation, with_linked, with_promises}
+use Rattle.esm_world.specs.Jobs.{Jobs, Reacts, LinksLoad, EvaluatesLoad, with_reaction, with_entry_state}
 use Rattle.esm_world.specs.Turn.{Tasks, Turn, fetched}
-use Rattle.esm_world.specs.Examples.{main_url, all_built}
+use Rattle.esm_world.specs.Examples.{main_url}
+use Rattle.esm_loads.specs.LoadsView.{every_form}
 use Rattle.esm_world.specs.FailingRuns.{awaiting_main, ThrowsBehindAwait}
 use Rattle.esm_world.proofs.runs.Steps.{Here, Runs, entry_of, arrived, turn_from, no_names, still_async}
 
@@ -54,7 +55,7 @@ items = x.Statement (x.Await x.Undefined) ∷ x.Statement (x.Throw (x.Text (code
 -- ---- the module stands at its await
 
 abbrev w0 : World
-w0 = opening no_maps all_built main_url false
+w0 = opening no_maps every_form main_url false
 
 abbrev w1 : World
 w1 = arrived w0 main_url 27 (entry_of items [])
@@ -111,7 +112,7 @@ abbrev w7 : World
 w7 = evaluation.make_body_promise (evaluation.add_stamp w6 main_url) main_url
 
 abbrev k1 : Here
-k1 = add_event (Begins main_url) (state_of w7)
+k1 = add_event (Begins main_url) (body_state w7)
 
 abbrev k2 : Here
 k2 = (take_steps k1 1).1
@@ -127,20 +128,20 @@ segment1 = Segment.goes (On (Goes (more (Does (Awaits Drops) (Val Undefined)) th
     (RewritesBody.begins_at (follow.asks tt refl follow.ends)) refl
     (Segment.over (Waits Undefined standing_at) RewritesBody.awaits refl)
 
-started1 : Executes w7 (Start main_url 2) (Ok tt) (with_state w7 k3)
-started1 = Executes.start (StartsBody.segment {mid = k1} {late = k2} refl segment1 refl)
+started1 : CallsForBody w7 (Start main_url 2) (Ok tt) (with_state w7 k3)
+started1 = CallsForBody.start (StartsBody.segment {mid = k1} {late = k2} refl segment1 refl)
 
 abbrev w8 : World
 w8 = with_state w7 k3
 
-leaves1 : Leaves evaluation Executes w6 main_url Ends w8
+leaves1 : Leaves evaluation CallsForBody w6 main_url Ends w8
 unfolding entries_of entries_with request_of with_text add_request requests_after imports_of all_imports exports_of all_exports locals_of indirects_of stars_of item_awaits stmt_awaits stmts_await init_awaits bindings_await
 leaves1 = Leaves.starts refl refl (ExecutesAsync.starts started1)
 
 abbrev w9 : World
 w9 = close evaluation w8 main_url (main_url ∷ [])
 
-walk1 : Walks evaluation Executes w4 main_url w5 Ends w9
+walk1 : Walks evaluation CallsForBody w4 main_url w5 Ends w9
 unfolding entries_of entries_with request_of with_text add_request requests_after imports_of all_imports exports_of all_exports locals_of indirects_of stars_of item_awaits stmt_awaits stmts_await init_awaits bindings_await
 walk1 = record {
   closed = [];
@@ -162,7 +163,7 @@ abbrev w11 : World
 w11 = with_promises w10 (record w10.promises { jobs = [] })
 
 abbrev p0 : Here
-p0 = without_standing same_url modules_in BeginsImport (state_of w11) []
+p0 = without_standing same_url modules_in BeginsImport (body_state w11) []
 
 abbrev p1 : Here
 p1 = (take_steps p0 1).1
@@ -176,7 +177,7 @@ segment2 = Segment.goes (On (Goes throwing)) RewritesBody.drops refl
 abbrev p2 : Here
 p2 = state_promises (add_event (throws_event main_url) p1) (settle p1.outer.promises 2 (Rejected (Text (codes "x"))))
 
-resumed : ResumesBody same_url modules_in BeginsImport (state_of w11) main_url (Fulfilled Undefined) (Ok tt) p2
+resumed : ResumesBody same_url modules_in BeginsImport (body_state w11) main_url (Fulfilled Undefined) (Ok tt) p2
 resumed = record {
   taken = record { standing = record { at = main_url; done = 2; rest = standing_at }; others = [] };
   ended = ended.Thrown (Text (codes "x"));
@@ -204,7 +205,7 @@ abbrev w15 : World
 w15 = with_promises w14 (record w14.promises { jobs = [] })
 
 abbrev w16 : World
-w16 = with_entry w15 (Failed (Text (codes "x")))
+w16 = with_entry_state w15 (Failed (Text (codes "x")))
 
 jobs1 : Jobs w2 w16
 jobs1 = Jobs.job (job 0 EntryLoaded) w3.promises (Fulfilled Undefined) refl refl refl (Reacts.entry_linked evaluates1)

@@ -36,11 +36,12 @@ use Rattle.esm_body.specs.BodyRewriting.{On, RewritesBody}
 use Rattle.esm_body.specs.Segment.{Segment}
 use Rattle.esm_body.specs.Segment.{Ended as ended}
 use Rattle.esm_body.specs.Bodies.{RunsBody}
-use Rattle.esm_world.specs.World.{World, Failed, opening, state_of, with_state, with_host, host_of}
-use Rattle.esm_world.specs.Layers.{Executes, evaluation, with_linked, with_promises}
-use Rattle.esm_world.specs.Jobs.{Jobs, Reacts, LinksLoad, EvaluatesLoad, with_reaction, with_entry, settle_promise}
+use Rattle.esm_world.specs.World.{World, Failed, opening, body_state, with_state, with_host, host_of}
+use Rattle.esm_world.specs.Layers.{CallsForBody, evaluation, with_linked, with_promises}
+use Rattle.esm_world.specs.Jobs.{Jobs, Reacts, LinksLoad, EvaluatesLoad, with_reaction, with_entry_state, settle_promise}
 use Rattle.esm_world.specs.Turn.{Tasks, Turn, fetched}
-use Rattle.esm_world.specs.Examples.{main_url, b_url, all_built, cycle_main, throwing_b, ThrowsInCycle, prints}
+use Rattle.esm_world.specs.Examples.{main_url, b_url, cycle_main, throwing_b, ThrowsInCycle, prints}
+use Rattle.esm_loads.specs.LoadsView.{every_form}
 use Rattle.esm_world.proofs.runs.Steps.{Here, Runs, entry_of, arrived, turn_from, no_names}
 
 abbrev main_items : List Item
@@ -52,7 +53,7 @@ b_items = x.ImportEffect (codes "./m") ∷ x.Statement (x.Throw (x.Text (codes "
 -- ---- the first turn: the module asks for what it imports
 
 abbrev w0 : World
-w0 = opening no_maps all_built main_url false
+w0 = opening no_maps every_form main_url false
 
 abbrev w1 : World
 w1 = arrived w0 main_url 25 (entry_of main_items (b_url ∷ []))
@@ -144,7 +145,7 @@ abbrev w8 : World
 w8 = enter evaluation (enter evaluation w7 main_url) b_url
 
 abbrev k1 : Here
-k1 = add_event (Begins b_url) (state_of w8)
+k1 = add_event (Begins b_url) (body_state w8)
 
 abbrev k2 : Here
 k2 = (take_steps k1 1).1
@@ -157,10 +158,10 @@ segment1 = Segment.goes (On (Goes (more (Does throws_use (Val (Text (codes "x"))
 abbrev w9 : World
 w9 = with_state w8 (add_event (throws_event b_url) k2)
 
-ran1 : Executes w8 (Run b_url) (Ok (Thrown (Text (codes "x")))) w9
-ran1 = Executes.run (RunsBody.segment {mid = k1} {late = k2} refl segment1 refl)
+ran1 : CallsForBody w8 (Run b_url) (Ok (Thrown (Text (codes "x")))) w9
+ran1 = CallsForBody.run (RunsBody.segment {mid = k1} {late = k2} refl segment1 refl)
 
-leaves1 : Leaves evaluation Executes w8 b_url (Throws (Text (codes "x"))) w9
+leaves1 : Leaves evaluation CallsForBody w8 b_url (Throws (Text (codes "x"))) w9
 unfolding entries_of entries_with request_of with_text add_request requests_after imports_of all_imports exports_of all_exports locals_of indirects_of stars_of item_awaits stmt_awaits stmts_await init_awaits bindings_await
 leaves1 = Leaves.runs refl refl (executes.throws (Text (codes "x")) ran1)
 
@@ -168,7 +169,7 @@ leaves1 = Leaves.runs refl refl (executes.throws (Text (codes "x")) ran1)
 abbrev w10 : World
 w10 = fail evaluation w9 (Text (codes "x")) (main_url ∷ b_url ∷ [])
 
-walk1 : Walks evaluation Executes w6 main_url w7 (Throws (Text (codes "x"))) w10
+walk1 : Walks evaluation CallsForBody w6 main_url w7 (Throws (Text (codes "x"))) w10
 unfolding entries_of entries_with request_of with_text add_request requests_after imports_of all_imports exports_of all_exports locals_of indirects_of stars_of item_awaits stmt_awaits stmts_await init_awaits bindings_await
 walk1 = record {
   closed = [];
@@ -196,7 +197,7 @@ abbrev w13 : World
 w13 = with_promises w12 (record w12.promises { jobs = [] })
 
 abbrev w14 : World
-w14 = with_entry w13 (Failed (Text (codes "x")))
+w14 = with_entry_state w13 (Failed (Text (codes "x")))
 
 jobs2 : Jobs w4 w14
 jobs2 = Jobs.job (job 0 EntryLoaded) w5.promises (Fulfilled Undefined) refl refl refl (Reacts.entry_linked evaluates1)

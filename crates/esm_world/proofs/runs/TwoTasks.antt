@@ -32,11 +32,12 @@ use Rattle.esm_body.specs.State.{Begins, Ends as ends_event, add_event, add_line
 use Rattle.esm_body.specs.Segment.{Segment}
 use Rattle.esm_body.specs.Segment.{Ended as ended}
 use Rattle.esm_body.specs.Bodies.{RunsBody}
-use Rattle.esm_world.specs.World.{World, Ended, opening, state_of, with_state, with_host, host_of}
-use Rattle.esm_world.specs.Layers.{Executes, evaluation, with_linked, with_promises}
-use Rattle.esm_world.specs.Jobs.{Jobs, Reacts, LinksLoad, EvaluatesLoad, with_reaction, with_entry, settle_promise}
+use Rattle.esm_world.specs.World.{World, Ended, opening, body_state, with_state, with_host, host_of}
+use Rattle.esm_world.specs.Layers.{CallsForBody, evaluation, with_linked, with_promises}
+use Rattle.esm_world.specs.Jobs.{Jobs, Reacts, LinksLoad, EvaluatesLoad, with_reaction, with_entry_state, settle_promise}
 use Rattle.esm_world.specs.Turn.{Tasks, Turn, fetched}
-use Rattle.esm_world.specs.Examples.{main_url, b_url, all_built, printing_b, prints}
+use Rattle.esm_world.specs.Examples.{main_url, b_url, printing_b, prints}
+use Rattle.esm_loads.specs.LoadsView.{every_form}
 use Rattle.esm_world.specs.TwoTasks.{asking_twice, TwoTasks}
 use Rattle.esm_world.proofs.runs.Steps.{Here, Runs, entry_of, arrived, turn_from, printing, prints_text, no_names}
 
@@ -49,7 +50,7 @@ b_items = prints (codes "b") ∷ []
 -- ---- the first turn: the module asks for what it imports
 
 abbrev w0 : World
-w0 = opening no_maps all_built main_url false
+w0 = opening no_maps every_form main_url false
 
 abbrev w1 : World
 w1 = arrived w0 main_url 29 (entry_of main_items (b_url ∷ b_url ∷ []))
@@ -170,7 +171,7 @@ w8 = enter evaluation (enter evaluation w7 main_url) b_url
 -- the body of the imported module
 
 abbrev a1 : Here
-a1 = add_event (Begins b_url) (state_of w8)
+a1 = add_event (Begins b_url) (body_state w8)
 
 abbrev a2 : Here
 a2 = (add_line (take_steps (take_steps a1 1).1 1).1 (codes "b")).1
@@ -181,10 +182,10 @@ segment1 = prints_text {late = a2} refl refl refl Segment.ends
 abbrev w9 : World
 w9 = with_state w8 (add_event (ends_event b_url) a2)
 
-ran1 : Executes w8 (Run b_url) (Ok Normal) w9
-ran1 = Executes.run (RunsBody.segment {mid = a1} {late = a2} refl segment1 refl)
+ran1 : CallsForBody w8 (Run b_url) (Ok Normal) w9
+ran1 = CallsForBody.run (RunsBody.segment {mid = a1} {late = a2} refl segment1 refl)
 
-leaves1 : Leaves evaluation Executes w8 b_url Ends w9
+leaves1 : Leaves evaluation CallsForBody w8 b_url Ends w9
 unfolding entries_of entries_with request_of with_text add_request requests_after imports_of all_imports exports_of all_exports locals_of indirects_of stars_of item_awaits stmt_awaits stmts_await init_awaits bindings_await
 leaves1 = Leaves.runs refl refl (executes.ends ran1)
 
@@ -194,22 +195,22 @@ w10 = close evaluation w9 b_url (b_url ∷ [])
 -- that of the entry
 
 abbrev m1 : Here
-m1 = add_event (Begins main_url) (state_of w10)
+m1 = add_event (Begins main_url) (body_state w10)
 
 abbrev w11 : World
 w11 = with_state w10 (add_event (ends_event main_url) m1)
 
-ran2 : Executes w10 (Run main_url) (Ok Normal) w11
-ran2 = Executes.run (RunsBody.segment {mid = m1} {late = m1} {how = ended.Normal} refl Segment.ends refl)
+ran2 : CallsForBody w10 (Run main_url) (Ok Normal) w11
+ran2 = CallsForBody.run (RunsBody.segment {mid = m1} {late = m1} {how = ended.Normal} refl Segment.ends refl)
 
-leaves2 : Leaves evaluation Executes w10 main_url Ends w11
+leaves2 : Leaves evaluation CallsForBody w10 main_url Ends w11
 unfolding entries_of entries_with request_of with_text add_request requests_after imports_of all_imports exports_of all_exports locals_of indirects_of stars_of item_awaits stmt_awaits stmts_await init_awaits bindings_await
 leaves2 = Leaves.runs refl refl (executes.ends ran2)
 
 abbrev w12 : World
 w12 = close evaluation w11 main_url (main_url ∷ [])
 
-walk1 : Walks evaluation Executes w6 main_url w7 Ends w12
+walk1 : Walks evaluation CallsForBody w6 main_url w7 Ends w12
 unfolding entries_of entries_with request_of with_text add_request requests_after imports_of all_imports exports_of all_exports locals_of indirects_of stars_of item_awaits stmt_awaits stmts_await init_awaits bindings_await
 walk1 = record {
   closed = [];
@@ -232,7 +233,7 @@ abbrev w15 : World
 w15 = with_promises w14 (record w14.promises { jobs = [] })
 
 abbrev w16 : World
-w16 = with_entry w15 Ended
+w16 = with_entry_state w15 Ended
 
 jobs2 : Jobs w4 w16
 jobs2 = Jobs.job (job 0 EntryLoaded) w5.promises (Fulfilled Undefined) refl refl refl (Reacts.entry_linked evaluates1)

@@ -2,19 +2,19 @@ use Rattle.std.proofs.Common.{ℕ, Some, ap, subst, sym, ◌∙◌}
 use Rattle.esm_promise.specs.Code.{reaction_of, settled_of}
 use Rattle.esm_promise.specs.Promises.{Job, job}
 use Rattle.esm_promise.specs.Reactions.{Reaction}
-use Rattle.esm_machine.specs.Inner.Parts.{AreSound, with_promises}
+use Rattle.esm_machine.specs.Inner.Parts.{AreSound, parts_with_promises}
 use Rattle.esm_machine.proofs.JobTaken.{is_settled, job_done, job_stopped, may_do, no_job, sound_behind}
 use Rattle.esm_machine.proofs.jobs.run_job.Goals as goal
 
 pub returns-in_default-clause-job : goal.returns-in_default-clause-job
 returns-in_default-clause-job c = λ w live.
     let t = c.in_default.ensures in
-    no_job c.args.parts.now (with_promises c.args.parts.now c.pop.new.self) w live t.0 (ap (λ ps. with_promises c.args.parts.now ps) t.1)
+    no_job c.args.parts.now (parts_with_promises c.args.parts.now c.pop.new.self) w live t.0 (ap (λ ps. parts_with_promises c.args.parts.now ps) t.1)
 
 pub returns-in_default-clause-sound : goal.returns-in_default-clause-sound
 returns-in_default-clause-sound c =
     let t = c.in_default.ensures in
-    subst AreSound (sym (ap (λ ps. with_promises c.args.parts.now ps) t.1)) c.requires.sound
+    subst AreSound (sym (ap (λ ps. parts_with_promises c.args.parts.now ps) t.1)) c.requires.sound
 
 pub unreachable-requires : goal.unreachable-requires
 unreachable-requires c =

@@ -1,6 +1,6 @@
 use Rattle.std.proofs.Common.{subst, sym}
 use Rattle.std.specs.Prelude.{Ok, Err}
-use Rattle.esm_machine.specs.Inner.Leads.{EvaluatesRoot}
+use Rattle.esm_machine.specs.Inner.Leads.{EvaluatesModule}
 use Rattle.esm_machine.specs.Inner.Parts.{url_in}
 use Rattle.esm_machine.proofs.BodyEnds.{with_host}
 use Rattle.esm_machine.proofs.EvaluateJobs.{evaluates_ok, evaluates_stop, target_linked}
@@ -29,5 +29,5 @@ returns-in-Ok-clause-order c =
 
 pub returns-in-Err-clause-evaluates : goal.returns-in-Err-clause-evaluates
 returns-in-Err-clause-evaluates c w live =
-    subst (λ e. EvaluatesRoot w (url_in c.args.parts.now c.args.root.0) (Err e) (with_host c.args.parts.now c.evaluate.new.desk)) (sym c.turn_end.ensures)
+    subst (λ e. EvaluatesModule w (url_in c.args.parts.now c.args.root.0) (Err e) (with_host c.args.parts.now c.evaluate.new.desk)) (sym c.turn_end.ensures)
     (evaluates_stop c.args.parts.now c.requires.ready c.evaluate.new.desk c.args.root.0 c.requires.linked c.in-Err.end c.in-Err.ensures.evaluates w live)

@@ -10,7 +10,7 @@ use Rattle.esm_loads.specs.Loaded.{HaveLoaded}
 use Rattle.esm_loads.specs.LoadsAsLoading.{loading_of}
 use Rattle.esm_loads.specs.Whole.{IsWhole}
 use Rattle.esm_body.specs.Importers.{Begun, outer_with}
-use Rattle.esm_machine.specs.Seen.{Begins}
+use Rattle.esm_machine.specs.Seen.{BeginsById}
 use Rattle.esm_machine.specs.ModuleStore.{Imported, imported, seen_of}
 use Rattle.esm_machine.specs.Inner.Importing.{Named}
 use Rattle.esm_machine.proofs.Shows.{goes}
@@ -49,7 +49,7 @@ invariant_of-self-in-Err c =
 pub returns-in-Ok : goal.returns-in-Ok
 returns-in-Ok c may =
     let on : c.can_begin.result ≡ true = search rules in
-    subst (λ (i : Imported). Begun Begins (outer_with c.args.promises.now c.args.errors.now (seen_of i)) c.args.referrer.0 c.args.specifier.now c.args.promise.0 (Ok tt)
+    subst (λ (i : Imported). Begun BeginsById (outer_with c.args.promises.now c.args.errors.now (seen_of i)) c.args.referrer.0 c.args.specifier.now c.args.promise.0 (Ok tt)
     (outer_with c.import_call.new.promises c.import_call.new.errors (seen_of (imported (records_of c.import_call.new.realm) c.import_call.new.self (arc_value c.self.inside.import_map) c.self.inside.condition)))) c.self.view_is
     (begun_ok (records_of c.self.inside.realm) (records_of c.import_call.new.realm) c.self.inside.loads c.import_call.new.self (arc_value c.self.inside.import_map) c.in-Ok.ensures.records c.args.promises.now c.import_call.new.promises c.args.errors.now c.import_call.new.errors c.self.inside.condition c.args.referrer.0 c.args.specifier.now c.args.promise.0 (c.can_begin.ensures.whole on) c.self.invariant (c.can_begin.ensures.referrer on)
     (subst (λ (m : Maps). IsImport (host_of (Named (records_of c.self.inside.realm)) c.args.promises.now c.args.errors.now (loading_of m c.self.inside.loads (records_of c.self.inside.realm))) (url_at (records_of c.self.inside.realm) c.args.referrer.0) c.args.specifier.now c.args.promise.0 (Ok tt)
@@ -58,7 +58,7 @@ returns-in-Ok c may =
 pub returns-in-Err : goal.returns-in-Err
 returns-in-Err c may =
     let on : c.can_begin.result ≡ true = search rules in
-    subst (λ (i : Imported). Begun Begins (outer_with c.args.promises.now c.args.errors.now (seen_of i)) c.args.referrer.0 c.args.specifier.now c.args.promise.0 (Err c.stop_after.result)
+    subst (λ (i : Imported). Begun BeginsById (outer_with c.args.promises.now c.args.errors.now (seen_of i)) c.args.referrer.0 c.args.specifier.now c.args.promise.0 (Err c.stop_after.result)
     (outer_with c.import_call.new.promises c.import_call.new.errors (seen_of (imported (records_of c.import_call.new.realm) c.import_call.new.self (arc_value c.self.inside.import_map) c.condition_after-self-inside.result)))) c.self.view_is
     (begun_err (records_of c.self.inside.realm) (records_of c.import_call.new.realm) c.self.inside.loads c.import_call.new.self (arc_value c.self.inside.import_map) c.in-Err.ensures.records c.args.promises.now c.import_call.new.promises c.args.errors.now c.import_call.new.errors c.self.inside.condition c.condition_after-self-inside.result c.stop_after.result c.in-Err.end c.args.referrer.0 c.args.specifier.now c.args.promise.0 (c.can_begin.ensures.whole on) c.condition_after-self-inside.ensures c.stop_after.ensures
     c.self.invariant (c.can_begin.ensures.referrer on) (subst (λ (m : Maps). IsImport (host_of (Named (records_of c.self.inside.realm)) c.args.promises.now c.args.errors.now (loading_of m c.self.inside.loads (records_of c.self.inside.realm))) (url_at (records_of c.self.inside.realm) c.args.referrer.0) c.args.specifier.now c.args.promise.0 (Err c.in-Err.end)
