@@ -18,7 +18,7 @@ pub goes_on : (taken : List Delivery) (k : ℕ) (d : Delivery) (text after all :
 goes_on taken k d text after all within is new leads =
     let next : suc k ≡ k + 1 = omega arith in
     let left : drop k taken ≡ d ∷ drop (k + 1) taken =
-        drop-cons taken k d within ∙ ap₂ (λ (x : Delivery) (xs : List Delivery). x ∷ xs) (sym is) (ap (λ n. drop n taken) next) in
+    drop-cons taken k d within ∙ ap₂ (λ (x : Delivery) (xs : List Delivery). x ∷ xs) (sym is) (ap (λ n. drop n taken) next) in
     ap (λ t. t ++ lines_of (drop (k + 1) taken)) new
     ∙ (append_assoc text (delivery_lines (delivery_of d)) (lines_of (drop (k + 1) taken))
     ∙ (sym (ap (λ (xs : List Delivery). text ++ lines_of xs) left)

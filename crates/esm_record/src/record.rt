@@ -11,12 +11,7 @@ use esm_base::{Memory, Text};
 use std::alloc::Global;
 
 // Adds a name and a URL on a line.
-fn add_line(
-    alloc: Global,
-    text: &mut Vec<u8>,
-    name: &str,
-    url: &str,
-) -> Result<(), Memory>
+fn add_line(alloc: Global, text: &mut Vec<u8>, name: &str, url: &str) -> Result<(), Memory>
     ensures { OnOk result (text.new.items ≡ text.old.items ++ spec.url_line name.now url.now) }
 {
     let line = format!(in alloc; "{name} {url}\n")?;
@@ -59,11 +54,7 @@ fn add_bytes(
 }
 
 // Adds the import map that was given.
-fn add_map(
-    alloc: Global,
-    text: &mut Vec<u8>,
-    map: Option<(&Text, &[u8])>,
-) -> Result<(), Memory>
+fn add_map(alloc: Global, text: &mut Vec<u8>, map: Option<(&Text, &[u8])>) -> Result<(), Memory>
     ensures { OnOk result
         (text.new.items ≡ text.old.items ++ spec.map_lines (option_map given_map map.entry)) }
 {
@@ -134,7 +125,7 @@ pub fn append_record(
 ) -> Result<(), Memory>
     ensures { OnOk result (text.new.items ≡ text.old.items
         ++ spec.record_text base.now entry.now (option_map given_map map.entry)
-            (deliveries_of taken.now)) }
+        (deliveries_of taken.now)) }
 {
     text.extend_from_slice(b"esm-record 1\n")?;
     add_line(alloc, text, "base", base)?;

@@ -29,7 +29,10 @@ fn a_record_stands_behind_what_is_there(rt: HostRuntime) -> Result<(), Memory> {
         Some((&map, b"{\xff}\n")),
         &taken,
     )?;
-    assert!(rt; text.as_slice() == b"xesm-record 1\nbase https://a.test/\nentry https://a.test/main.js\nmap 4 https://a.test/map.json\n{\xff}\n\ntaken 2\nabsent https://a.test/main.js\nfailed https://a.test/b.js\nend\n".as_slice());
+    assert!(rt;
+        text.as_slice()
+            == b"xesm-record 1\nbase https://a.test/\nentry https://a.test/main.js\nmap 4 https://a.test/map.json\n{\xff}\n\ntaken 2\nabsent https://a.test/main.js\nfailed https://a.test/b.js\nend\n".as_slice()
+    );
     Ok(())
 }
 
@@ -39,6 +42,8 @@ fn nothing_given_and_nothing_taken(rt: HostRuntime) -> Result<(), Memory> {
     let mut text = Vec::new(alloc);
     let entry = Text::copy(alloc, "a:c")?;
     append_record(alloc, &mut text, "a:b", &entry, None, &[])?;
-    assert!(rt; text.as_slice() == b"esm-record 1\nbase a:b\nentry a:c\nmap none\ntaken 0\nend\n".as_slice());
+    assert!(rt;
+        text.as_slice() == b"esm-record 1\nbase a:b\nentry a:c\nmap none\ntaken 0\nend\n".as_slice()
+    );
     Ok(())
 }

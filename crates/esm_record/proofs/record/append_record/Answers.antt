@@ -1,4 +1,4 @@
-use Rattle.std.proofs.Common.{◌≡◌, ◌∙◌, ap, sym, ◌++◌, length, arith}
+use Rattle.std.proofs.Common.{◌≡◌, ◌∙◌, ap, sym, ◌++◌, length}
 use Rattle.std.proofs.lemmas.List.{length-map}
 use Rattle.std.specs.Prelude.{codes, option_map}
 use Rattle.esm_record.specs.Delivered.{delivery_of, deliveries_of, given_map}
@@ -22,9 +22,9 @@ returns c =
     let t5 = c.add_count.new.text.items in
     let t6 = c.add_deliveries.new.text.items in
     let named : t3 ≡ t2 ++ url_line (codes "entry") c.args.entry.now =
-        c.in_ok-add_line-2.ensures ∙ ap (λ url. t2 ++ url_line (codes "entry") url) c.as_str.ensures.value in
+    c.in_ok-add_line-2.ensures ∙ ap (λ url. t2 ++ url_line (codes "entry") url) c.as_str.ensures.value in
     let counted : t5 ≡ t4 ++ count_line (length (deliveries_of c.args.taken.now)) =
-        c.in_ok-add_count.ensures ∙ ap (λ n. t4 ++ count_line n) (sym (length-map c.args.taken.now delivery_of)) in
+    c.in_ok-add_count.ensures ∙ ap (λ n. t4 ++ count_line n) (sym (length-map c.args.taken.now delivery_of)) in
     let to_base : t2 ≡ old ++ base = both old first (url_line (codes "base") c.args.base.now) t1 t2 c.in_ok-extend_from_slice.ensures.items c.in_ok-add_line.ensures in
     let to_entry : t3 ≡ old ++ entry = both old base (url_line (codes "entry") c.args.entry.now) t2 t3 to_base named in
     let to_given : t4 ≡ old ++ given = both old entry (map_lines (option_map given_map c.args.map)) t3 t4 to_entry c.in_ok-add_map.ensures in

@@ -1,0 +1,12 @@
+//! Input that two numbers generate, and the summary of a run over it.
+#![tactic(auto)]
+
+pub mod laws;
+mod modules;
+mod summary;
+
+pub use modules::{BASE, ENTRY, entry_url, files};
+pub use summary::Summary;
+
+#[cfg(test)]
+mod tests;
