@@ -19,7 +19,7 @@ use Rattle.esm_world.specs.World.{World, modules_in}
 use Rattle.esm_world.specs.Layers as layers
 use Rattle.esm_world.specs.Fits.{IsLinkedModule, AreModules, IsKnownValue, FitsWorld, IsFit}
 use Rattle.esm_world.proofs.FitLoading.{relinked}
-use Rattle.esm_machine.specs.Seen.{names, modules, linked}
+use Rattle.esm_machine.specs.Seen.{HaveIds, names, modules, linked}
 use Rattle.esm_machine.specs.Held.{Held, StandsFor, world_of}
 use Rattle.esm_machine.specs.FitsById.{IsLinkedId, KnowsId, FitsById, WorldsFitById}
 use Rattle.esm_machine.proofs.HoldsBack.{rest_back}
