@@ -66,4 +66,4 @@ ending_parts maps entry trace ds what status front log both text last result run
     let parts = status_by (ending run.world) status (sym (ap (λ (s : Shown). s.status) run.shows) ∙ shows) in
     (ap (λ (s : Shown). s.ended) run.shows ∙ parts.0, shows,
     text_is ∙ ap (λ l. l ++ last_text last) both_is ∙ append_assoc front log (last_text last)
-    ∙ ap (λ l. front ++ l ++ last_text last) log_is ∙ ap (λ l. front ++ what.log ++ last_text l) last_is)
+    ∙ ap (λ l. front ++ (l ++ last_text last)) log_is ∙ ap (λ l. front ++ (what.log ++ last_text l)) last_is)

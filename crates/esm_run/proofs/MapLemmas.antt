@@ -13,7 +13,8 @@ use Rattle.esm_ports.specs.declared.asked.AskKind.{AskKind}
 use Rattle.esm_ports.specs.declared.asked.AskKind.TheVariants.{Body, Absent, Failed}
 use Rattle.esm_import_map.specs.ImportMap.{Maps, no_maps}
 use Rattle.esm_import_map.specs.Reading.{import_map_of, json_of, of_json}
-use Rattle.esm_run.specs.Inner.MapReading.{FetchesMap, GivesFrom}
+use Rattle.esm_run.specs.Inner.MapReading.{FetchesMap, GivesFrom, GivesMapOf, MayHaveAsked, bytes_of}
+use Rattle.esm_arguments.specs.declared.command.Command.{Command}
 use Rattle.esm_run.specs.declared.command_map.GivenMap.{GivenMap}
 use Rattle.esm_run.specs.declared.command_map.MapRefusal.{MapRefusal}
 use Rattle.esm_run.specs.CommandMap.{DeskChange, WasAsked, AreHeld, map_said, said_by, ReadsMap, NoFile, NoAnswer, Read, MapBy, HoldsMap, KnownBy, AreGiven}
@@ -103,4 +104,13 @@ given_known (Some url) desk base maps known =
     let answer = take MAX_BODY_BYTES known.held in
     let are : AreHeld desk.holds url answer = subst (λ holds. AreHeld holds url answer) (sym known.tells)
         (subst (λ found. IsSomeAnd found (λ held. answer ≡ take MAX_BODY_BYTES held)) (sym known.here) refl) in
-    (Some answer, answer, refl, are, held_bytes desk base url maps answer are known)
+    (Some answer, (answer, refl, are, held_bytes desk base url maps answer are known))
+
+-- the fetch of a map that was named gives the map of the command
+pub gives_map : (r : Result GivenMap (End MapRefusal)) (c : Command) (url : Url) (desk : DeskChange) → c.map ≡ Some url → FetchesMap r c.base url desk → GivesMapOf r c desk
+gives_map (Ok given) c url desk there f = (
+  subst (λ m. MapBy m c.base desk (Ok given.map)) (sym there) f.0,
+  subst (λ m. AreGiven m c.base desk given.map (bytes_of given)) (sym there) f.1,
+)
+gives_map (Err (ends.Fault refusal)) c url desk there f = subst (λ m. MapBy m c.base desk (Err refusal)) (sym there) f
+gives_map (Err ends.Memory) c url desk there f = subst (λ m. MayHaveAsked m desk) (sym there) f

@@ -5,7 +5,6 @@ use Rattle.esm_base.specs.declared.end.End.{End}
 use Rattle.esm_base.specs.declared.end.End.TheVariants.{Fault, Memory}
 use Rattle.esm_base.specs.Urls.{Url}
 use Rattle.esm_ports.specs.declared.asked.AskKind.TheVariants.{Body}
-use Rattle.esm_import_map.specs.ImportMap.{Maps}
 use Rattle.esm_arguments.specs.declared.command.Command.{Command}
 use Rattle.esm_run.specs.declared.command_map.GivenMap.{GivenMap}
 use Rattle.esm_run.specs.declared.command_map.MapRefusal.{MapRefusal}
