@@ -63,7 +63,9 @@ pub ending_parts : (maps : Maps) (entry : Url) (trace : Bool) (ds : List Deliver
     → (what.ended ≡ true) × (what.status ≡ Some status) × (text ≡ front ++ written_text what)
 ending_parts maps entry trace ds what status front log both text last result run is told log_is last_is both_is text_is =
     let shows : what.status ≡ Some status = sym told ∙ is in
-    let parts = status_by (ending run.world) status (sym (ap (λ (s : Shown). s.status) run.shows) ∙ shows) in
-    (ap (λ (s : Shown). s.ended) run.shows ∙ parts.0, shows,
-    text_is ∙ ap (λ l. l ++ last_text last) both_is ∙ append_assoc front log (last_text last)
-    ∙ ap (λ l. front ++ (l ++ last_text last)) log_is ∙ ap (λ l. front ++ (what.log ++ last_text l)) last_is)
+    let parts = status_by (ending run.world) status (sym (ap (λ (s : Shown). s.status) run.shows) ∙ shows) in (
+      ap (λ (s : Shown). s.ended) run.shows ∙ parts.0,
+      shows,
+      text_is ∙ ap (λ l. l ++ last_text last) both_is ∙ append_assoc front log (last_text last)
+          ∙ ap (λ l. front ++ (l ++ last_text last)) log_is ∙ ap (λ l. front ++ (what.log ++ last_text l)) last_is,
+    )

@@ -103,7 +103,7 @@ given_known None desk base maps known = (None, refl)
 given_known (Some url) desk base maps known =
     let answer = take MAX_BODY_BYTES known.held in
     let are : AreHeld desk.holds url answer = subst (λ holds. AreHeld holds url answer) (sym known.tells)
-        (subst (λ found. IsSomeAnd found (λ held. answer ≡ take MAX_BODY_BYTES held)) (sym known.here) refl) in
+    (subst (λ found. IsSomeAnd found (λ held. answer ≡ take MAX_BODY_BYTES held)) (sym known.here) refl) in
     (Some answer, (answer, refl, are, held_bytes desk base url maps answer are known))
 
 -- the fetch of a map that was named gives the map of the command

@@ -10,10 +10,7 @@ use esm_record::{Delivery, append_record};
 use std::alloc::Global;
 
 // The import map with its URL, where there is one.
-fn map_file<'a>(
-    url: &'a Option<Text>,
-    bytes: &'a Option<Vec<u8>>,
-) -> Option<(&'a Text, &'a [u8])>
+fn map_file<'a>(url: &'a Option<Text>, bytes: &'a Option<Vec<u8>>) -> Option<(&'a Text, &'a [u8])>
     ensures { option_map given_map result ≡ file_of url.now (items_of bytes.now) }
 {
     match url {

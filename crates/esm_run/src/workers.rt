@@ -202,7 +202,8 @@ fn with_workers<R: Threads + Wait + Sync, S: Source + Send>(
                         × IsShared S.holds S.asked (arc_value import_map) entry.entry.now trace (view_in result.caller.pass) result.machine (deliveries_of result.taken.items) result.sources.items }
                 {
                     with_workers(
-                        rt, alloc, modules, bell, import_map, entry, trace, caller, workers, sources,
+                        rt, alloc, modules, bell, import_map, entry, trace, caller, workers,
+                        sources,
                     )
                 },
             );

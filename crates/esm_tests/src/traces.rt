@@ -7,10 +7,7 @@ use esm_run::run;
 const SITE: &[(&str, &str)] = &[
     ("hi.js", "print(\"hi\")"),
     ("throws.js", "print(\"a\"); throw new Error(\"x\");"),
-    (
-        "awaits.js",
-        "print(\"a\"); await undefined; print(\"b\");",
-    ),
+    ("awaits.js", "print(\"a\"); await undefined; print(\"b\");"),
     ("two.js", "import \"./hi.js\"; print(\"two\");"),
     ("missing.js", "import \"./none.js\"; print(\"never\");"),
     (
