@@ -1,6 +1,7 @@
 -- What a machine may take, and how its run ends.
 use Rattle.std.proofs.Common.{Bool, ◌≡◌, ◌≢◌, ◌∙◌, ap, sym, subst, refl, ℕ, List, [], ◌++◌, true}
 use Rattle.std.specs.Prelude.{Option, Some, None, is_some, option_map, slice_get}
+use Rattle.std.proofs.lemmas.List.{append_assoc}
 use Rattle.esm_base.specs.declared.status.Status.{Status}
 use Rattle.esm_base.specs.declared.status.Status.TheVariants as statuses
 use Rattle.esm_base.specs.Urls.{Url, has}
@@ -57,10 +58,14 @@ status_by (Some (Uncaught v)) s is = (refl, λ e. cc, λ e. cc)
 status_by (Some Done) s is = (refl, λ e. cc, λ e. cc)
 status_by (Some Pending) s is = (refl, λ e. cc, λ e. cc)
 
-pub ending_parts : (maps : Maps) (entry : Url) (trace : Bool) (ds : List Delivery) (what : Shown) (status : Status) (log text : List ℕ) (last : List ℕ) (result : Option Status)
-    → StandardRun maps every_form entry trace ds what → result ≡ Some status → result ≡ what.status → log ≡ what.log → last ≡ what.last_line → text ≡ log ++ last_text last
-    → (what.ended ≡ true) × (what.status ≡ Some status) × (text ≡ written_text what)
-ending_parts maps entry trace ds what status log text last result run is told log_is last_is text_is =
+pub ending_parts : (maps : Maps) (entry : Url) (trace : Bool) (ds : List Delivery) (what : Shown) (status : Status) (front log both text : List ℕ) (last : List ℕ) (result : Option Status)
+    → StandardRun maps every_form entry trace ds what → result ≡ Some status → result ≡ what.status → log ≡ what.log → last ≡ what.last_line → both ≡ front ++ log → text ≡ both ++ last_text last
+    → (what.ended ≡ true) × (what.status ≡ Some status) × (text ≡ front ++ written_text what)
+ending_parts maps entry trace ds what status front log both text last result run is told log_is last_is both_is text_is =
     let shows : what.status ≡ Some status = sym told ∙ is in
-    let parts = status_by (ending run.world) status (sym (ap (λ (s : Shown). s.status) run.shows) ∙ shows) in
-    (ap (λ (s : Shown). s.ended) run.shows ∙ parts.0, shows, text_is ∙ ap (λ l. l ++ last_text last) log_is ∙ ap (λ l. what.log ++ last_text l) last_is)
+    let parts = status_by (ending run.world) status (sym (ap (λ (s : Shown). s.status) run.shows) ∙ shows) in (
+      ap (λ (s : Shown). s.ended) run.shows ∙ parts.0,
+      shows,
+      text_is ∙ ap (λ l. l ++ last_text last) both_is ∙ append_assoc front log (last_text last)
+          ∙ ap (λ l. front ++ (l ++ last_text last)) log_is ∙ ap (λ l. front ++ (what.log ++ last_text l)) last_is,
+    )

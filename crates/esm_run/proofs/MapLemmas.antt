@@ -8,15 +8,16 @@ use Rattle.esm_base.specs.Urls.{Url}
 use Rattle.esm_base.specs.declared.limits.TheConstants.{MAX_BODY_BYTES, MAX_FILE_BYTES}
 use Rattle.esm_base.specs.declared.end.End.{End}
 use Rattle.esm_base.specs.declared.end.End.TheVariants as ends
-use Rattle.esm_base.specs.Ends.{Gives}
 use Rattle.esm_ports.specs.declared.asked.Asked.{Asked}
 use Rattle.esm_ports.specs.declared.asked.AskKind.{AskKind}
 use Rattle.esm_ports.specs.declared.asked.AskKind.TheVariants.{Body, Absent, Failed}
 use Rattle.esm_import_map.specs.ImportMap.{Maps, no_maps}
 use Rattle.esm_import_map.specs.Reading.{import_map_of, json_of, of_json}
-use Rattle.esm_run.specs.Inner.MapReading.{FetchesMap}
+use Rattle.esm_run.specs.Inner.MapReading.{FetchesMap, GivesFrom, GivesMapOf, MayHaveAsked, bytes_of}
+use Rattle.esm_arguments.specs.declared.command.Command.{Command}
+use Rattle.esm_run.specs.declared.command_map.GivenMap.{GivenMap}
 use Rattle.esm_run.specs.declared.command_map.MapRefusal.{MapRefusal}
-use Rattle.esm_run.specs.CommandMap.{DeskChange, WasAsked, AreHeld, map_said, said_by, ReadsMap, NoFile, NoAnswer, Read, MapBy, HoldsMap, KnownBy}
+use Rattle.esm_run.specs.CommandMap.{DeskChange, WasAsked, AreHeld, map_said, said_by, ReadsMap, NoFile, NoAnswer, Read, MapBy, HoldsMap, KnownBy, AreGiven}
 
 nat_le-true : (a b : ℕ) → nat_le a b ≡ true → a ≤ b
 nat_le-true a b h = grind (arith, nat_tests)
@@ -86,12 +87,30 @@ pub refused_map : (map : Option Url) (url : Url) (desk : DeskChange) (base : Par
 refused_map map url desk base refusal there came = subst (λ m. MapBy m base desk (Err refusal)) there came
 
 -- what was read of the body that the desk answered
-pub comes_read : (r : Result Maps (End MapRefusal)) (desk : DeskChange) (base : Parts) (url : Url) (bytes : List ℕ) → WasAsked desk url Body → AreHeld desk.holds url bytes
-    → Gives r (map_said bytes base) → FetchesMap r base url desk
-comes_read (Ok maps) desk base url bytes asked held gives = Read bytes asked held (sym gives)
+pub comes_read : (r : Result GivenMap (End MapRefusal)) (desk : DeskChange) (base : Parts) (url : Url) (bytes : List ℕ) → WasAsked desk url Body → AreHeld desk.holds url bytes
+    → GivesFrom r bytes base → FetchesMap r base url desk
+comes_read (Ok given) desk base url bytes asked held gives = (Read bytes asked held (sym gives.0), (bytes, gives.1, held, gives.0))
 comes_read (Err (ends.Fault refusal)) desk base url bytes asked held gives = Read bytes asked held (sym gives)
 comes_read (Err ends.Memory) desk base url bytes asked held gives = inr asked
 
-pub comes_at : (r : Result Maps (End MapRefusal)) (desk : DeskChange) (base : Parts) (asked_url url : Url) (bytes : List ℕ) → asked_url ≡ url → WasAsked desk asked_url Body
-    → AreHeld desk.holds asked_url bytes → Gives r (map_said bytes base) → FetchesMap r base url desk
+pub comes_at : (r : Result GivenMap (End MapRefusal)) (desk : DeskChange) (base : Parts) (asked_url url : Url) (bytes : List ℕ) → asked_url ≡ url → WasAsked desk asked_url Body
+    → AreHeld desk.holds asked_url bytes → GivesFrom r bytes base → FetchesMap r base url desk
 comes_at r desk base asked_url url bytes same asked held gives = subst (λ u. FetchesMap r base u desk) same (comes_read r desk base asked_url bytes asked held gives)
+
+-- of a known map there are bytes that the desk answered
+pub given_known : (map : Option Url) (desk : DeskChange) (base : Parts) (maps : Maps) → KnownBy map base desk maps → (bytes : Option (List ℕ)) × AreGiven map base desk maps bytes
+given_known None desk base maps known = (None, refl)
+given_known (Some url) desk base maps known =
+    let answer = take MAX_BODY_BYTES known.held in
+    let are : AreHeld desk.holds url answer = subst (λ holds. AreHeld holds url answer) (sym known.tells)
+    (subst (λ found. IsSomeAnd found (λ held. answer ≡ take MAX_BODY_BYTES held)) (sym known.here) refl) in
+    (Some answer, (answer, refl, are, held_bytes desk base url maps answer are known))
+
+-- the fetch of a map that was named gives the map of the command
+pub gives_map : (r : Result GivenMap (End MapRefusal)) (c : Command) (url : Url) (desk : DeskChange) → c.map ≡ Some url → FetchesMap r c.base url desk → GivesMapOf r c desk
+gives_map (Ok given) c url desk there f = (
+  subst (λ m. MapBy m c.base desk (Ok given.map)) (sym there) f.0,
+  subst (λ m. AreGiven m c.base desk given.map (bytes_of given)) (sym there) f.1,
+)
+gives_map (Err (ends.Fault refusal)) c url desk there f = subst (λ m. MapBy m c.base desk (Err refusal)) (sym there) f
+gives_map (Err ends.Memory) c url desk there f = subst (λ m. MayHaveAsked m desk) (sym there) f

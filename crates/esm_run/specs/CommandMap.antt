@@ -11,7 +11,7 @@ use Rattle.esm_import_map.specs.declared.fault.MapFault.{MapFault}
 use Rattle.esm_import_map.specs.declared.fault.MapFault.TheVariants.{M1, M2, M3, M4}
 use Rattle.esm_import_map.specs.ImportMap.{Maps, no_maps}
 use Rattle.esm_import_map.specs.Reading.{import_map_of}
-use Rattle.esm_run.specs.declared.arguments.Command.{Command}
+use Rattle.esm_arguments.specs.declared.command.Command.{Command}
 use Rattle.esm_run.specs.declared.command_map.MapRefusal.{MapRefusal}
 use Rattle.esm_run.specs.declared.command_map.MapRefusal.TheVariants.{NotFetched, NotRead}
 use Rattle.esm_fetch.specs.Answered.{Contents}
@@ -88,6 +88,12 @@ KnownBy (Some url) base desk maps = HoldsMap desk base url maps
 
 abbrev pub KnownMap : Command → DeskChange → Maps → Type 0
 KnownMap command desk maps = KnownBy command.map command.base desk maps
+
+-- the bytes of the import map, as the desk answered them, which say these maps; none without `--map`
+abbrev pub AreGiven : Option Url → Parts → DeskChange → Maps → Option (List ℕ) → Type 0
+AreGiven None base desk maps bytes = bytes ≡ None
+AreGiven (Some url) base desk maps bytes =
+    (answer : List ℕ) × (bytes ≡ Some answer) × AreHeld desk.holds url answer × (map_said answer base ≡ Ok maps)
 
 -- ---- what is written where there is no map
 

@@ -1,19 +1,10 @@
 -- What a run took, and what the sources were asked.
 use Rattle.std.specs.Prelude.{◌≡◌, ◌≢◌, ℕ, List, map, Option, IfSome, drop, Any, All, AllPairs, Contains, flat_map, true}
 use Rattle.esm_ports.specs.declared.asked.Asked.{Asked}
-use Rattle.esm_ast.specs.Outcome.{outcome_view}
 use Rattle.esm_base.specs.Urls.{has}
 use Rattle.esm_fetch.specs.Answered.{Contents, kind_of, IsToldOutcome}
 use Rattle.esm_world.specs.Run.{Shown}
-use Rattle.esm_ast.specs.Deliveries.{Delivery, completed}
-use Rattle.esm_run.specs.declared.report.Delivery as report
-
--- the delivery as the standard run takes it
-abbrev pub delivery_of : report.Delivery → Delivery
-delivery_of taken = completed taken.url (outcome_view taken.outcome)
-
-abbrev pub deliveries_of : List report.Delivery → List Delivery
-deliveries_of taken = map delivery_of taken
+use Rattle.esm_ast.specs.Deliveries.{Delivery}
 
 -- where the source tells what it holds, the delivery is of that
 abbrev pub IsTold : Option Contents → Delivery → Type 0

@@ -2,9 +2,9 @@
 ghost use Rattle.std.specs.Prelude.{◌≡◌, IfOk};
 ghost use Rattle.esm_base.specs.Ends.{Gives};
 ghost use Rattle.esm_run.specs.CommandMap as spec;
-ghost use Rattle.esm_run.specs.Inner.MapReading.{FetchesMap, GivesMapOf};
+ghost use Rattle.esm_run.specs.Inner.MapReading.{FetchesMap, GivesFrom, GivesMapOf};
 
-use crate::arguments::Command;
+use esm_arguments::Command;
 use esm_base::{End, Memory, Text};
 use esm_import_map::{ImportMap, MapFault};
 use esm_ports::{FetchEnd, Source};
@@ -20,6 +20,14 @@ pub(crate) enum MapRefusal {
     NotRead(MapFault),
 }
 
+/// The import map of a command.
+#[derive(Drop)]
+pub(crate) struct GivenMap {
+    pub map: ImportMap,
+    /// The bytes that the desk answered; none without `--map`.
+    pub bytes: Option<Vec<u8>>,
+}
+
 // Reads the bytes that the desk answered.
 fn read_map(alloc: Global, bytes: &[u8], base: &Url) -> Result<ImportMap, End<MapRefusal>>
     ensures { Gives result (spec.map_said bytes.now base.now) }
@@ -31,19 +39,33 @@ fn read_map(alloc: Global, bytes: &[u8], base: &Url) -> Result<ImportMap, End<Ma
     }
 }
 
+// The same, which keeps the bytes.
+fn given_map(alloc: Global, bytes: Vec<u8>, base: &Url) -> Result<GivenMap, End<MapRefusal>>
+    ensures { GivesFrom result bytes.items base.now }
+{
+    match read_map(alloc, &bytes, base) {
+        Ok(map) => Ok(GivenMap {
+            map,
+            bytes: Some(bytes),
+        }),
+        Err(End::Fault(refusal)) => Err(End::Fault(refusal)),
+        Err(End::Memory) => Err(End::Memory),
+    }
+}
+
 // Fetches the import map at a URL by one fetch, and reads it.
 fn fetch_map<S: Source>(
     alloc: Global,
     desk: &mut S,
     url: &Text,
     base: &Url,
-) -> Result<ImportMap, End<MapRefusal>>
+) -> Result<GivenMap, End<MapRefusal>>
     ensures comes { FetchesMap result base.now url.now
         (spec.desk_change S.asked S.holds desk.old desk.new) }
     ensures holds { S.holds desk.new ≡ S.holds desk.old }
 {
     match desk.fetch(alloc, url.as_str()) {
-        Ok(body) => read_map(alloc, &body, base),
+        Ok(body) => given_map(alloc, body, base),
         Err(FetchEnd::Absent) => Err(End::Fault(MapRefusal::NotFetched)),
         Err(FetchEnd::Failed) => Err(End::Fault(MapRefusal::NotFetched)),
         Err(FetchEnd::Memory) => Err(End::Memory),
@@ -51,19 +73,22 @@ fn fetch_map<S: Source>(
 }
 
 /// The import map of a command: without `--map` the empty one, else the one that the desk answers, which is asked
-/// once.
+/// once, with its bytes.
 pub(crate) fn map_of<S: Source>(
     alloc: Global,
     desk: &mut S,
     command: &Command,
-) -> Result<ImportMap, End<MapRefusal>>
+) -> Result<GivenMap, End<MapRefusal>>
     ensures comes { GivesMapOf result command.now
         (spec.desk_change S.asked S.holds desk.old desk.new) }
     ensures holds { S.holds desk.new ≡ S.holds desk.old }
 {
     match &command.map {
         Some(url) => fetch_map(alloc, desk, url, &command.base),
-        None => Ok(ImportMap::empty(alloc)),
+        None => Ok(GivenMap {
+            map: ImportMap::empty(alloc),
+            bytes: None,
+        }),
     }
 }
 

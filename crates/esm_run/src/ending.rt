@@ -32,11 +32,23 @@ fn with_last_line(text: Vec<u8>, line: &Text) -> Result<Vec<u8>, Memory>
     }
 }
 
-// The status and the text of a machine's run that has ended. The text is the machine's own log, with the last line
-// behind it.
-fn ending_of_run(machine: Machine) -> Result<Ending, Memory>
+// The log behind what is written before it: in its own memory, where that is nothing.
+fn with_front(front: Vec<u8>, log: Vec<u8>) -> Result<Vec<u8>, Memory>
+    ensures { IfOk result (λ whole. whole.items ≡ front.items ++ log.items) }
+{
+    if front.is_empty() {
+        return Ok(log);
+    }
+    let mut whole = front;
+    whole.extend_from_slice(&log)?;
+    Ok(whole)
+}
+
+// The status and the text of a machine's run that has ended. The text is the machine's log behind what is written before
+// it, with the last line behind it.
+fn ending_of_run(machine: Machine, front: Vec<u8>) -> Result<Ending, Memory>
     requires { is_some (ending_of (state_of machine)) ≡ true }
-    ensures what { ShownBy (state_of machine) (λ what. IfOk result (IsEndingOf what)) }
+    ensures what { ShownBy (state_of machine) (λ what. IfOk result (IsEndingOf front.items what)) }
     ensures not_write_fault { IfOk result (λ e. e.status ≢ statuses.WriteFault) }
     ensures not_memory { IfOk result (λ e. e.status ≢ statuses.Memory) }
 {
@@ -44,7 +56,8 @@ fn ending_of_run(machine: Machine) -> Result<Ending, Memory>
         unreachable!();
     };
     let last = machine.last_line()?;
-    let text = with_last_line(machine.into_log(), &last)?;
+    let log = with_front(front, machine.into_log())?;
+    let text = with_last_line(log, &last)?;
     Ok(Ending { status, text })
 }
 
@@ -64,26 +77,27 @@ pub(crate) fn finish<K: Sink>(out: &mut K, wanted: Status, text: &[u8]) -> Statu
 }
 
 // Writes the text of a machine's run that has ended, and gives the status that this comes to.
-fn write_ending<K: Sink>(machine: Machine, out: &mut K) -> Status
+fn write_ending<K: Sink>(machine: Machine, front: Vec<u8>, out: &mut K) -> Status
     requires ended { is_some (ending_of (state_of machine)) ≡ true }
     requires room { K.faults out.old < 2 ^ 64 - 1 }
     ensures { ShownBy (state_of machine)
-        (EndsAs result (change_of K.written K.faults out.old out.new)) }
+        (EndsAs result (change_of K.written K.faults out.old out.new) front.items) }
 {
-    let Ok(ending) = ending_of_run(machine) else {
+    let Ok(ending) = ending_of_run(machine, front) else {
         return Status::Memory;
     };
     finish(out, ending.status, &ending.text)
 }
 
-/// Ends a run: the text of the machine's run is written; nothing is where memory ran out and there is none.
-pub(crate) fn end_run<K: Sink>(machine: Option<Machine>, out: &mut K) -> Status
+/// Ends a run: the text of the machine's run is written, behind what comes before it; nothing is where memory ran out and
+/// there is none.
+pub(crate) fn end_run<K: Sink>(machine: Option<Machine>, front: Vec<u8>, out: &mut K) -> Status
     requires ended { IfSome machine (λ m. is_some (ending_of (state_of m)) ≡ true) }
     requires room { K.faults out.old < 2 ^ 64 - 1 }
-    ensures { EndsRun machine result (change_of K.written K.faults out.old out.new) }
+    ensures { EndsRun machine front.items result (change_of K.written K.faults out.old out.new) }
 {
     match machine {
-        Some(machine) => write_ending(machine, out),
+        Some(machine) => write_ending(machine, front, out),
         None => Status::Memory,
     }
 }

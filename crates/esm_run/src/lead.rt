@@ -1,5 +1,5 @@
 // The calling thread's part of a run: it asks the module map for what the machine asks for, and delivers what is posted.
-ghost use Rattle.std.specs.Prelude.{◌≡◌, ◌≤◌, ℕ, [], List, length, map, All, IfOk, OnOk, true, Bool, false};
+ghost use Rattle.std.specs.Prelude.{◌≡◌, ◌≤◌, ℕ, [], List, length, map, All, IfOk, OnOk, true, Bool};
 ghost use Rattle.std.specs.Vec.{vec_capacity};
 ghost use Rattle.std.specs.Arc.{arc_value};
 ghost use Rattle.esm_hlock.specs.Views.{HasAllMakers};
@@ -13,10 +13,9 @@ ghost use Rattle.esm_fetch.specs.Serving.{weight, Serves, Served, ServedBy};
 ghost use Rattle.esm_ast.specs.Outcome.{outcome_view};
 ghost use Rattle.esm_machine.specs.Machine.{state_of};
 ghost use Rattle.esm_machine.specs.Represents.{Represents, RepresentsOn, asks_of};
-ghost use Rattle.esm_run.specs.Taken.{deliveries_of};
+ghost use Rattle.esm_record.specs.Delivered.{deliveries_of};
 ghost use Rattle.esm_run.specs.Inner.Leading.{HasTicket, IsLed, IsNew, IsShared, Leads, LeadsOn};
 
-use crate::report::Delivery;
 use crate::tickets::{Queue, Ticket, ask_open, choose, hear};
 use esm_ast::Outcome;
 use esm_base::{Memory, Text};
@@ -25,16 +24,22 @@ use esm_import_map::ImportMap;
 use esm_machine::{Machine, TurnEnd};
 use esm_module_map::{Caller, ModuleMap, laws as map_laws};
 use esm_ports::Source;
+use esm_record::Delivery;
 use esm_world::laws;
 use std::alloc::Global;
 use std::sync::{Arc, Wait};
 
 // A machine under this import map that has asked for the entry.
-fn start(alloc: Global, map: Arc<ImportMap, Global>, entry: &Text) -> Result<Machine, Memory>
+fn start(
+    alloc: Global,
+    map: Arc<ImportMap, Global>,
+    entry: &Text,
+    trace: bool,
+) -> Result<Machine, Memory>
     requires { is_usable entry.now ≡ true }
-    ensures { IfOk result (λ m. Represents (arc_value map) entry.now false (state_of m) []) }
+    ensures { IfOk result (λ m. Represents (arc_value map) entry.now trace (state_of m) []) }
 {
-    Machine::new(alloc, map, entry.clone()?, false)
+    Machine::new(alloc, map, entry.clone()?, trace)
 }
 
 // Delivers one completed fetch to the machine. A limit that is reached stops the machine and is no error here.
@@ -210,6 +215,7 @@ fn drive<R: Wait, S: Source>(
     bell: &Bell,
     map: Arc<ImportMap, Global>,
     entry: &Text,
+    trace: bool,
     caller: &mut Caller<Posted>,
     source: &mut S,
     taken: &mut Vec<Delivery>,
@@ -228,10 +234,10 @@ fn drive<R: Wait, S: Source>(
     ensures holds { S.holds source.new ≡ S.holds source.old }
     ensures served { Served (S.holds source.old) (S.asked source.new) caller.old.number
         (view_in caller.new.pass).seen }
-    ensures ends { Leads (arc_value map) entry.now false result caller.old.number
+    ensures ends { Leads (arc_value map) entry.now trace result caller.old.number
         (view_in caller.new.pass).seen (deliveries_of taken.new.items) }
 {
-    let Ok(mut machine) = start(alloc, map, entry) else {
+    let Ok(mut machine) = start(alloc, map, entry, trace) else {
         return Err(Memory);
     };
     let mut queue = Queue::new(alloc);
@@ -273,6 +279,7 @@ pub(crate) fn lead<R: Wait, S: Source>(
     bell: &Bell,
     import_map: Arc<ImportMap, Global>,
     entry: &Text,
+    trace: bool,
     caller: Caller<Posted>,
     sources: Vec<S>,
 ) -> Led<S>
@@ -289,7 +296,7 @@ pub(crate) fn lead<R: Wait, S: Source>(
     ensures makers { HasAllMakers maker_of (view_in result.caller.pass) }
     ensures kept { map S.holds result.sources.items ≡ map S.holds sources.items }
     ensures room { vec_capacity result.sources ≡ vec_capacity sources }
-    ensures led { IsShared S.holds S.asked (arc_value import_map) entry.now false
+    ensures led { IsShared S.holds S.asked (arc_value import_map) entry.now trace
         (view_in result.caller.pass) result.machine (deliveries_of result.taken.items) result.sources.items }
 {
     map_laws::urls_stay::<Posted>();
@@ -304,6 +311,7 @@ pub(crate) fn lead<R: Wait, S: Source>(
         bell,
         import_map,
         entry,
+        trace,
         &mut caller,
         &mut sources[0],
         &mut taken,

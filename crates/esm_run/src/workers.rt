@@ -1,5 +1,5 @@
 // A run over the sources: the calling thread has the first, and each other is asked by a worker in a thread of its own.
-ghost use Rattle.std.specs.Prelude.{◌≡◌, ◌≤◌, ◌<◌, ◌+◌, ◌-◌, ◌∷◌, ◌++◌, ℕ, [], List, length, map, cond, All, IfOk, OnOk, None, true, vec_len, Bool, false};
+ghost use Rattle.std.specs.Prelude.{◌≡◌, ◌≤◌, ◌<◌, ◌+◌, ◌-◌, ◌∷◌, ◌++◌, ℕ, [], List, length, map, cond, All, IfOk, OnOk, None, true, vec_len, Bool};
 ghost use Rattle.std.specs.Arc.{arc_value};
 ghost use Rattle.std.specs.Vec.{vec_capacity};
 ghost use Rattle.std.specs.Thread.{IsSync};
@@ -11,12 +11,11 @@ ghost use Rattle.esm_module_map.specs.Replay.{maker_of};
 ghost use Rattle.esm_module_map.specs.Histories.{asks_by};
 ghost use Rattle.esm_module_map.specs.Views.{view_in, table_of, Same};
 ghost use Rattle.esm_fetch.specs.Serving.{weight, Serves, ServedIf};
-ghost use Rattle.esm_run.specs.Taken.{deliveries_of};
+ghost use Rattle.esm_record.specs.Delivered.{deliveries_of};
 ghost use Rattle.esm_run.specs.Inner.Leading.{IsNew, IsShared};
 ghost use Rattle.esm_run.specs.Report.{IsGraphRun};
 
 use crate::lead::{Led, lead};
-use crate::report::Delivery;
 use esm_base::{Memory, Text};
 use esm_fetch::{Bell, Posted, WorkerEnd, worker};
 use esm_hlock::Pass;
@@ -24,6 +23,7 @@ use esm_import_map::ImportMap;
 use esm_machine::Machine;
 use esm_module_map::{Caller, MapState, ModuleMap, laws as map_laws};
 use esm_ports::Source;
+use esm_record::Delivery;
 use esm_world::laws;
 use std::alloc::Global;
 use std::marker::{Send, Sync};
@@ -135,6 +135,7 @@ fn with_workers<R: Threads + Wait + Sync, S: Source + Send>(
     bell: &Bell,
     import_map: Arc<ImportMap, Global>,
     entry: &Text,
+    trace: bool,
     caller: Caller<Posted>,
     workers: Vec<Caller<Posted>>,
     sources: Vec<S>,
@@ -155,13 +156,15 @@ fn with_workers<R: Threads + Wait + Sync, S: Source + Send>(
     ensures makers { HasAllMakers maker_of (view_in result.caller.pass) }
     ensures kept { map S.holds result.sources.items ≡ map S.holds sources.items }
     ensures room { vec_capacity result.sources ≡ vec_capacity sources }
-    ensures led { IsShared S.holds S.asked (arc_value import_map) entry.now false
+    ensures led { IsShared S.holds S.asked (arc_value import_map) entry.now trace
         (view_in result.caller.pass) result.machine (deliveries_of result.taken.items) result.sources.items }
 {
     let mut workers = workers;
     let mut sources = sources;
     match workers.pop() {
-        None => lead(rt, alloc, modules, bell, import_map, entry, caller, sources),
+        None => lead(
+            rt, alloc, modules, bell, import_map, entry, trace, caller, sources,
+        ),
         Some(mine) => {
             let Some(source) = sources.pop() else {
                 unreachable!()
@@ -196,10 +199,11 @@ fn with_workers<R: Threads + Wait + Sync, S: Source + Send>(
                         × ((view_in result.caller.pass).shares ≡ (view_in caller.pass).shares + length workers.items)
                         × (map S.holds result.sources.items ≡ map S.holds sources.items)
                         × (vec_capacity result.sources ≡ vec_capacity sources)
-                        × IsShared S.holds S.asked (arc_value import_map) entry.entry.now false (view_in result.caller.pass) result.machine (deliveries_of result.taken.items) result.sources.items }
+                        × IsShared S.holds S.asked (arc_value import_map) entry.entry.now trace (view_in result.caller.pass) result.machine (deliveries_of result.taken.items) result.sources.items }
                 {
                     with_workers(
-                        rt, alloc, modules, bell, import_map, entry, caller, workers, sources,
+                        rt, alloc, modules, bell, import_map, entry, trace, caller, workers,
+                        sources,
                     )
                 },
             );
@@ -321,6 +325,7 @@ pub(crate) fn run_graph<R: Threads + Wait + Sync, S: Source + Send>(
     alloc: Global,
     map: ImportMap,
     entry: &Text,
+    trace: bool,
     workers: usize,
     sources: Vec<S>,
 ) -> GraphEnd<S>
@@ -328,7 +333,7 @@ pub(crate) fn run_graph<R: Threads + Wait + Sync, S: Source + Send>(
     requires some { 0 < workers }
     requires few { (workers ≤ 16) × (workers ≤ vec_len sources) }
     requires fresh { All (λ s. S.asked s ≡ []) sources.items }
-    ensures { IsGraphRun S.asked S.holds map entry.now false workers result.machine
+    ensures { IsGraphRun S.asked S.holds map entry.now trace workers result.machine
         (deliveries_of result.taken.items) sources.items result.sources.items }
 {
     map_laws::callers::<Posted>();
@@ -350,7 +355,7 @@ pub(crate) fn run_graph<R: Threads + Wait + Sync, S: Source + Send>(
     } = ready;
     let bell = Bell::new();
     let led = with_workers(
-        rt, alloc, &modules, &bell, map, entry, caller, callers, sources,
+        rt, alloc, &modules, &bell, map, entry, trace, caller, callers, sources,
     );
     let Led {
         machine,

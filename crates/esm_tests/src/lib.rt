@@ -25,6 +25,8 @@ mod names;
 #[cfg(test)]
 mod orders;
 #[cfg(test)]
+mod records;
+#[cfg(test)]
 mod runs;
 #[cfg(test)]
 mod shop;
@@ -32,6 +34,8 @@ mod shop;
 mod sites;
 #[cfg(test)]
 mod steps;
+#[cfg(test)]
+mod traces;
 #[cfg(test)]
 mod values;
 #[cfg(test)]

@@ -5,7 +5,7 @@ use Rattle.esm_module_map.specs.Views.{view_in}
 use Rattle.esm_module_map.specs.Saying.{Stays}
 use Rattle.esm_module_map.specs.Histories.{asks_by}
 use Rattle.esm_fetch.specs.Serving.{weight, Serves, ServedBy}
-use Rattle.esm_run.specs.Taken.{deliveries_of}
+use Rattle.esm_record.specs.Delivered.{deliveries_of}
 use Rattle.esm_run.specs.Inner.Leading.{HasTicket, IsLed, LeadsOn}
 use Rattle.esm_run.proofs.SharedLemmas.{serves_same}
 use Rattle.esm_run.proofs.LeadLemmas.{begins_on, tickets_stay, led_stays, short_of, asks_same, served_by_any, leads_on_same, on_ok, tickets_left}

@@ -5,7 +5,7 @@ use Rattle.std.proofs.lemmas.List.{map-append}
 use Rattle.esm_ast.specs.Outcome.{outcome_view}
 use Rattle.esm_module_map.specs.Views.{view_in}
 use Rattle.esm_module_map.specs.Histories.{IsPostIn}
-use Rattle.esm_run.specs.Taken.{deliveries_of, delivery_of}
+use Rattle.esm_record.specs.Delivered.{deliveries_of, delivery_of}
 use Rattle.esm_run.proofs.LeadLemmas.{begins_same, led_short, led_more}
 use Rattle.esm_run.proofs.lead.deliver.Goals as goal
 

@@ -1,9 +1,9 @@
-use Rattle.std.proofs.Common.{false, ◌≡◌, ◌≤◌, ◌∙◌, ap, sym, subst, refl, ℕ, inl, arith, length, []}
+use Rattle.std.proofs.Common.{◌≡◌, ◌≤◌, ◌∙◌, ap, sym, subst, refl, ℕ, inl, arith, length, []}
 use Rattle.std.specs.Prelude.{All}
 use Rattle.std.specs.Arc.{arc_value}
 use Rattle.std.proofs.lemmas.List.Elements.{All-nil}
 use Rattle.esm_module_map.specs.Views.{view_in}
-use Rattle.esm_run.specs.Taken.{deliveries_of}
+use Rattle.esm_record.specs.Delivered.{deliveries_of}
 use Rattle.esm_run.specs.Inner.Leading.{HasTicket, IsLed, IsLedShort}
 use Rattle.esm_run.proofs.LeadLemmas.{led_new, short_new, short_of, serves_next, served_next}
 use Rattle.esm_run.proofs.lead.drive.Goals as goal
@@ -39,8 +39,8 @@ loop-preserved g c =
       served = serves_next (g.S.Source.holds c.loop.source) (g.S.Source.holds c.advance.new.source) (g.S.Source.asked c.advance.new.source) c.loop.caller.number c.advance.new.caller.number new c.advance.ensures.holds c.advance.ensures.same.1 c.in-Ok-advance.ensures.served;
       tickets = c.in-Ok-advance.ensures.tickets;
       window = c.advance.ensures.window inv.window;
-      led = subst (λ m. IsLed M E false m new c.advance.new.machine (deliveries_of c.advance.new.taken.items)) inv.number
-          (c.in-Ok-advance.ensures.led M E false (subst (λ m. IsLed M E false m old c.loop.machine (deliveries_of c.loop.taken.items)) (sym inv.number) inv.led));
+      led = subst (λ m. IsLed M E c.args.trace m new c.advance.new.machine (deliveries_of c.advance.new.taken.items)) inv.number
+          (c.in-Ok-advance.ensures.led M E c.args.trace (subst (λ m. IsLed M E c.args.trace m old c.loop.machine (deliveries_of c.loop.taken.items)) (sym inv.number) inv.led));
     }
 
 pub returns-then-has_no_ask-clause-served : goal.returns-then-has_no_ask-clause-served
@@ -59,5 +59,5 @@ returns-in_default-advance-clause-ends g c =
     let inv = c.loop.invariant in
     let M = arc_value c.args.map in let E = c.args.entry.now in
     let old = (view_in c.loop.caller.pass).seen in let new = (view_in c.advance.new.caller.pass).seen in
-    subst (λ m. IsLedShort M E false m new (deliveries_of c.advance.new.taken.items)) inv.number
-    (c.in_default-advance.ensures.led M E false (subst (λ m. IsLed M E false m old c.loop.machine (deliveries_of c.loop.taken.items)) (sym inv.number) inv.led))
+    subst (λ m. IsLedShort M E c.args.trace m new (deliveries_of c.advance.new.taken.items)) inv.number
+    (c.in_default-advance.ensures.led M E c.args.trace (subst (λ m. IsLed M E c.args.trace m old c.loop.machine (deliveries_of c.loop.taken.items)) (sym inv.number) inv.led))

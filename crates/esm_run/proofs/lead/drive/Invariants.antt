@@ -1,9 +1,9 @@
-use Rattle.std.proofs.Common.{false, ◌≡◌, ◌≤◌, length}
+use Rattle.std.proofs.Common.{◌≡◌, ◌≤◌, length}
 use Rattle.std.specs.Prelude.{All}
 use Rattle.std.specs.Arc.{arc_value}
 use Rattle.esm_module_map.specs.Views.{view_in, table_of, Same}
 use Rattle.esm_fetch.specs.Serving.{Serves}
-use Rattle.esm_run.specs.Taken.{deliveries_of}
+use Rattle.esm_record.specs.Delivered.{deliveries_of}
 use Rattle.esm_run.specs.Inner.Leading.{HasTicket, IsLed}
 use Rattle.esm_run.proofs.lead.drive.Given as goal
 
@@ -16,5 +16,5 @@ invariant-loop g l = record {
   served : Serves (g.S.Source.holds l.source) (g.S.Source.asked l.source) l.caller.number (view_in l.caller.pass).seen;
   tickets : All (HasTicket (view_in l.caller.pass).seen) l.queue.tickets.items;
   window : length l.queue.tickets.items ≤ 32;
-  led : IsLed (arc_value l.fn.map) l.entry false l.initial.caller.number (view_in l.caller.pass).seen l.machine (deliveries_of l.taken.items);
+  led : IsLed (arc_value l.fn.map) l.entry l.trace l.initial.caller.number (view_in l.caller.pass).seen l.machine (deliveries_of l.taken.items);
 }

@@ -1,4 +1,4 @@
-use Rattle.std.proofs.Common.{false, subst}
+use Rattle.std.proofs.Common.{subst}
 use Rattle.std.specs.Prelude.{IfOk, []}
 use Rattle.std.specs.Arc.{arc_value}
 use Rattle.esm_machine.specs.Machine.{state_of}
@@ -6,4 +6,4 @@ use Rattle.esm_machine.specs.Represents.{Represents}
 use Rattle.esm_run.proofs.lead.start.Goals as goal
 
 pub returns : goal.returns
-returns c = subst (λ url. IfOk c.new.result (λ m. Represents (arc_value c.args.map) url false (state_of m) [])) c.in_ok-clone.ensures c.new.ensures.represents
+returns c = subst (λ url. IfOk c.new.result (λ m. Represents (arc_value c.args.map) url c.args.trace (state_of m) [])) c.in_ok-clone.ensures c.new.ensures.represents

@@ -1,9 +1,9 @@
-use Rattle.std.proofs.Common.{false, ◌≡◌, ◌∙◌, ap, sym, subst, arith, length, drop, ◌++◌, []}
+use Rattle.std.proofs.Common.{◌≡◌, ◌∙◌, ap, sym, subst, arith, length, drop, ◌++◌, []}
 use Rattle.std.specs.Prelude.{All}
 use Rattle.std.proofs.lemmas.List.{length-map, take-append-drop}
 use Rattle.std.proofs.lemmas.List.Elements.{All-take, All-drop}
 use Rattle.esm_module_map.specs.Views.{view_in}
-use Rattle.esm_run.specs.Taken.{deliveries_of}
+use Rattle.esm_record.specs.Delivered.{deliveries_of}
 use Rattle.esm_run.specs.Inner.Leading.{IsShared}
 use Rattle.esm_run.proofs.ReportLemmas.{graph_none, graph_of}
 use Rattle.esm_run.proofs.workers.run_graph.Goals as goal
@@ -28,10 +28,10 @@ returns g c =
     let shares : v.shares ≡ 1024 = (let a = c.with_workers-led.ensures.shares in let b = c.in-Ok.ensures.shares in let d = c.in-Ok.ensures.many in omega (arith, a, b, d)) in
     let many : length c.split_off.new.self.items ≡ c.args.workers = (let a = cut.ensures.len in let b = c.split_off.new.self.ok.0 in omega (arith, a, b)) in
     let given : c.args.sources.items ≡ c.split_off.new.self.items ++ cut.rest.items = sym (take-append-drop c.args.workers c.args.sources.items) ∙ ap (λ l. l ++ drop c.args.workers c.args.sources.items) (sym cut.ensures.items) ∙ ap (λ l. c.split_off.new.self.items ++ l) (sym cut.ensures.tail) in
-    graph_of g.S.Source.asked g.S.Source.holds c.has_standard_run.ensures c.deliveries.ensures.once c.callers.ensures.posts c.callers.ensures.takes c.callers.ensures.once c.args.map c.args.entry.now false c.args.workers v led.machine (deliveries_of led.taken.items)
+    graph_of g.S.Source.asked g.S.Source.holds c.has_standard_run.ensures c.deliveries.ensures.once c.callers.ensures.posts c.callers.ensures.takes c.callers.ensures.once c.args.map c.args.entry.now c.args.trace c.args.workers v led.machine (deliveries_of led.taken.items)
     c.split_off.new.self.items cut.rest.items led.sources.items c.args.sources.items c.append.new.self.items
     led.caller.legal shares c.with_workers-led.ensures.makers
-    (subst (λ m. IsShared g.S.Source.holds g.S.Source.asked m c.args.entry.now false v led.machine (deliveries_of led.taken.items) led.sources.items) c.in-Ok.ensures.map c.with_workers-led.ensures.led)
+    (subst (λ m. IsShared g.S.Source.holds g.S.Source.asked m c.args.entry.now c.args.trace v led.machine (deliveries_of led.taken.items) led.sources.items) c.in-Ok.ensures.map c.with_workers-led.ensures.led)
     given (rw c.in-Ok-append.is at c.append.ensures.items) many
     (subst (All (λ s. g.S.Source.asked s ≡ [])) (sym cut.ensures.tail) (All-drop (λ s. g.S.Source.asked s ≡ []) c.args.workers c.args.sources.items c.requires.fresh))
     c.with_workers-led.ensures.kept

@@ -1,0 +1,4 @@
+pub mod Numbers
+pub mod Said
+pub mod Commands
+pub mod Inner
