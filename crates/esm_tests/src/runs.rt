@@ -6,6 +6,10 @@ use esm_ast::Outcome;
 use esm_base::{Memory, Status};
 use esm_ports::{MemSink, Source, SureSink, SureSource};
 use esm_run::run;
+use std::alloc::Global;
+use std::marker::Sync;
+use std::sync::Wait;
+use std::thread::Threads;
 
 const USAGE: &str = "esm: these words are no command\n";
 
@@ -18,85 +22,153 @@ const EARLY_ERROR: &str = "Uncaught SyntaxError: https://a.test/main.js: P3 earl
 const NOT_MAPPED: &str =
     "Uncaught TypeError: https://a.test/main.js: specifier react: S4 bare and not mapped\n";
 
+/// A text of the entry, and what a run of it comes to.
+struct Entry {
+    /// What it shows.
+    name: &'static str,
+    /// The text; none where no file is there.
+    body: Option<&'static str>,
+    /// What is written.
+    output: &'static str,
+    /// The status.
+    status: Status,
+}
+
+const PRINTS: &[Entry] = &[
+    Entry {
+        name: "the empty text",
+        body: Some(""),
+        output: "",
+        status: Status::Fulfilled,
+    },
+    Entry {
+        name: "one print",
+        body: Some("print(\"hi\")"),
+        output: "hi\n",
+        status: Status::Fulfilled,
+    },
+    Entry {
+        name: "prints with and without semicolons",
+        body: Some("print(\"a\");\nprint(\"\")\nprint(\"b c\");print(\"d\")\n"),
+        output: "a\n\nb c\nd\n",
+        status: Status::Fulfilled,
+    },
+    Entry {
+        name: "comments and escapes",
+        body: Some("\n/* é */;print('a\\u00e9',)\r\n;// b\nprint(\"\\x62\")"),
+        output: "aé\nb\n",
+        status: Status::Fulfilled,
+    },
+    Entry {
+        name: "a declaration",
+        body: Some("const a = \"x\";"),
+        output: "",
+        status: Status::Fulfilled,
+    },
+];
+
+const REFUSED: &[Entry] = &[
+    Entry {
+        name: "no file",
+        body: None,
+        output: CANNOT_FETCH,
+        status: Status::EntryFailed,
+    },
+    Entry {
+        name: "two texts side by side",
+        body: Some("print(\"a\" \"b\")"),
+        output: NO_MODULE,
+        status: Status::EntryFailed,
+    },
+    Entry {
+        name: "two statements side by side",
+        body: Some("print(\"a\")print(\"b\")"),
+        output: NO_MODULE,
+        status: Status::EntryFailed,
+    },
+    Entry {
+        name: "a text that is cut short",
+        body: Some("import {a} from \"./a"),
+        output: NO_MODULE,
+        status: Status::EntryFailed,
+    },
+    Entry {
+        name: "a name that is declared twice",
+        body: Some("let a; let a;"),
+        output: EARLY_ERROR,
+        status: Status::EntryFailed,
+    },
+    Entry {
+        name: "a bare specifier",
+        body: Some("import \"react\"; import {} from \"./a.js\";"),
+        output: NOT_MAPPED,
+        status: Status::EntryFailed,
+    },
+];
+
+// Whether a run by these words, of an entry with this text, writes this and ends so.
+fn is_written<R: Threads + Wait + Sync>(
+    rt: &R,
+    alloc: Global,
+    line: &str,
+    body: Option<&str>,
+    output: &str,
+    status: Status,
+) -> Result<bool, Memory> {
+    let words = words(alloc, line)?;
+    let mut desk = sure(alloc, None)?;
+    let mut sources = Vec::new(alloc);
+    let bytes = match body {
+        Some(body) => Some(body.as_bytes()),
+        None => None,
+    };
+    sources.push(sure(alloc, bytes)?)?;
+    let mut out = SureSink::new(alloc);
+    let report = run(rt, alloc, &words, &mut desk, sources, &mut out);
+    Ok(report.status == status && out.written() == output.as_bytes())
+}
+
+// The first of these entries that doesn't run so.
+fn first_wrong<R: Threads + Wait + Sync>(
+    rt: &R,
+    alloc: Global,
+    entries: &[Entry],
+) -> Result<Option<&'static str>, Memory> {
+    for entry in entries {
+        if !is_written(rt, alloc, COMMAND, entry.body, entry.output, entry.status)? {
+            return Ok(Some(entry.name));
+        }
+    }
+    Ok(None)
+}
+
 #[test]
 fn a_run_writes_what_its_file_prints(rt: HostRuntime) -> Result<(), Memory> {
+    assert_eq!(rt; first_wrong(&rt, rt.alloc(), PRINTS)?, None);
+    Ok(())
+}
+
+#[test]
+fn what_is_no_module_is_told(rt: HostRuntime) -> Result<(), Memory> {
+    assert_eq!(rt; first_wrong(&rt, rt.alloc(), REFUSED)?, None);
+    Ok(())
+}
+
+#[test]
+fn words_that_are_no_command_are_told(rt: HostRuntime) -> Result<(), Memory> {
     let alloc = rt.alloc();
-    for (line, body, wanted, status) in [
-        (COMMAND, Some(""), "", Status::Fulfilled),
-        (COMMAND, Some("print(\"hi\")"), "hi\n", Status::Fulfilled),
-        (
-            COMMAND,
-            Some("print(\"a\");\nprint(\"\")\nprint(\"b c\");print(\"d\")\n"),
-            "a\n\nb c\nd\n",
-            Status::Fulfilled,
-        ),
-        (COMMAND, None, CANNOT_FETCH, Status::EntryFailed),
-        (
-            COMMAND,
-            Some("print(\"a\" \"b\")"),
-            NO_MODULE,
-            Status::EntryFailed,
-        ),
-        (
-            COMMAND,
-            Some("print(\"a\")print(\"b\")"),
-            NO_MODULE,
-            Status::EntryFailed,
-        ),
-        (
-            COMMAND,
-            Some("\n/* é */;print('a\\u00e9',)\r\n;// b\nprint(\"\\x62\")"),
-            "aé\nb\n",
-            Status::Fulfilled,
-        ),
-        (
-            COMMAND,
-            Some("import {a} from \"./a"),
-            NO_MODULE,
-            Status::EntryFailed,
-        ),
-        (
-            COMMAND,
-            Some("let a; let a;"),
-            EARLY_ERROR,
-            Status::EntryFailed,
-        ),
-        (COMMAND, Some("const a = \"x\";"), "", Status::Fulfilled),
-        (
-            COMMAND,
-            Some("import \"react\"; import {} from \"./a.js\";"),
-            NOT_MAPPED,
-            Status::EntryFailed,
-        ),
-        ("", Some(""), USAGE, Status::Usage),
-        ("run a.test main.js", Some(""), USAGE, Status::Usage),
-        (
-            "run https://a.test/ main.js --trace --trace",
-            Some(""),
-            USAGE,
-            Status::Usage,
-        ),
-        (
-            "run https://a.test/ main.js --workers 0",
-            Some(""),
-            USAGE,
-            Status::Usage,
-        ),
-        ("run https://a.test/ --help", Some(""), USAGE, Status::Usage),
-        ("gen 1 3", Some(""), USAGE, Status::Usage),
+    for line in [
+        "",
+        "run a.test main.js",
+        "run https://a.test/ main.js --trace --trace",
+        "run https://a.test/ main.js --workers 0",
+        "run https://a.test/ --help",
+        "gen 1 3",
     ] {
-        let words = words(alloc, line)?;
-        let mut desk = sure(alloc, None)?;
-        let mut sources = Vec::new(alloc);
-        let bytes = match body {
-            Some(body) => Some(body.as_bytes()),
-            None => None,
-        };
-        sources.push(sure(alloc, bytes)?)?;
-        let mut out = SureSink::new(alloc);
-        let report = run(&rt, alloc, &words, &mut desk, sources, &mut out);
-        assert_eq!(rt; report.status, status, "{line}");
-        assert!(rt; out.written() == wanted.as_bytes(), "{line}");
+        assert!(rt;
+            is_written(&rt, alloc, line, Some(""), USAGE, Status::Usage)?,
+            "{line}"
+        );
     }
     Ok(())
 }
