@@ -72,55 +72,80 @@ fn last_line(machine: &Machine) -> Result<Option<Text>, Memory> {
     }
 }
 
-// The entry is asked for, and all is done when it is delivered.
+// The entry is asked for.
 #[test]
-fn an_entry_that_prints_runs(rt: HostRuntime) -> Result<(), Fail> {
-    let alloc = rt.alloc();
-    let mut machine = opened(alloc)?;
-    assert_eq!(rt; machine.asks().len(), 1);
-    assert!(rt; machine.end().is_none());
+fn the_entry_is_asked_for_first(rt: HostRuntime) -> Result<(), Fail> {
+    let machine = opened(rt.alloc())?;
     let Some(url) = first_ask(&machine)? else {
         return Err(Fail::from("nothing is asked"));
     };
     assert!(rt; url.is(MAIN));
-    deliver(alloc, &mut machine, "print(\"hi\")", &url)?;
-    assert!(rt; machine.asks().is_empty());
-    assert!(rt; machine.log() == b"hi\n".as_slice());
-    assert!(rt; machine.end() == Some(Status::Fulfilled));
-    let Some(line) = last_line(&machine)? else {
-        return Err(Fail::from("the run hasn't ended"));
-    };
-    assert!(rt; line.is(""));
+    assert!(rt; machine.end().is_none());
     Ok(())
 }
 
-// Nothing stands at this open ask.
-fn miss(machine: &mut Machine, url: &Text) -> Result<(), Memory>
-    requires { MayTake (state_of machine.old) url.now }
-{
-    match machine.deliver(url, &Outcome::Absent) {
-        Ok(()) => Ok(()),
-        Err(_end) => Err(Memory),
+// A machine to which an entry with this text was delivered; nothing where it asked for none.
+fn begun(alloc: Global, main: &str) -> Result<Option<Machine>, Memory> {
+    let mut machine = opened(alloc)?;
+    match first_ask(&machine) {
+        Ok(Some(url)) => match deliver(alloc, &mut machine, main, &url) {
+            Ok(()) => Ok(Some(machine)),
+            Err(Memory) => Err(Memory),
+        },
+        Ok(None) => Ok(None),
+        Err(Memory) => Err(Memory),
     }
 }
 
-// A call of `import()` adds an ask; what isn't there is caught.
+// All is done when the entry is delivered.
+#[test]
+fn an_entry_that_prints_runs(rt: HostRuntime) -> Result<(), Fail> {
+    let Some(machine) = begun(rt.alloc(), "print(\"hi\")")? else {
+        return Err(Fail::from("nothing is asked"));
+    };
+    assert!(rt; machine.asks().is_empty());
+    assert!(rt; machine.log() == b"hi\n".as_slice());
+    assert!(rt; machine.end() == Some(Status::Fulfilled));
+    Ok(())
+}
+
+// A body that imports what isn't there, and catches it.
+const CATCHES: &str =
+    "try { await import(\"./none.js\"); } catch (e) { print(e); } print(\"after\");";
+
+// A call of `import()` adds an ask.
 #[test]
 fn a_call_of_import_asks_for_its_file(rt: HostRuntime) -> Result<(), Fail> {
-    let alloc = rt.alloc();
-    let mut machine = opened(alloc)?;
-    let main = "try { await import(\"./none.js\"); } catch (e) { print(e); } print(\"after\");";
-    let Some(url) = first_ask(&machine)? else {
+    let Some(machine) = begun(rt.alloc(), CATCHES)? else {
         return Err(Fail::from("nothing is asked"));
     };
-    deliver(alloc, &mut machine, main, &url)?;
-    assert_eq!(rt; machine.asks().len(), 1);
-    assert!(rt; machine.end().is_none());
     let Some(url) = first_ask(&machine)? else {
-        return Err(Fail::from("nothing is asked"));
+        return Err(Fail::from("its file isn't asked for"));
     };
     assert!(rt; url.is("https://a.test/none.js"));
-    miss(&mut machine, &url)?;
+    assert!(rt; machine.end().is_none());
+    Ok(())
+}
+
+// Nothing stands at the first open ask, if there is one.
+fn miss(machine: &mut Machine) -> Result<(), Memory> {
+    match first_ask(machine) {
+        Ok(Some(url)) => match machine.deliver(&url, &Outcome::Absent) {
+            Ok(()) => Ok(()),
+            Err(_end) => Err(Memory),
+        },
+        Ok(None) => Ok(()),
+        Err(Memory) => Err(Memory),
+    }
+}
+
+// What isn't there is caught.
+#[test]
+fn what_import_misses_is_caught(rt: HostRuntime) -> Result<(), Fail> {
+    let Some(mut machine) = begun(rt.alloc(), CATCHES)? else {
+        return Err(Fail::from("nothing is asked"));
+    };
+    miss(&mut machine)?;
     assert!(rt; machine.end() == Some(Status::Fulfilled));
     let log = b"TypeError: cannot fetch https://a.test/none.js\nafter\n";
     assert!(rt; machine.log() == log.as_slice());
