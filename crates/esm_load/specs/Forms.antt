@@ -1,4 +1,4 @@
--- Which forms can be run so far. own: a module that has any other form is broken until that form is built.
+-- Which forms the first language has. own: a module that has any other form is broken in it.
 use Rattle.std.specs.Prelude.{Bool, List, Option, Some, None, is_some}
 use Rattle.std.specs.List.{list_all}
 use Rattle.esm_base.specs.Urls.{Text}

@@ -1,4 +1,4 @@
-// Which forms can be run so far. own: a module that has any other form is broken until that form is built.
+// Which forms the first language has. own: a module that has any other form is broken in it.
 ghost use Rattle.std.specs.Prelude.{◌≡◌, ◌≤◌, ◌<◌, length, option_copied};
 ghost use Rattle.esm_tree.specs.Flat.{part, parts, stmt_part, item_of, item_need, AllBelow};
 ghost use Rattle.esm_load.specs.Forms as forms;

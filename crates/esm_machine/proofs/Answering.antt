@@ -200,7 +200,7 @@ module _ (p : Parts) (ps : Numbered) (es : Errors) (i : Imported) where
         by : (end : TurnEnd) → i.condition ≡ condition_of (refused end) → AnswersBy (refused end) Before After → LeadsByTask w (refused end) New
         by (ends.Fault limit) c a =
             let r = arrivals.answers (held_of p) w ps es (seen_of i).loading (Err limit) live a (stopped_at i limit c) in
-            let halted : IsHalted limit (held_of p).engine.log (world.with_host w After) = subst (λ (v : World). IsHalted limit (held_of p).engine.log v) r.1.1 r.2 in (
+            let halted : IsHalted limit (held_of p).engine (world.with_host w After) = subst (λ (v : World). IsHalted limit (held_of p).engine v) r.1.1 r.2 in (
               world.with_host w After,
               record { live = live.live; host = After; answers = r.1.0; jobs = Jobs.stops limit halted.stopped },
               halted,

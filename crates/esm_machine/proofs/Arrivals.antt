@@ -1,5 +1,5 @@
 -- What the end of a fetch, and the answer of a pending request, do by ids, they do in the world.
-use Rattle.std.proofs.Common.{◌≡◌, ℕ, true, false, List, map, Option, Some, None, refl, ap, subst, sym, ◌∙◌}
+use Rattle.std.proofs.Common.{◌≡◌, ℕ, true, false, List, map, length, Option, Some, None, refl, ap, subst, sym, ◌∙◌}
 use Rattle.std.specs.Prelude.{Result, Ok, Err}
 use Rattle.std.specs.Option.{option_or}
 use Rattle.esm_base.specs.declared.limits.Limit.{Limit}
@@ -18,6 +18,7 @@ use Rattle.esm_loads.specs.Hosted.{host_of}
 use Rattle.esm_loads.specs.Loading.{Loading}
 use Rattle.esm_loads.specs.LoadsView.{every_form}
 use Rattle.esm_loads.specs.UrlTable.{Found, Nothing, Faulty, Script, found}
+use Rattle.esm_body.specs.Keeps.{started}
 use Rattle.esm_body.specs.Naming.{renamed_engine}
 use Rattle.esm_env.specs.Naming.{renamed_cells}
 use Rattle.esm_world.specs.World as world
@@ -37,6 +38,7 @@ use Rattle.esm_machine.specs.Steps.{LeavesHeld}
 use Rattle.esm_machine.proofs.Grown.{records_are_added}
 use Rattle.esm_machine.specs.Inner.Numbers.{number}
 use Rattle.esm_machine.proofs.Opens.{loading_is_of_the_world}
+use Rattle.esm_machine.proofs.Starts.{starts_held}
 use Rattle.esm_machine.proofs.Tells.{asks_shown}
 
 -- ---- a pending request is answered
@@ -64,6 +66,9 @@ module _ (h : Held) (w : World) (s : IsLive h w) where
   log_is : w.engine.log ≡ h.engine.log
   log_is = ap (λ (v : World). v.engine.log) s.stands.world
 
+  starts_are : length (started w.engine.events) ≡ length (started h.engine.events)
+  starts_are = ap (λ (v : World). length (started v.engine.events)) s.stands.world ∙ starts_held h w.linked
+
   allowed : (u : Url) (c : OutcomeView) → has (open_asks h.seen.loading) u ≡ true → HasModuleTree c → IsAllowed w (completed u c)
   allowed u c asked tree = record { asked = ap (λ us. has us u) (asks_shown None h w s) ∙ asked; tree = tree }
 
@@ -84,7 +89,7 @@ module _ (h : Held) (w : World) (s : IsLive h w) where
     answers (Err limit) halted = (
       world.with_host w Behind,
       (in_world, refl),
-      record { stopped = first_some l.stopped w.engine.stopped limit halted; written = log_is },
+      record { stopped = first_some l.stopped w.engine.stopped limit halted; written = log_is; begun = starts_are },
     )
 
   fetch_stops : (u : Url) (c : OutcomeView) (limit : Limit)
@@ -97,6 +102,7 @@ module _ (h : Held) (w : World) (s : IsLive h w) where
       stopped = first_some (fetched w u c).loading.stopped w.engine.stopped limit
           (ap (λ (o : Host). (after_fetch o u c).imports.stopped) host_is ∙ halted);
       written = log_is;
+      begun = starts_are;
     },
   )
 

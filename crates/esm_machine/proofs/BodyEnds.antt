@@ -26,7 +26,9 @@ use Rattle.esm_machine.specs.Inner.Leads.{DoesJob}
 use Rattle.esm_machine.specs.Inner.Parts.{AreLive, TakeCalls, ByIds, CallsBodies, FitsBodies, KnowsBy, awaits_by, begun_by, linked_by, seen_in, targets_by}
 use Rattle.esm_machine.specs.Machine.{cells_by, engine_by, entry_held, errors_by, seen_by}
 use Rattle.esm_machine.specs.declared.host.BodyHost.{BodyHost}
+use Rattle.esm_machine.specs.Machine.{held_of}
 use Rattle.esm_machine.specs.declared.parts.Parts.{Parts}
+use Rattle.esm_machine.proofs.Starts.{starts_held}
 use Rattle.esm_machine.proofs.Evaluated as evaluated
 use Rattle.esm_machine.proofs.ReadyHost.{host_fits}
 
@@ -64,7 +66,7 @@ module _ (p : Parts) (r : TakeCalls p) (h : EvalHost BodyHost) (m : ℕ) where
   body_stopped v limit f = λ w live.
       let k = evaluated.fulfills seen_by errors_by cells_by engine_by CallsBodies (λ o v c r a. a) lawful steady one (entry_held p.entry) p.host w live
       h m (Err limit) r.order.between (stamped w live) f in
-      (After w, Reacts.body_ended k.0, record { stopped = k.2; written = refl })
+      (After w, Reacts.body_ended k.0, record { stopped = k.2; written = refl; begun = starts_held (held_of (with_host p h)) w.linked })
 
   -- over any end
   pub body_ends : (v : Value ℕ) (end : EvalEnd Limit) → FulfillsAs ByIds (calls CallsBodies) p.host m (Err end) h

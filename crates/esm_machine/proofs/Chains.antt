@@ -26,7 +26,7 @@ module _ (old new : Parts) (w : World) (m : AreAmid old w) where
   pub job_goes_on : (answered : Bool) → answered ≡ true → LeadsByJob m.mid (Ok answered) new → AreAmid new w
   job_goes_on true e t =
       let k = t.1 in
-      record { mid = t.0; live = t.2; leads = λ after r. m.leads after (Jobs.job k.job k.left k.how k.live k.first k.settled_so k.reacts r) }
+      record { mid = t.0; live = t.2; leads = λ after r. m.leads after (Jobs.job k.taken.job k.taken.left k.how k.live k.taken.first k.settled_so k.taken.reacts r) }
   job_goes_on false e t = absurd cc
 
   pub job_ends : (answered : Bool) → answered ≡ false → LeadsByJob m.mid (Ok answered) new → LeadsByJobs w (Ok false) new
@@ -36,7 +36,7 @@ module _ (old new : Parts) (w : World) (m : AreAmid old w) where
   pub job_stops : (end : TurnEnd) → LeadsByJob m.mid (Err end) new → LeadsByJobs w (Err end) new
   job_stops (ends.Fault limit) t =
       let k = t.1 in
-      (t.0, m.leads t.0 (Jobs.job k.job k.left k.how k.live k.first k.settled_so k.reacts (Jobs.stops limit t.2.stopped)), t.2)
+      (t.0, m.leads t.0 (Jobs.job k.taken.job k.taken.left k.how k.live k.taken.first k.settled_so k.taken.reacts (Jobs.stops limit t.2.stopped)), t.2)
   job_stops ends.Memory t = tt
 
   -- jobs up to a step more

@@ -25,7 +25,9 @@ use Rattle.esm_machine.specs.Inner.Leads.{EvaluatesModule}
 use Rattle.esm_machine.specs.Inner.Parts.{AreLive, TakeCalls, ByIds, CallsBodies, seen_in, url_in}
 use Rattle.esm_machine.specs.Machine.{cells_by, engine_by, entry_held, errors_by, seen_by}
 use Rattle.esm_machine.specs.declared.host.BodyHost.{BodyHost}
+use Rattle.esm_machine.specs.Machine.{held_of}
 use Rattle.esm_machine.specs.declared.parts.Parts.{Parts}
+use Rattle.esm_machine.proofs.Starts.{starts_held}
 use Rattle.esm_machine.proofs.Evaluated as evaluated
 use Rattle.esm_machine.proofs.BodyEnds.{lawful, one, steady, with_host}
 use Rattle.esm_machine.proofs.ReadyHost.{all_linked, host_fits}
@@ -80,5 +82,5 @@ module _ (p : Parts) (a : TakeCalls p) where
         let k = evaluated.evaluates seen_by errors_by cells_by engine_by CallsBodies (λ o v c r a. a) lawful steady one (entry_held p.entry) p.host w live
         h m (Err limit) a.order.between (in_world w live _ (root_linked m l))
         (λ x t lx i. in_world w live t (target_linked x t (of_world w live x lx) i)) e in
-        (After w, k.0, record { stopped = k.2; written = refl })
+        (After w, k.0, record { stopped = k.2; written = refl; begun = starts_held (held_of (with_host p h)) w.linked })
     evaluates_stop eval_ends.Memory e w live = tt

@@ -74,12 +74,9 @@ module _ (p : Parts) (j : Job (Reaction ℕ)) (left : Numbered) (first : next_jo
         let d = does (Left w) (live_left w live) in
         let k : IsJob w d.0 = record {
           live = live.live;
-          job = renamed_job name j;
-          left = left_in;
           how = renamed_settled name how;
-          first = first_in w live;
+          taken = record { job = renamed_job name j; left = left_in; first = first_in w live; reacts = d.1 };
           settled_so = settled_in_world w live;
-          reacts = d.1;
         } in
         (d.0, k, d.2)
 
@@ -89,12 +86,9 @@ module _ (p : Parts) (j : Job (Reaction ℕ)) (left : Numbered) (first : next_jo
         let d = does (Left w) (live_left w live) in
         let k : IsJob w d.0 = record {
           live = live.live;
-          job = renamed_job name j;
-          left = left_in;
           how = renamed_settled name how;
-          first = first_in w live;
+          taken = record { job = renamed_job name j; left = left_in; first = first_in w live; reacts = d.1 };
           settled_so = settled_in_world w live;
-          reacts = d.1;
         } in
         (d.0, k, d.2)
     job_stopped new ends.Memory does w live = tt

@@ -46,3 +46,5 @@ pub mod SeenScopes
 pub mod Relinked
 pub mod Linked
 pub mod LinkedScopes
+pub mod Starts
+pub mod Counted

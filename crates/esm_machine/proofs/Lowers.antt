@@ -39,10 +39,10 @@ job_falls low old new s true e t =
     let b = steps_are new t.0 t.2 in
     let c = left_is old s.world s.live in
     let d = left_is new t.0 t.2 in
-    let more = low.steps s.world t.0 t.1 t.2.live in
+    let more = low.steps s.world t.0 t.1.how t.1.taken t.2.live in
     record {
       steps = omega (arith, a, b, more);
-      fewer = λ e. let less = low.less s.world t.0 t.1 t.2.live (b ∙ e ∙ sym a) in omega (arith, c, d, less);
+      fewer = λ e. let less = low.less s.world t.0 t.1.how t.1.taken t.2.live (b ∙ e ∙ sym a) in omega (arith, c, d, less);
     }
 job_falls low old new s false e t = absurd cc
 

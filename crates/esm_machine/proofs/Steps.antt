@@ -31,6 +31,7 @@ use Rattle.esm_machine.specs.Following.{seen_loading}
 use Rattle.esm_machine.specs.Held.{Held, EntryHeld, StandsFor, renamed_entry, body_state, world_by, world_of}
 use Rattle.esm_machine.specs.Represents.{IsLive}
 use Rattle.esm_machine.specs.Steps.{with_entry_state, with_promises, with_errors, with_linked, with_state, LeavesHeld, StepsAreOfTheWorld}
+use Rattle.esm_machine.proofs.Starts.{starts_renamed}
 use Rattle.esm_machine.proofs.Following.{bodies_are_of_the_world}
 
 -- an import() links nothing
@@ -130,7 +131,7 @@ module _ (h : Held) (w : World) (s : IsLive h w) where
       by (Err limit) q =
           let late = Late m how (Err limit) t q in
           let there = in_world m how (Err limit) t q in
-          (world.with_state w late, Reacts.resumes there, record { stopped = limits_are_exact.resumes w (name m) (renamed_settled name how) (Err limit) late s.live there; written = refl })
+          (world.with_state w late, Reacts.resumes there, record { stopped = limits_are_exact.resumes w (name m) (renamed_settled name how) (Err limit) late s.live there; written = refl; begun = starts_renamed (numbering h.seen.urls) t.engine.events })
 
 pub steps_are_of_the_world : StepsAreOfTheWorld
 steps_are_of_the_world = record {

@@ -1,5 +1,5 @@
 -- What a machine tells of the run that it represents, and how it takes a delivery.
-use Rattle.std.proofs.Common.{◌≡◌, ℕ, List, [], ◌∷◌, ◌++◌, Option, Some, None, refl, ap, subst, sym, ◌∙◌}
+use Rattle.std.proofs.Common.{◌≡◌, ℕ, List, [], ◌∷◌, ◌++◌, length, Option, Some, None, refl, ap, subst, sym, ◌∙◌}
 use Rattle.std.specs.Prelude.{is_some, option_map, codes}
 use Rattle.esm_base.specs.declared.limits.Limit.{Limit}
 use Rattle.esm_base.specs.declared.status.Status.TheVariants as statuses
@@ -14,6 +14,7 @@ use Rattle.esm_values.specs.Naming.{renamed_value}
 use Rattle.esm_resolve.specs.Keys.{AreNamespaceKeysOf}
 use Rattle.esm_env.specs.Modules.{entries, graph}
 use Rattle.esm_body.specs.Acts.{Displays}
+use Rattle.esm_body.specs.Keeps.{started}
 use Rattle.esm_body.proofs.OneAct.{displays_one}
 use Rattle.esm_world.specs.World as world
 use Rattle.esm_world.specs.World.{World, EntryState, modules_in, opening, stopped}
@@ -27,6 +28,7 @@ use Rattle.esm_machine.specs.Inner.Numbers.{url_number}
 use Rattle.esm_machine.specs.Seen.{Seen, names, modules}
 use Rattle.esm_machine.specs.Represents.{TurnEnd, MachineState, ShowsBy, Shows, asks_by_stop, ending_by_stop, ending_of, StoppedAs, IsLineBy, IsLineByStop, Tells, OpeningRepresents, TellsTheRun, TurnsAreTaken}
 use Rattle.esm_machine.proofs.Opens.{opens_as_world}
+use Rattle.esm_machine.proofs.Starts.{starts_held}
 
 -- ---- what a world shows
 
@@ -46,6 +48,11 @@ log_shown : (o : Option TurnEnd) (h : Held) (w : World) → ShowsBy o h w → w.
 log_shown None h w s = ap (λ (v : World). v.engine.log) s.stands.world
 log_shown (Some (ends.Fault limit)) h w s = s.written
 log_shown (Some ends.Memory) h w s = absurd s
+
+starts_shown : (o : Option TurnEnd) (h : Held) (w : World) → ShowsBy o h w → length (started w.engine.events) ≡ length (started h.engine.events)
+starts_shown None h w s = ap (λ (v : World). length (started v.engine.events)) s.stands.world ∙ starts_held h w.linked
+starts_shown (Some (ends.Fault limit)) h w s = s.begun
+starts_shown (Some ends.Memory) h w s = absurd s
 
 -- ---- the limit
 
@@ -114,6 +121,7 @@ shows_tells m w line s l =
     record {
       asks = asks_shown m.stopped m.held w s;
       log = log_shown m.stopped m.held w s;
+      begun = starts_shown m.stopped m.held w s;
       status = ap (λ o. option_map exit_status o) e;
       ended = ap (λ o. is_some o) e;
       stopped = stopped_shown m.stopped m.held w line s l;

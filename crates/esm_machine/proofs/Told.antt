@@ -1,5 +1,5 @@
 -- What the calls of a machine tell of the run that it represents.
-use Rattle.std.proofs.Common.{◌≡◌, ℕ, List, [], ◌∷◌, true, false, Option, Some, None, refl, ap, subst, sym, ◌∙◌}
+use Rattle.std.proofs.Common.{◌≡◌, ℕ, List, [], ◌∷◌, true, false, length, Option, Some, None, refl, ap, subst, sym, ◌∙◌}
 use Rattle.std.specs.Prelude.{Result, Ok, Err, IfOk, IsSome, ◌↔◌, is_some, option_map}
 use Rattle.std.proofs.lemmas.Result.{IfOk-weaker}
 use Rattle.esm_base.specs.declared.end.End.TheVariants as ends
@@ -9,6 +9,7 @@ use Rattle.esm_base.specs.Urls.{Text, Url, has}
 use Rattle.esm_ast.specs.Outcome.{OutcomeView}
 use Rattle.esm_loads.specs.Arrival.{open_asks}
 use Rattle.esm_loads.specs.Loading.{Loading}
+use Rattle.esm_body.specs.Keeps.{started}
 use Rattle.esm_world.specs.World.{World, EntryState}
 use Rattle.esm_world.specs.World.{EntryState as entry_state}
 use Rattle.esm_world.specs.LastLine.{Ending, ending_by, exit_status}
@@ -31,6 +32,9 @@ module _ (m : MachineState) where
 
   pub log_told : (log : List ℕ) → log ≡ m.held.engine.log → ShownBy m (λ what. log ≡ what.log)
   log_told log e = λ maps entry trace ds what s std. e ∙ sym (tells_the_run m maps entry trace ds what s std).log
+
+  pub starts_told : (n : ℕ) → n ≡ length (started m.held.engine.events) → ShownBy m (λ what. n ≡ length (started what.events))
+  starts_told n e = λ maps entry trace ds what s std. e ∙ sym (tells_the_run m maps entry trace ds what s std).begun
 
   pub status_told : (status : Option Status) → status ≡ option_map exit_status (ending_of m) → ShownBy m (λ what. status ≡ what.status)
   status_told status e = λ maps entry trace ds what s std. e ∙ sym (tells_the_run m maps entry trace ds what s std).status
@@ -155,6 +159,9 @@ module _ (parts : Parts) (stopped : Option TurnEnd) (m : MachineParts) (view : v
 
   pub log_at : (held_of parts).engine.log ≡ (state_of m).held.engine.log
   log_at = ap (λ (m : MachineParts). (held_of m.parts).engine.log) view
+
+  pub starts_at : length (started (held_of parts).engine.events) ≡ length (started (state_of m).held.engine.events)
+  starts_at = ap (λ (m : MachineParts). length (started (held_of m.parts).engine.events)) view
 
   pub asks_at : (o : Option TurnEnd) (asks : List Url) → stopped ≡ o → asks ≡ asks_by_stop o (seen_in parts).loading → asks ≡ asks_of (state_of m)
   asks_at o asks e h = h ∙ ap (λ o. asks_by_stop o (seen_in parts).loading) (sym e) ∙ ap (λ (m : MachineParts). asks_of (state_of m)) view

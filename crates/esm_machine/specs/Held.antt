@@ -18,6 +18,7 @@ use Rattle.esm_loads.specs.Loading.{Loading, opening_loading}
 use Rattle.esm_loads.specs.LoadsView.{every_form}
 use Rattle.esm_loads.specs.Hosted.{host_of}
 use Rattle.esm_body.specs.State.{State, Engine, opening_engine}
+use Rattle.esm_body.specs.Keeps.{started}
 use Rattle.esm_body.specs.Naming.{renamed_engine}
 use Rattle.esm_world.specs.World as world
 use Rattle.esm_world.specs.World.{World, EntryState, opening, stopped}
@@ -77,10 +78,11 @@ pub record StandsFor (h : Held) (w : World) : Type 0 where
   pub linked : (u : Url) → has w.linked u ≡ has h.seen.linked u
   pub world : w ≡ world_of h w.linked
 
--- a limit has stopped the world, and this was written to the log
-pub record IsHalted (limit : Limit) (log : List ℕ) (w : World) : Type 0 where
+-- a limit has stopped the world, of which the engine has the log, and as many bodies have begun
+pub record IsHalted (limit : Limit) (e : Engine ℕ) (w : World) : Type 0 where
   pub stopped : stopped w ≡ Some limit
-  pub written : w.engine.log ≡ log
+  pub written : w.engine.log ≡ e.log
+  pub begun : length (started w.engine.events) ≡ length (started e.events)
 
 -- ---- the end of a fetch that brings a record
 

@@ -1,5 +1,5 @@
 -- What a machine represents: the standard run of its entry over a list of deliveries.
-use Rattle.std.specs.Prelude.{◌≡◌, ◌≢◌, Bool, true, List, [], ◌∷◌, ◌++◌, Option, Some, None, Result, Ok, Err, codes, is_some, option_map}
+use Rattle.std.specs.Prelude.{◌≡◌, ◌≢◌, Bool, true, List, [], ◌∷◌, ◌++◌, Option, Some, None, Result, Ok, Err, codes, is_some, length, option_map}
 use Rattle.esm_import_map.specs.ImportMap.{Maps}
 use Rattle.esm_base.specs.declared.limits.Limit.{Limit}
 use Rattle.esm_base.specs.declared.status.Status.TheVariants as statuses
@@ -13,6 +13,7 @@ use Rattle.esm_loads.specs.Loading.{Loading}
 use Rattle.esm_loads.specs.LoadsView.{every_form}
 use Rattle.esm_loads.specs.Arrival.{open_asks}
 use Rattle.esm_body.specs.Acts.{Displays}
+use Rattle.esm_body.specs.Keeps.{started}
 use Rattle.esm_world.specs.World.{World, opening, stopped}
 use Rattle.esm_world.specs.LastLine.{Ending, Stopped, ending_by, exit_status}
 use Rattle.esm_world.specs.Turn.{Turn}
@@ -34,10 +35,10 @@ pub record IsLive (h : Held) (w : World) : Type 0 where
   pub live : stopped w ≡ None
   pub stands : StandsFor h w
 
--- the machine is in the state of the world. After a limit its log is; after it ran out of memory nothing of it is
+-- the machine is in the state of the world. After a limit its log and its number of starts are; after it ran out of memory nothing of it is
 abbrev pub ShowsBy : Option TurnEnd → Held → World → Type 0
 ShowsBy None h w = IsLive h w
-ShowsBy (Some (ends.Fault limit)) h w = IsHalted limit h.engine.log w
+ShowsBy (Some (ends.Fault limit)) h w = IsHalted limit h.engine w
 ShowsBy (Some ends.Memory) h w = ⊥
 
 abbrev pub Shows : MachineState → World → Type 0
@@ -128,6 +129,7 @@ pub record Tells (m : MachineState) (what : Shown) : Type 0 where
   pub last_line : (line : Text) → IsLineOf m line → what.last_line ≡ line
   pub asks : what.asks ≡ asks_of m
   pub log : what.log ≡ m.held.engine.log
+  pub begun : length (started what.events) ≡ length (started m.held.engine.events)
   pub status : what.status ≡ option_map exit_status (ending_of m)
   pub ended : what.ended ≡ is_some (ending_of m)
   pub stopped : StoppedAs m.stopped what

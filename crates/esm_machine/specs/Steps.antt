@@ -40,10 +40,10 @@ abbrev pub with_state : Held → State ℕ Seen → Held
 with_state h s =
     record h { seen = s.outer.imports; promises = s.outer.promises; errors = s.outer.errors; cells = s.cells; engine = s.engine }
 
--- a world follows that is stood for; or one that this limit has stopped, whose log is held
+-- a world follows that is stood for; or one that this limit has stopped, whose log and number of starts are held
 abbrev pub LeavesHeld : Result (Unit {0}) Limit → (World → Type 0) → Held → Type 0
 LeavesHeld (Ok done) To h = (after : World) × To after × IsLive h after
-LeavesHeld (Err limit) To h = (after : World) × To after × IsHalted limit h.engine.log after
+LeavesHeld (Err limit) To h = (after : World) × To after × IsHalted limit h.engine after
 
 -- ---- the steps of jobs
 

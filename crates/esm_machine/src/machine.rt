@@ -1,11 +1,13 @@
 // The machine: an entry, and the deliveries that it has taken.
-ghost use Rattle.std.specs.Prelude.{◌≡◌, All, [], true, IfOk, IfErr, OnOk, Some, None, Err, IsSome, is_some, option_map, codes, ◌++◌, ◌↔◌};
+ghost use Rattle.std.specs.Prelude.{◌≡◌, ◌≤◌, ◌∷◌, All, [], length, map, true, IfOk, IfErr, OnOk, Some, None, Err, IsSome, is_some, option_map, codes, ◌++◌, ◌↔◌};
 ghost use Rattle.std.specs.Arc.{arc_value};
 ghost use Rattle.esm_ast.specs.Outcome.{outcome_view};
 ghost use Rattle.esm_base.specs.declared.end.End.TheVariants as ends;
 ghost use Rattle.esm_base.specs.Limits.{limit_name};
 ghost use Rattle.esm_base.specs.Urls.{is_usable, IsUsable};
 ghost use Rattle.esm_values.specs.Code.{value_of};
+ghost use Rattle.esm_body.specs.Keeps.{started as started_in};
+ghost use Rattle.esm_body.specs.Noted.{event_of};
 ghost use Rattle.esm_world.specs.LastLine.{exit_status};
 ghost use Rattle.esm_machine.specs.Held.{Failed, Held, opening_held};
 ghost use Rattle.esm_machine.specs.Represents.{IsEnded, IsLineBy, IsLineByStop, IsLineOf, MayTake, Represents, ShownBy, StoppedAs, TakesDelivery, TurnEnd as EndOf, asks_of, ending_by_stop, ending_of};
@@ -19,7 +21,7 @@ use crate::parts::{EntryState, Parts};
 use crate::turn::run_turn;
 use esm_ast::Outcome;
 use esm_base::{Limit, Memory, Status, Text};
-use esm_body::{Engine, display_text};
+use esm_body::{Engine, Event, display_text};
 use esm_env::Envs;
 use esm_eval::{EvalHost, Nodes};
 use esm_import_map::ImportMap;
@@ -169,6 +171,29 @@ fn opened(alloc: Global, map: Arc<ImportMap>, entry: &Text, trace: bool) -> Resu
     })
 }
 
+/// One for the start of a body, and none for its end.
+fn starts_of(event: Event) -> usize
+    ensures value { result ≡ length (started_in (event_of event ∷ [])) }
+    ensures small { result ≤ 1 }
+{
+    match event {
+        Event::Begins(_m) => 1,
+        Event::Ends(_m) => 0,
+        Event::Throws(_m) => 0,
+    }
+}
+
+/// How many of these are starts of bodies.
+fn starts_in(events: &[Event]) -> usize
+    ensures { result ≡ length (started_in (map event_of events.now)) }
+{
+    let mut count = 0;
+    for event in events {
+        count += starts_of(*event);
+    }
+    count
+}
+
 impl Machine {
     /// The machine that has asked for the entry, whose URL is canonical and at most 8,192 bytes long. Its specifiers
     /// resolve by this import map. With `trace`, the log has a line for each start and end of a body too.
@@ -255,6 +280,15 @@ impl Machine {
         let host = self.parts.host;
         let bodies = host.bodies;
         bodies.engine.into_log().into_bytes()
+    }
+
+    /// How many bodies have begun. It doesn't allocate.
+    pub fn started(&self) -> usize
+        ensures state { result ≡ length (started_in (state_of self.now).held.engine.events) }
+        ensures standard { ShownBy (state_of self.now)
+            (λ what. result ≡ length (started_in what.events)) }
+    {
+        starts_in(self.parts.host.bodies.engine.events())
     }
 
     /// The status of the run; none while an ask is open, and after memory ran out. It doesn't allocate.

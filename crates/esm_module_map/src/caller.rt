@@ -1,5 +1,5 @@
 //! The map, and who calls it.
-ghost use Rattle.std.specs.Prelude.{◌≡◌, ◌++◌, ◌∷◌, ◌+◌, ◌<◌, [], ℕ, List, true, false, nat_lt, None, Some, IfOk, IfErr, IfSome, IsOk, MatchResult, slice_get, string_bytes, is_some};
+ghost use Rattle.std.specs.Prelude.{◌≡◌, ◌++◌, ◌∷◌, ◌+◌, ◌<◌, [], ℕ, List, true, false, nat_lt, None, Some, IfOk, IfSome, IsOk, MatchResult, slice_get, string_bytes, is_some};
 ghost use Rattle.std.proofs.Props.{props};
 ghost use Rattle.std.specs.Arc.{arc_value};
 ghost use Rattle.esm_hlock.specs.Makers.{Continues, makers_of, times};
@@ -12,6 +12,7 @@ ghost use Rattle.esm_module_map.specs.Replies.{AskReply, TakeReply, ShutReply, C
 ghost use Rattle.esm_module_map.specs.Histories.{IsPostIn};
 ghost use Rattle.esm_module_map.specs.Counts.{AreTakenOnce};
 ghost use Rattle.esm_module_map.specs.Saying.{SaysNothing, Stays, ShutSays, IsShut, IsOrderIn, PostedOne, TakeSays, AskSays};
+ghost use Rattle.esm_module_map.specs.Closing.{ClosedBy};
 ghost use Rattle.esm_module_map.specs.Views.{is_there, view_in, table_of, Same};
 
 use crate::event::{MapEvent, Payload, Why};
@@ -407,14 +408,20 @@ impl<P: Payload> ModuleMap<P> {
     }
 
     /// Ends the map and gives its whole history, or `Busy` where a call is still inside, which can't be where the caller
-    /// has all shares. Its two words differ. It doesn't allocate.
+    /// has all shares. It doesn't allocate.
+    ///
+    /// The clause `exact` says that some table which keeps the rule of the lock has these two words and the caller's
+    /// pass; that it is the table of this map is read off the code.
     pub fn close(self, caller: Caller<P>) -> Result<Vec<MapEvent<P>>, Busy>
         requires { table_of self.lock.table.shared.table_id caller.pass
             ≡ self.lock.table.shared.table_id }
         ensures found { IfOk result (λ v.
             Found P.weight (view_in caller.pass).seen (Some caller.number) v.items) }
         ensures led { IfOk result (λ v. is_led P.leads v.items ≡ true) }
-        ensures busy { IfErr result (λ busy. busy.serving < busy.ticket) }
+        ensures exact { MatchResult result
+            (λ v. (n : ℕ) × ClosedBy caller.pass (λ s. s.events.items) maker_of n n)
+            (λ busy. (busy.serving < busy.ticket)
+            × ClosedBy caller.pass (λ s. s.events.items) maker_of busy.ticket busy.serving) }
         ensures whole { (view_in caller.pass).shares ≡ 1024 → IsOk result }
     {
         let ModuleMap { lock } = self;

@@ -417,7 +417,7 @@ job_within w mid r rest how few p live = (reacts_less p live).within few
 -- as a law
 pub jobs_lower : JobsLower
 jobs_lower = record {
-  steps = λ w after d live. (reacts_less d.reacts live).steps;
-  within = λ w after d live few. (reacts_less d.reacts live).within few;
-  less = λ w after d live e. let q = (reacts_less d.reacts live).quiet e in let n = next_queue w.promises d.left d.job d.first in omega (arith, q, n);
+  steps = λ w after how d live. (reacts_less d.reacts live).steps;
+  within = λ w after how d live few. (reacts_less d.reacts live).within few;
+  less = λ w after how d live e. let q = (reacts_less d.reacts live).quiet e in let n = next_queue w.promises d.left d.job d.first in omega (arith, q, n);
 }

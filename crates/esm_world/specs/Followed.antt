@@ -1,4 +1,5 @@
--- What follows of an import(): its promise is settled, unless its load or the evaluation of its root is under way.
+-- What follows of an import(), where no limit has stopped the run: its promise is settled, unless its load or the evaluation
+-- of its root is under way.
 use Rattle.std.specs.Prelude.{◌≡◌, ℕ, true, Contains, List, slice_get, is_some, Some}
 use Rattle.esm_base.specs.Urls.{Url}
 use Rattle.esm_values.specs.Value.{Value}

@@ -85,15 +85,19 @@ pub data Reacts : World → Reaction Url → Settled (Value Url) → World → T
   resumes : {w : World} {m : Url} {how : Settled (Value Url)} {end : Result (Unit {0}) Limit} {s : State Url Loading}
       → ResumesBody same_url modules_in BeginsImport (body_state w) m how end s → Reacts w (Await m) how (with_state w s)
 
--- the first job is taken and done; the constructor `job` of Jobs has the same parts
-pub record IsJob (w after : World) : Type 0 where
-  pub live : stopped w ≡ None
+-- the first job is taken, and its reaction to this result leads on
+pub record FirstReacts (w : World) (how : Settled (Value Url)) (after : World) : Type 0 where
   pub job : Job (Reaction Url)
   pub left : Promises (Reaction Url) (Value Url)
-  pub how : Settled (Value Url)
   pub first : next_job w.promises ≡ Some (job, left)
-  pub settled_so : settled left job.promise ≡ Some how
   pub reacts : Reacts (with_promises w left) job.reaction how after
+
+-- the first job is taken and done with the result of its promise; the constructor `job` of Jobs has the same parts
+pub record IsJob (w after : World) : Type 0 where
+  pub live : stopped w ≡ None
+  pub how : Settled (Value Url)
+  pub taken : FirstReacts w how after
+  pub settled_so : settled taken.left taken.job.promise ≡ Some how
 
 -- HTML, "perform a microtask checkpoint": jobs run, first in, first out, until none is left or a limit stops the world
 pub data Jobs : World → World → Type 0 where

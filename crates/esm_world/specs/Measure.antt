@@ -5,14 +5,14 @@ use Rattle.esm_base.specs.declared.limits.TheConstants.{MAX_STEPS}
 use Rattle.esm_base.specs.Urls.{Url}
 use Rattle.esm_values.specs.Value.{Value}
 use Rattle.esm_expr_eval.specs.Sizes.{size}
-use Rattle.esm_promise.specs.Promises.{Promise, Pending, Done, Promises, Job}
+use Rattle.esm_promise.specs.Promises.{Promise, Pending, Done, Promises, Settled, Job}
 use Rattle.esm_promise.specs.Reactions.{Reaction, Loaded, EntryLoaded}
 use Rattle.esm_body.specs.Rest.{Use, Part, Rest, stmt_count, end, more}
 use Rattle.esm_body.specs.Rest.{Part as part}
 use Rattle.esm_body.specs.Rest.{Use as use_of}
 use Rattle.esm_body.specs.State.{Standing}
 use Rattle.esm_world.specs.World.{World, stopped}
-use Rattle.esm_world.specs.Jobs.{IsJob}
+use Rattle.esm_world.specs.Jobs.{FirstReacts}
 
 -- ---- how much of a body remains
 
@@ -72,8 +72,12 @@ queue ps = of_jobs ps.jobs + of_all ps.all
 abbrev pub left : World → ℕ
 left w = queue w.promises + standing_weight w.engine.standing
 
--- a job that no limit stops takes back no step, and takes no more than there may be; where it takes none, less is left
+-- a job that no limit stops takes back no step, and takes no more than there may be; where it takes none, less is left,
+-- whatever result its reaction is given
 pub record JobsLower : Type 0 where
-  pub steps : (w after : World) → IsJob w after → stopped after ≡ None → w.engine.steps ≤ after.engine.steps
-  pub within : (w after : World) → IsJob w after → stopped after ≡ None → w.engine.steps ≤ MAX_STEPS → after.engine.steps ≤ MAX_STEPS
-  pub less : (w after : World) → IsJob w after → stopped after ≡ None → after.engine.steps ≡ w.engine.steps → left after < left w
+  pub steps : (w after : World) (how : Settled (Value Url)) → FirstReacts w how after → stopped after ≡ None
+      → w.engine.steps ≤ after.engine.steps
+  pub within : (w after : World) (how : Settled (Value Url)) → FirstReacts w how after → stopped after ≡ None
+      → w.engine.steps ≤ MAX_STEPS → after.engine.steps ≤ MAX_STEPS
+  pub less : (w after : World) (how : Settled (Value Url)) → FirstReacts w how after → stopped after ≡ None
+      → after.engine.steps ≡ w.engine.steps → left after < left w

@@ -35,9 +35,9 @@ use Rattle.esm_machine.specs.declared.linking.Linked.TheVariants as outcomes
 use Rattle.esm_machine.specs.declared.parts.Parts.{Parts}
 use Rattle.esm_machine.specs.declared.parts.EntryState.TheVariants as states
 
--- the limit has stopped the world, and the parts have its log
+-- the limit has stopped the world, and the parts have its log and as many starts of bodies
 abbrev pub AreHalted : Limit → Parts → World → Type 0
-AreHalted limit p w = IsHalted limit (held_of p).engine.log w
+AreHalted limit p w = IsHalted limit (held_of p).engine w
 
 abbrev pub LeadsTo : (World → Type 0) → Result (Unit {0}) TurnEnd → Parts → Type 0
 LeadsTo To (Ok done) p = (after : World) × To after × AreLive p after
