@@ -1,6 +1,9 @@
-import "./app/start.js";
-import "./pages/home.js";
-import "./pages/cart.js";
-import "./pages/search.js";
-import "./pages/account.js";
-print("main");
+import { start } from "./app/start.js";
+import * as pages from "./app/routes.js";
+import "./legacy/offers.js";
+
+start();
+print(pages.home);
+print(pages.cart);
+print(pages.search);
+print(pages.account);

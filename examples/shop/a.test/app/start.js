@@ -1,4 +1,6 @@
-import "../lib/log.js";
-import "../lib/store.js";
-import "./routes.js";
-print("start");
+import { log } from "log";
+import { session } from "store";
+
+export function start() {
+    log("open for " + session);
+}

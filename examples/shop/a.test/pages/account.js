@@ -1,4 +1,5 @@
-import "../ui/button.js";
-import "../lib/http.js";
-import "../lib/dates.js";
-print("account");
+import { element } from "ui/element.js";
+import { greeting } from "format";
+import { session } from "store";
+
+export const page = "Account:" + element(greeting(session));

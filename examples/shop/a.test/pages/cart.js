@@ -1,4 +1,6 @@
-import "../ui/list.js";
-import "../ui/button.js";
-import "../lib/format.js";
-print("cart");
+import { button } from "ui/button.js";
+import { list } from "ui/list.js";
+import { price } from "format";
+import { first, total } from "store";
+
+export const page = "Cart:" + list(first, price(total())) + button("Buy");

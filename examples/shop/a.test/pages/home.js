@@ -1,3 +1,4 @@
-import "../ui/list.js";
-import "../lib/store.js";
-print("home");
+import { list } from "ui/list.js";
+import { first, second } from "store";
+
+export const page = "Home:" + list(first, second);

@@ -1,4 +1,4 @@
-import "../ui/list.js";
-import "../lib/http.js";
-import "./home.js";
-print("search");
+import { button } from "ui/button.js";
+import { matching } from "store";
+
+export const page = "Search:" + button("Go") + " " + matching("tea");

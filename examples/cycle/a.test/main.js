@@ -1,0 +1,3 @@
+import { greet } from "./greet.js";
+
+print(greet("main"));

@@ -1,0 +1,3 @@
+print("before");
+await import("./waits.js");
+print("after");

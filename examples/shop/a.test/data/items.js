@@ -1,0 +1,2 @@
+export const tea = await "tea";
+export const cake = await "cake";

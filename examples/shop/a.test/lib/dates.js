@@ -1,3 +1,0 @@
-import "./time.js";
-import "./numbers.js";
-print("dates");

@@ -1,3 +1,0 @@
-import "./store.js";
-import "./queue.js";
-print("events");

@@ -1,3 +1,0 @@
-import "./numbers.js";
-import "./dates.js";
-print("format");

@@ -1,3 +1,0 @@
-import "./queue.js";
-import "./log.js";
-print("http");

@@ -1,2 +1,0 @@
-import "./time.js";
-print("log");

@@ -1,3 +1,0 @@
-import "./events.js";
-import "./log.js";
-print("store");

@@ -1,0 +1,2 @@
+export * from "./price.js";
+export * from "./words.js";

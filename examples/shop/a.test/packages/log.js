@@ -1,0 +1,3 @@
+export function log(line) {
+    print("log: " + line);
+}

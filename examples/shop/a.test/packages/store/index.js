@@ -1,0 +1,2 @@
+export * from "./items.js";
+export { session } from "./session.js";

@@ -1,0 +1,5 @@
+export const session = await user();
+
+function user() {
+    return "Ada";
+}

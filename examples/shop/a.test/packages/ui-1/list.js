@@ -1,0 +1,3 @@
+export function list(one, other) {
+    return " - " + one + " - " + other;
+}

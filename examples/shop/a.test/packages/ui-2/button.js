@@ -1,0 +1,5 @@
+import { element } from "./element.js";
+
+export function button(label) {
+    return element("(" + label + ")");
+}

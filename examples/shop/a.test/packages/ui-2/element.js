@@ -1,0 +1,3 @@
+export function element(content) {
+    return " [" + content + "]";
+}

@@ -1,3 +1,0 @@
-import "./element.js";
-import "./icon.js";
-print("button");

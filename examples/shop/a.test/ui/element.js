@@ -1,2 +1,0 @@
-import "../lib/events.js";
-print("element");

@@ -1,2 +1,0 @@
-import "./element.js";
-print("list");
