@@ -1,7 +1,6 @@
 -- A run over generated input.
-use Rattle.std.proofs.Common.{◌≡◌, ◌≢◌, ◌∙◌, ◌<◌, ◌≤◌, ◌+◌, ap, sym, subst, refl, ℕ, zero, suc, List, [], ◌∷◌, length, map, drop, arith, inl, inr, ◌⊎◌, true}
-use Rattle.std.specs.Prelude.{Option, Some, None, IfSome, IsSomeAnd, All, AllPairs, Any, Contains, get_or, is_some, take}
-use Rattle.std.proofs.lemmas.List.{drop_more, drop_of_length-le}
+use Rattle.std.proofs.Common.{◌≡◌, ◌≢◌, ◌∙◌, ◌+◌, ap, sym, subst, refl, ℕ, zero, suc, List, [], ◌∷◌, length, map, arith, inl, false}
+use Rattle.std.specs.Prelude.{Option, Some, None, IsSomeAnd, All, Contains, take}
 use Rattle.std.proofs.lemmas.List.Elements.{All-nil, All-cons, All-map, All-weaker}
 use Rattle.esm_base.specs.declared.limits.TheConstants.{MAX_BODY_BYTES}
 use Rattle.esm_base.specs.declared.status.Status.{Status}
@@ -13,7 +12,8 @@ use Rattle.esm_ports.specs.Asks.{failed_count}
 use Rattle.esm_ports.specs.Files.{held_at}
 use Rattle.esm_ast.specs.Deliveries.{Delivery}
 use Rattle.esm_ast.specs.Outcome.{OutcomeView, Script, Broken, Absent, Failed}
-use Rattle.esm_import_map.specs.ImportMap.{no_maps}
+use Rattle.esm_base.specs.Urls.{Url}
+use Rattle.esm_import_map.specs.ImportMap.{Maps, no_maps}
 use Rattle.esm_loads.specs.LoadsView.{every_form}
 use Rattle.esm_body.specs.Keeps.{started}
 use Rattle.esm_world.specs.World.{opening}
@@ -34,25 +34,17 @@ use Rattle.esm_run.specs.Inner.Leading.{EndsDriven}
 use Rattle.esm_run.specs.Report.{IsGraphRun}
 use Rattle.esm_run.proofs.ReportLemmas.{delivered_in, pairs_nil}
 
--- ---- counting lines
-
-pub counts_on : (text : List ℕ) (i byte count more : ℕ) → i < length text → get_or text i byte ≡ byte → count + line_count (drop i text) ≡ line_count text → more ≡ line_feeds byte
-    → (count + more) + line_count (drop (i + 1) text) ≡ line_count text
-counts_on text i byte count more within is so more_is =
-    let next : line_count (drop i text) ≡ line_feeds byte + line_count (drop (i + 1) text) =
-        ap line_count (sym (drop_more text i byte within)) ∙ ap (λ b. line_count (b ∷ drop (i + 1) text)) is in
-    omega (arith, so, more_is, next)
-
-pub counts_all : (text : List ℕ) (i count : ℕ) → length text ≤ i → count + line_count (drop i text) ≡ line_count text → count ≡ line_count text
-counts_all text i count past so = let none : line_count (drop i text) ≡ 0 = ap line_count (drop_of_length-le text past) in omega (arith, so, none)
-
 -- ---- the summary
 
-pub summary_is : (count starts lines : ℕ) (what : Shown) (end : Status) → starts ≡ length (started what.events) → lines ≡ line_count what.log
-    → record { modules = count; started = starts; lines = lines; status = end } ≡ summary_of count what end
-summary_is count starts lines what end starts_are lines_are =
-    ap (λ n. record { modules = count; started = n; lines = lines; status = end }) starts_are
-    ∙ ap (λ n. record { modules = count; started = length (started what.events); lines = n; status = end }) lines_are
+abbrev summary : ℕ → ℕ → ℕ → Status → Summary
+summary modules starts lines end = record { modules = modules; started = starts; lines = lines; status = end }
+
+pub summary_is : (modules count starts lines : ℕ) (what : Shown) (end : Status) → modules ≡ count → starts ≡ length (started what.events) → lines ≡ line_count what.log
+    → summary modules starts lines end ≡ summary_of count what end
+summary_is modules count starts lines what end modules_are starts_are lines_are =
+    ap (λ n. summary n starts lines end) modules_are
+    ∙ ap (λ n. summary count n lines end) starts_are
+    ∙ ap (λ n. summary count (length (started what.events)) n end) lines_are
 
 -- ---- what the sources answered
 
@@ -100,11 +92,15 @@ pub unsummed : (machine : Option MachineParts) (count : ℕ) (sink : SinkChange)
 unsummed None count sink unwritten = (refl, unwritten)
 unsummed (Some machine) count sink unwritten = λ maps entry trace deliveries what represents run. inl (refl, unwritten)
 
-pub generated_run : HasStandardRun → (generation : Generation) (machine : Option MachineParts) (taken : List Delivery) (status : Status) (sink : SinkChange) (given back : List SureSource)
-    → IsGraphRun (λ (s : SureSource). s.asked) holds_of no_maps (module_url 0) false generation.workers machine taken given back → All (HoldsGenerated generation) given
+pub generated_run : HasStandardRun → (generation : Generation) (maps : Maps) (entry : Url) (machine : Option MachineParts) (taken : List Delivery) (status : Status) (sink : SinkChange) (given back : List SureSource)
+    → maps ≡ no_maps → entry ≡ module_url 0 → IsGraphRun (λ (s : SureSource). s.asked) holds_of maps entry false generation.workers machine taken given back → All (HoldsGenerated generation) given
     → EndsGenerated machine generation.count status sink → RunsGenerated generation taken status sink
-generated_run has_run generation machine taken status sink given back graph holds ends = by machine graph.ends ends
+generated_run has_run generation maps entry machine taken status sink given back maps_are entry_is graph holds ends = by machine ends_so ends
   where
+    ends_so : EndsDriven (λ delivery. IsRead delivery.outcome) no_maps (module_url 0) false machine taken
+    ends_so = subst (λ (m : Maps). EndsDriven (λ delivery. IsRead delivery.outcome) m (module_url 0) false machine taken) maps_are
+        (subst (λ (e : Url). EndsDriven (λ delivery. IsRead delivery.outcome) maps e false machine taken) entry_is graph.ends)
+
     each : All (IsGenerated generation) taken
     each = All-weaker (WasDelivered (λ (s : SureSource). s.asked) holds_of back) (IsGenerated generation) (delivered_of generation back (kept_all generation given back graph.asked_once.kept holds)) taken graph.true_record.delivered
 

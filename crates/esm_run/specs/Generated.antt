@@ -1,5 +1,6 @@
 -- A run over generated input, and its summary. own
 use Rattle.std.specs.Prelude.{◌≡◌, ◌≢◌, ℕ, List, take, Option, Some, None, IsSomeAnd, All, AllPairs, true, false, ◌⊎◌}
+use Rattle.esm_ports.specs.Sink.{Grew}
 use Rattle.esm_base.specs.declared.status.Status.{Status}
 use Rattle.esm_base.specs.declared.status.Status.TheVariants.{Memory}
 use Rattle.esm_import_map.specs.ImportMap.{no_maps}
@@ -41,3 +42,11 @@ pub record RunsGenerated (generation : Generation) (taken : List Delivery) (stat
   pub read : All (λ delivery. IsRead delivery.outcome) taken
   pub generated : All (IsGenerated generation) taken
   pub ends : EndsSummed generation.count status sink what
+
+-- the run went to its end: the status and the whole summary are those of the standard run
+pub record RunsGeneratedWhole (generation : Generation) (taken : List Delivery) (status : Status) (sink : SinkChange) : Type 0 where
+  pub what : Shown
+  pub run : StandardRun no_maps every_form (module_url 0) false taken what
+  pub ended : what.ended ≡ true
+  pub status_is : what.status ≡ Some status
+  pub whole : Grew sink.written_before sink.written_after (summary_text (summary_of generation.count what status))

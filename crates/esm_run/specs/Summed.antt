@@ -9,7 +9,7 @@ use Rattle.esm_gen.specs.declared.summary.Summary.{Summary}
 abbrev pub line_feeds : ℕ → ℕ
 line_feeds byte = if nat_eq byte 10 then 1 else 0
 
--- how many lines there are: each has a line feed
+-- how many lines there are, by their line feeds: no generated module prints one inside a line
 abbrev pub line_count : List ℕ → ℕ
 line_count [] = 0
 line_count (byte ∷ bytes) = line_feeds byte + line_count bytes

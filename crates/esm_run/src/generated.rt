@@ -11,6 +11,7 @@ ghost use Rattle.esm_run.specs.Inner.Generating.{EndsGenerated, HoldsGenerated};
 ghost use Rattle.esm_run.specs.Written.{change_of};
 
 use crate::ending::finish;
+use crate::report::RunReport;
 use crate::workers::{GraphEnd, run_graph};
 use esm_arguments::Generation;
 use esm_base::{Memory, Status, Text};
@@ -18,20 +19,11 @@ use esm_gen::{Summary, entry_url, files};
 use esm_import_map::ImportMap;
 use esm_machine::Machine;
 use esm_ports::{Sink, SureSource};
-use esm_record::Delivery;
 use esm_world::laws;
 use std::alloc::Global;
 use std::marker::Sync;
 use std::sync::Wait;
 use std::thread::Threads;
-
-/// What a run over generated input gives back.
-#[derive(Drop)]
-pub(crate) struct Generated {
-    pub status: Status,
-    /// What it took, in order.
-    pub taken: Vec<Delivery>,
-}
 
 // One source of the generated files.
 fn generated_source(alloc: Global, generation: &Generation) -> Result<SureSource, Memory>
@@ -44,14 +36,13 @@ fn generated_source(alloc: Global, generation: &Generation) -> Result<SureSource
 
 // A source of the generated files for each worker.
 fn generated_sources(alloc: Global, generation: &Generation) -> Result<Vec<SureSource>, Memory>
-    ensures many { IfOk result (λ v. length v.items ≡ generation.now.workers) }
+    ensures many { IfOk result (λ v. vec_len v ≡ generation.now.workers) }
     ensures fresh { IfOk result (λ v. All (λ s. s.asked ≡ []) v.items) }
     ensures holds { IfOk result (λ v. All (HoldsGenerated generation.now) v.items) }
 {
     let mut sources = Vec::new(alloc);
-    while sources.len() < generation.workers {
-        let source = generated_source(alloc, generation)?;
-        sources.push(source)?;
+    for _ in 0..generation.workers {
+        sources.push(generated_source(alloc, generation)?)?;
     }
     Ok(sources)
 }
@@ -85,12 +76,12 @@ fn write_summary<K: Sink>(alloc: Global, machine: &Machine, count: u32, out: &mu
     let Some(status) = machine.end() else {
         unreachable!();
     };
-    let started = machine.started() as u64;
-    let lines = line_count(machine.log()) as u64;
+    let starts = machine.started();
+    let lines = line_count(machine.log());
     let summary = Summary {
         modules: u64::from(count),
-        started,
-        lines,
+        started: starts as u64,
+        lines: lines as u64,
         status,
     };
     match summary.text(alloc) {
@@ -117,52 +108,64 @@ fn end_generated<K: Sink>(
     }
 }
 
-// The entry's URL, and a source for each worker.
-fn prepare(alloc: Global, generation: &Generation) -> Result<(Text, Vec<SureSource>), Memory>
-    ensures entry { IfOk result (λ r. r.0 ≡ module_url 0) }
-    ensures usable { IfOk result (λ r. is_usable r.0 ≡ true) }
-    ensures many { IfOk result (λ r. length r.1.items ≡ generation.now.workers) }
-    ensures fresh { IfOk result (λ r. All (λ s. s.asked ≡ []) r.1.items) }
-    ensures holds { IfOk result (λ r. All (HoldsGenerated generation.now) r.1.items) }
+// What a run over generated input begins with: the entry's URL, and a source for each worker.
+#[derive(Drop)]
+struct Prepared {
+    entry: Text,
+    sources: Vec<SureSource>,
+}
+
+// All that a run over generated input begins with.
+fn prepare(alloc: Global, generation: &Generation) -> Result<Prepared, Memory>
+    ensures entry { IfOk result (λ p. p.entry ≡ module_url 0) }
+    ensures usable { IfOk result (λ p. is_usable p.entry ≡ true) }
+    ensures many { IfOk result (λ p. vec_len p.sources ≡ generation.now.workers) }
+    ensures fresh { IfOk result (λ p. All (λ s. s.asked ≡ []) p.sources.items) }
+    ensures holds { IfOk result (λ p. All (HoldsGenerated generation.now) p.sources.items) }
 {
     let entry = entry_url(alloc)?;
     let sources = generated_sources(alloc, generation)?;
-    Ok((entry, sources))
+    Ok(Prepared { entry, sources })
 }
 
-/// Runs generated input over as many sources of it as there are to be workers, and writes the summary.
-pub(crate) fn run_generated<R: Threads + Wait + Sync, K: Sink>(
+/// Runs generated input over as many sources of it as there are to be workers, and writes the summary. The given sources
+/// are handed back as they are.
+pub(crate) fn run_generated<R: Threads + Wait + Sync, S, K: Sink>(
     rt: &R,
     alloc: Global,
     generation: &Generation,
+    sources: Vec<S>,
     out: &mut K,
-) -> Generated
+) -> RunReport<S>
     requires some { 0 < generation.now.workers }
     requires few { generation.now.workers ≤ 16 }
     requires room { K.faults out.old < 2 ^ 64 - 1 }
-    ensures { RunsGenerated generation.now (deliveries_of result.taken.items) result.status
+    ensures run { RunsGenerated generation.now (deliveries_of result.taken.items) result.status
         (change_of K.written K.faults out.old out.new) }
+    ensures sources { result.sources ≡ sources }
 {
     laws::has_standard_run();
-    let Ok((entry, sources)) = prepare(alloc, generation) else {
-        return Generated {
+    let Ok(prepared) = prepare(alloc, generation) else {
+        return RunReport {
             status: Status::Memory,
             taken: Vec::new(alloc),
+            sources,
         };
     };
+    let Prepared {
+        entry,
+        sources: generated,
+    } = prepared;
+    let map = ImportMap::empty(alloc);
     let GraphEnd {
         machine,
         taken,
-        sources: _sources,
-    } = run_graph(
-        rt,
-        alloc,
-        ImportMap::empty(alloc),
-        &entry,
-        false,
-        generation.workers,
-        sources,
-    );
+        sources: _generated,
+    } = run_graph(rt, alloc, map, &entry, false, generation.workers, generated);
     let status = end_generated(alloc, &machine, generation.count, out);
-    Generated { status, taken }
+    RunReport {
+        status,
+        taken,
+        sources,
+    }
 }

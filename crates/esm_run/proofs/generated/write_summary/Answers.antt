@@ -1,10 +1,9 @@
 use Rattle.std.proofs.Common.{◌≡◌, ◌∙◌, ap, sym, subst, refl, inl, inr}
 use Rattle.std.specs.Prelude.{Some, is_some}
-use Rattle.esm_base.specs.declared.status.Status.{Status}
 use Rattle.esm_gen.specs.Summary.{summary_text}
 use Rattle.esm_machine.specs.Machine.{state_of}
 use Rattle.esm_machine.specs.Represents.{ending_of}
-use Rattle.esm_run.specs.Summed.{line_count, summary_of}
+use Rattle.esm_run.specs.Summed.{line_count}
 use Rattle.esm_run.specs.Written.{EndsWith, change_of}
 use Rattle.esm_run.proofs.EndLemmas.{status_by}
 use Rattle.esm_run.proofs.GeneratedLemmas.{summary_is}
@@ -24,7 +23,8 @@ returns-in-Ok g c = λ maps entry trace deliveries what represents run.
     let sink = change_of g.K.Sink.written g.K.Sink.faults c.args.out.now c.finish.new.out in
     let is = sym (c.end.ensures.standard maps entry trace deliveries what represents run) ∙ c.in-Some.is in
     let ended = sym (c.end.ensures.ended maps entry trace deliveries what represents run) ∙ ap is_some c.in-Some.is in
-    let starts = c.started.ensures.standard maps entry trace deliveries what represents run in
-    let lines = c.line_count.ensures ∙ ap line_count (c.log.ensures.standard maps entry trace deliveries what represents run) in
-    let text = c.as_bytes.ensures.value ∙ c.as_str.ensures.value ∙ c.in-Ok.ensures ∙ ap summary_text (summary_is c.args.count c.started.result c.line_count.result what c.in-Some.status starts lines) in
-    inr (ended, (c.in-Some.status, is, subst (λ t. EndsWith (Some c.in-Some.status) t c.finish.result sink) text c.finish.ensures))
+    let starts = c.started-starts.ensures.standard maps entry trace deliveries what represents run in
+    let lines = c.line_count-lines.ensures ∙ ap line_count (c.log.ensures.standard maps entry trace deliveries what represents run) in
+    let text = c.as_bytes.ensures.value ∙ c.as_str.ensures.value ∙ c.in-Ok.ensures
+    ∙ ap summary_text (summary_is _ c.args.count c.started-starts.result c.line_count-lines.result what c.in-Some.status c.from.ensures starts lines) in
+    inr (ended, c.in-Some.status, is, subst (λ t. EndsWith (Some c.in-Some.status) t c.finish.result sink) text c.finish.ensures)
