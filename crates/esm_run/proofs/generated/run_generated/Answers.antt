@@ -9,7 +9,7 @@ pub returns-in_default-clause-run : goal.returns-in_default-clause-run
 returns-in_default-clause-run g c = generated_none c.has_standard_run.ensures c.args.generation.now _ _ (change_of g.K.Sink.written g.K.Sink.faults c.args.out.now c.args.out.now) refl (ap deliveries_of c.new.ensures.items) (refl, refl)
 
 pub end_generated-status-requires-clause-ended : goal.end_generated-status-requires-clause-ended
-end_generated-status-requires-clause-ended g c = λ κs lives. ended_if _ c.empty-map.result c.in-Ok.prepared.entry false c.run_graph-machine.result.machine (deliveries_of c.run_graph-machine.result.taken.items) c.run_graph-machine.ensures.ends
+end_generated-status-requires-clause-ended g c = ended_if _ c.empty-map.result c.in-Ok.prepared.entry false c.run_graph-machine.result.machine (deliveries_of c.run_graph-machine.result.taken.items) c.run_graph-machine.ensures.ends
 
 pub returns-clause-run : goal.returns-clause-run
 returns-clause-run g c = generated_run c.has_standard_run.ensures c.args.generation.now c.empty-map.result c.in-Ok.prepared.entry c.run_graph-machine.result.machine (deliveries_of c.run_graph-machine.result.taken.items) c.end_generated-status.result
