@@ -1,10 +1,10 @@
 // A site of forty modules in three packages under an import map with a scope.
 ghost use Rattle.std.specs.Prelude.{◌≡◌, ◌<◌, ◌≤◌, [], All, IfOk, vec_len};
 
-use crate::helpers::{files, words};
 use esm_base::{Memory, Status, Text};
 use esm_ports::{AskKind, MemSink, MemSource, Source, SureSink, SureSource};
 use esm_run::run;
+use esm_sites::{files, words};
 use std::alloc::Global;
 
 const COMMAND: &str = "run https://shop.test/ app/main.js --map map.json";
