@@ -7,6 +7,8 @@ ghost use Rattle.esm_base.specs.declared.status.Status.TheVariants.{WriteFault};
 #[cfg(test)]
 mod gates;
 #[cfg(test)]
+mod generated;
+#[cfg(test)]
 mod graphs;
 #[cfg(test)]
 mod maps;
