@@ -1,10 +1,10 @@
 // Runs over generated input: a summary is written in place of the log, and neither desk nor sources are asked.
 ghost use Rattle.std.specs.Prelude.{◌≡◌, ◌<◌, ◌-◌, ◌^◌, [], ◌∷◌, All};
 
-use crate::helpers::{sure, words};
 use esm_base::{Memory, Status};
 use esm_ports::{MemSink, SureSink, SureSource};
 use esm_run::{RunReport, run};
+use esm_sites::{sure, words};
 use std::alloc::Global;
 use std::marker::Sync;
 use std::sync::Wait;

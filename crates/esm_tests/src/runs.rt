@@ -1,11 +1,11 @@
 // Whole runs, from the words to the bytes.
 ghost use Rattle.std.specs.Prelude.{◌≡◌, ◌<◌, ◌-◌, ◌^◌, [], ◌∷◌, All};
 
-use crate::helpers::{COMMAND, failing, site, sure, words};
 use esm_ast::Outcome;
 use esm_base::{Memory, Status};
 use esm_ports::{MemSink, Source, SureSink, SureSource};
 use esm_run::run;
+use esm_sites::{COMMAND, failing, site, sure, words};
 use std::alloc::Global;
 use std::marker::Sync;
 use std::sync::Wait;

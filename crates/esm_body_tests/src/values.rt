@@ -1,7 +1,6 @@
 // Worked bodies: values, their display texts and operators, and the order of evaluation.
-use crate::graphs::first_wrong;
-use crate::sites::Row;
 use esm_base::{Memory, Status};
+use esm_sites::{Row, first_wrong};
 
 /// What is printed.
 const PRINTED: &[Row] = &[

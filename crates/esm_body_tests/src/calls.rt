@@ -1,7 +1,6 @@
 // Worked bodies: calls, errors, throws and what takes them.
-use crate::graphs::first_wrong;
-use crate::sites::Row;
 use esm_base::{Memory, Status};
+use esm_sites::{Row, first_wrong};
 
 /// Calls.
 const CALLS: &[Row] = &[

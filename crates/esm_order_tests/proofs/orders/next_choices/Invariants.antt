@@ -1,5 +1,5 @@
 use Rattle.std.proofs.Common.{vec_len}
-use Rattle.esm_tests.proofs.orders.next_choices.Given as goal
+use Rattle.esm_order_tests.proofs.orders.next_choices.Given as goal
 
 abbrev pub invariant-loop-choice : goal.invariant-loop-choice
 invariant-loop-choice l = Unit {0}

@@ -1,7 +1,7 @@
 // Worked sites of each kind, each run in every order in which its fetches may end.
 use crate::orders::first_wrong_order;
-use crate::sites::Row;
 use esm_base::{Memory, Status};
+use esm_sites::Row;
 
 // Names that another module declares.
 const LIVE: &[Row] = &[

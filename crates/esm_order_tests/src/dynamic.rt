@@ -1,7 +1,7 @@
 // Worked sites with `import()`.
 use crate::orders::first_wrong_order;
-use crate::sites::Row;
 use esm_base::{Memory, Status};
+use esm_sites::Row;
 
 /// Modules that load, or are there.
 const LOADS: &[Row] = &[

@@ -4,15 +4,13 @@ ghost use Rattle.esm_machine.specs.Machine.{state_of};
 ghost use Rattle.esm_machine.specs.Represents.{MayTake};
 
 use crate::dynamic::RACES;
-use crate::graphs::run_over;
-use crate::helpers::site;
-use crate::sites::{Row, SITES};
 use esm_ast::Outcome;
 use esm_base::{Memory, Status, Text};
 use esm_import_map::ImportMap;
 use esm_machine::{Machine, TurnEnd};
 use esm_ports::SureSink;
 use esm_run::Delivery;
+use esm_sites::{Row, SITES, run_over, site};
 use std::alloc::Global;
 use std::marker::Sync;
 use std::sync::{Arc, Wait};
@@ -182,9 +180,48 @@ pub fn first_wrong_order<R: Threads + Wait + Sync>(
     }
 }
 
+/// A site that writes another text where its fetches end in another order.
+const UNORDERED: &[Row] = &[Row {
+    name: "two files that nothing else imports",
+    files: &[
+        ("main.js", r#"import("./a.js"); import("./b.js");"#),
+        ("a.js", r#"print("A");"#),
+        ("b.js", r#"print("B");"#),
+    ],
+    output: "A\nB\n",
+    status: Status::Fulfilled,
+}];
+
+#[test]
+fn a_site_whose_orders_differ_is_found(rt: HostRuntime) -> Result<(), Memory> {
+    let found = first_wrong_order(&rt, rt.alloc(), UNORDERED, 2)?;
+    assert_eq!(rt; found, Some("two files that nothing else imports"));
+    Ok(())
+}
+
+#[test]
+fn orders_are_counted(rt: HostRuntime) -> Result<(), Memory> {
+    let found = first_wrong_order(&rt, rt.alloc(), SITES, 16)?;
+    assert_eq!(rt; found, Some("the number of orders"));
+    Ok(())
+}
+
 #[test]
 fn sites_run_the_same_in_every_order(rt: HostRuntime) -> Result<(), Memory> {
     assert_eq!(rt; first_wrong_order(&rt, rt.alloc(), SITES, 17)?, None);
+    Ok(())
+}
+
+#[test]
+fn one_worker_delivers_in_the_order_of_asking(rt: HostRuntime) -> Result<(), Memory> {
+    let alloc = rt.alloc();
+    for race in RACES {
+        let mut out = SureSink::new(alloc);
+        let report = run_over(&rt, alloc, site(alloc, race.files)?, &mut out)?;
+        assert_eq!(rt; report.status, Status::Fulfilled, "{}", race.name);
+        let (_, output) = &race.runs[0];
+        assert!(rt; out.written() == output.as_bytes(), "{}", race.name);
+    }
     Ok(())
 }
 

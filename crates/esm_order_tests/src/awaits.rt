@@ -1,7 +1,7 @@
 // Worked graphs of modules that await.
 use crate::orders::first_wrong_order;
-use crate::sites::Row;
 use esm_base::{Memory, Status};
+use esm_sites::Row;
 
 /// Bodies that await, and diamonds.
 const AWAITS: &[Row] = &[

@@ -1,7 +1,7 @@
 use Rattle.std.proofs.Common.{arith}
 use Rattle.esm_machine.specs.Machine.{state_of}
-use Rattle.esm_tests.proofs.OrderLemmas.{may_take}
-use Rattle.esm_tests.proofs.orders.ask_at.Goals as goal
+use Rattle.esm_order_tests.proofs.OrderLemmas.{may_take}
+use Rattle.esm_order_tests.proofs.orders.ask_at.Goals as goal
 
 pub returns : goal.returns
 returns c =

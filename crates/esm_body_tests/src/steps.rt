@@ -1,8 +1,7 @@
 // Worked bodies that take as many steps as they may, and one more.
-use crate::graphs::run_over;
-use crate::helpers::add_named;
 use esm_base::{Memory, Status};
 use esm_ports::SureSink;
+use esm_sites::{add_named, run_over};
 use std::alloc::Global;
 use std::marker::Sync;
 use std::sync::Wait;

@@ -1,7 +1,6 @@
 // Worked bodies: names, scopes and imports.
-use crate::graphs::first_wrong;
-use crate::sites::Row;
 use esm_base::{Memory, Status};
+use esm_sites::{Row, first_wrong};
 
 /// The order of evaluation.
 const ORDERS: &[Row] = &[

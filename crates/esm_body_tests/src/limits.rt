@@ -1,10 +1,9 @@
 // Texts and sites that reach a limit, and those that just don't.
-use crate::graphs::run_over;
-use crate::helpers::{COMMAND, add_named, site, sure, words};
 use crate::steps::push_times;
 use esm_base::{Memory, Status, Text};
 use esm_ports::SureSink;
 use esm_run::run;
+use esm_sites::{COMMAND, add_named, run_over, site, sure, words};
 use std::alloc::Global;
 use std::marker::Sync;
 use std::sync::Wait;
