@@ -1,14 +1,18 @@
 // Single calls of the module map by one caller, and a worker that comes to a map that is shut.
-ghost use Rattle.std.specs.Prelude.{◌≡◌, ◌<◌, [], IfOk};
+ghost use Rattle.std.specs.Prelude.{◌≡◌, ◌<◌, [], IfOk, OnOk, None};
+ghost use Rattle.esm_hlock.specs.Words.{knows, IsPassOf};
 ghost use Rattle.esm_module_map.specs.Views.{view_in, table_of};
-ghost use Rattle.esm_module_map.specs.Saying.{SaysNothing};
+ghost use Rattle.esm_module_map.specs.Saying.{IsOrderIn, SaysNothing};
 ghost use Rattle.esm_fetch.specs.Serving.{weight};
 
 use esm_base::{Text, is_usable};
 use esm_fetch::{Bell, Posted, WorkerEnd, worker};
+use esm_hlock::Pass;
 use esm_import_map::ImportMap;
-use esm_module_map::{Asked, Caller, MapEnd, MapEvent, ModuleMap, Payload, Taken, Why};
-use esm_ports::{MemSource, Source};
+use esm_module_map::{
+    Asked, Caller, MapEnd, MapEvent, MapState, ModuleMap, Order, Payload, Taken, Why, laws,
+};
+use esm_ports::MemSource;
 use std::alloc::Global;
 use std::sync::{Arc, Wait};
 use std::test::Fail;
@@ -35,6 +39,25 @@ impl Payload for Body {
     }
 }
 
+// A caller that has just enrolled.
+fn enrolled<R: Wait, P: Payload>(
+    rt: &R,
+    map: &ModuleMap<P>,
+    pass: Pass<MapState<P>>,
+) -> Result<Caller<P>, Fail>
+    requires own { IsPassOf map.now.lock pass }
+    requires none { (knows pass).number ≡ None }
+    ensures own { IfOk result (λ c. table_of map.now.lock.table.shared.table_id c.pass
+        ≡ map.now.lock.table.shared.table_id) }
+    ensures shares { IfOk result (λ c. (view_in c.pass).shares ≡ (knows pass).shares) }
+    ensures fresh { IfOk result (λ c. SaysNothing P.weight c.number (view_in c.pass).seen) }
+{
+    match map.enrol(rt, pass) {
+        Ok(caller) => Ok(caller),
+        Err(_pass) => Err("no caller".into()),
+    }
+}
+
 // The text of an ask's answer, and its number.
 fn told(answer: Result<Asked, MapEnd>) -> (&'static str, u32) {
     match answer {
@@ -47,7 +70,7 @@ fn told(answer: Result<Asked, MapEnd>) -> (&'static str, u32) {
     }
 }
 
-// Asks for a URL, as wanted.
+// Asks for the URL, as wanted.
 fn ask<R: Wait, P: Payload>(
     rt: &R,
     alloc: Global,
@@ -64,6 +87,55 @@ fn ask<R: Wait, P: Payload>(
         return Err("no usable URL".into());
     }
     Ok(told(map.ask(rt, caller, &url, Why::Wanted)))
+}
+
+// A caller that has an order finds nothing more to take.
+fn takes_nothing<R: Wait, P: Payload>(
+    rt: &R,
+    alloc: Global,
+    map: &ModuleMap<P>,
+    caller: &mut Caller<P>,
+    order: &Order,
+) -> Result<(), Fail>
+    requires own { table_of map.now.lock.table.shared.table_id caller.old.pass
+        ≡ map.now.lock.table.shared.table_id }
+    requires order { IsOrderIn P.weight (view_in caller.old.pass).seen caller.old.number
+        order.now.number order.now.url }
+    ensures own { table_of map.now.lock.table.shared.table_id caller.new.pass
+        ≡ map.now.lock.table.shared.table_id }
+    ensures order { OnOk result (IsOrderIn P.weight (view_in caller.new.pass).seen
+        caller.new.number order.now.number order.now.url) }
+{
+    laws::orders_stay::<P>();
+    laws::urls_stay::<P>();
+    match map.take(rt, alloc, caller) {
+        Ok(Taken::NotYet) => Ok(()),
+        _ => Err("the second take isn't NotYet".into()),
+    }
+}
+
+// A caller that has an order finds nothing posted under its number.
+fn finds_nothing<R: Wait, P: Payload>(
+    rt: &R,
+    map: &ModuleMap<P>,
+    caller: &mut Caller<P>,
+    order: &Order,
+) -> Result<(), Fail>
+    requires own { table_of map.now.lock.table.shared.table_id caller.old.pass
+        ≡ map.now.lock.table.shared.table_id }
+    requires order { IsOrderIn P.weight (view_in caller.old.pass).seen caller.old.number
+        order.now.number order.now.url }
+    ensures own { table_of map.now.lock.table.shared.table_id caller.new.pass
+        ≡ map.now.lock.table.shared.table_id }
+    ensures order { OnOk result (IsOrderIn P.weight (view_in caller.new.pass).seen
+        caller.new.number order.now.number order.now.url) }
+{
+    laws::orders_stay::<P>();
+    laws::urls_stay::<P>();
+    match map.entry(rt, caller, order.number()) {
+        Ok(None) => Ok(()),
+        _ => Err("something is posted".into()),
+    }
 }
 
 // The kind of an event.
@@ -93,11 +165,8 @@ fn one_caller_makes_a_history_of_eight_events(rt: HostRuntime) -> Result<(), Fai
     let alloc = rt.alloc();
     let payload = Arc::new(alloc, Body { bytes: 7 })?;
     let guide = Arc::new(alloc, 0)?;
-    let (map, pass) = ModuleMap::new(alloc, guide)?;
-    let enrolled = map.enrol(&rt, pass);
-    let Ok(mut caller) = enrolled else {
-        return Err("no caller".into());
-    };
+    let (map, pass) = ModuleMap::<Body>::new(alloc, guide)?;
+    let mut caller = enrolled(&rt, &map, pass)?;
     assert_eq!(rt; caller.number(), 0);
     assert_eq!(rt; ask(&rt, alloc, &map, &mut caller)?, ("New", 0));
     assert_eq!(rt; ask(&rt, alloc, &map, &mut caller)?, ("Waiting", 0));
@@ -107,9 +176,8 @@ fn one_caller_makes_a_history_of_eight_events(rt: HostRuntime) -> Result<(), Fai
     };
     assert_eq!(rt; order.number(), 0);
     assert!(rt; order.url().is(URL));
-    let again = map.take(&rt, alloc, &mut caller)?;
-    assert!(rt; matches!(&again, Taken::NotYet));
-    assert!(rt; map.entry(&rt, &mut caller, 0)?.is_none());
+    takes_nothing(&rt, alloc, &map, &mut caller, &order)?;
+    finds_nothing(&rt, &map, &mut caller, &order)?;
     map.post(&rt, &mut caller, order, payload);
     let posted = map.entry(&rt, &mut caller, 0)?.ok_or("nothing is posted")?;
     assert_eq!(rt; posted.bytes, 7);
@@ -147,18 +215,12 @@ fn begin<R: Wait>(
 fn a_worker_asks_nothing_where_the_map_is_shut(rt: HostRuntime) -> Result<(), Fail> {
     let alloc = rt.alloc();
     let guide = Arc::new(alloc, ImportMap::empty(alloc))?;
-    let (modules, pass) = ModuleMap::new(alloc, guide)?;
-    let enrolled = modules.enrol(&rt, pass);
-    let Ok(mut main) = enrolled else {
-        return Err("no caller".into());
-    };
+    let (modules, pass) = ModuleMap::<Posted>::new(alloc, guide)?;
+    let mut main = enrolled(&rt, &modules, pass)?;
+    let pass = modules.split(&mut main);
+    let caller = enrolled(&rt, &modules, pass)?;
     assert_eq!(rt; ask(&rt, alloc, &modules, &mut main)?, ("New", 0));
     modules.shut(&rt, &mut main);
-    let pass = modules.split(&mut main);
-    let another = modules.enrol(&rt, pass);
-    let Ok(caller) = another else {
-        return Err("no second caller".into());
-    };
     let source = MemSource::new(alloc, Vec::new(alloc), Vec::new(alloc))?;
     let end = begin(&rt, alloc, &modules, caller, source);
     assert!(rt; !end.short);
