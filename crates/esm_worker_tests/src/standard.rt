@@ -14,7 +14,7 @@ use std::sync::Arc;
 
 /// How a run ends: its status, and all that it writes.
 #[derive(Drop)]
-pub struct Ended {
+pub struct RunEnd {
     /// The status.
     pub status: Status,
     /// What is written.
@@ -58,7 +58,7 @@ fn deliver(machine: &mut Machine, delivery: &Delivery) -> Result<bool, Memory> {
 }
 
 // The status and the text of a run that has ended.
-fn ended(alloc: Global, machine: &Machine) -> Result<Option<Ended>, Memory> {
+fn ended(alloc: Global, machine: &Machine) -> Result<Option<RunEnd>, Memory> {
     let Some(status) = machine.end() else {
         return Ok(None);
     };
@@ -68,12 +68,12 @@ fn ended(alloc: Global, machine: &Machine) -> Result<Option<Ended>, Memory> {
         text.extend_from_slice(last.as_str().as_bytes())?;
         text.push(b'\n')?;
     }
-    Ok(Some(Ended { status, text }))
+    Ok(Some(RunEnd { status, text }))
 }
 
 /// How the standard run of these deliveries ends; none where one of them is no open ask in its turn, or an ask is open
 /// behind them.
-pub fn standard_end(alloc: Global, taken: &[Delivery]) -> Result<Option<Ended>, Memory> {
+pub fn standard_end(alloc: Global, taken: &[Delivery]) -> Result<Option<RunEnd>, Memory> {
     let mut machine = new_machine(alloc)?;
     for delivery in taken {
         if !deliver(&mut machine, delivery)? {
