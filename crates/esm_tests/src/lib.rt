@@ -13,6 +13,8 @@ mod dynamic;
 #[cfg(test)]
 mod gates;
 #[cfg(test)]
+mod generated;
+#[cfg(test)]
 mod graphs;
 #[cfg(test)]
 mod helpers;

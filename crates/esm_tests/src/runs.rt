@@ -163,7 +163,7 @@ fn words_that_are_no_command_are_told(rt: HostRuntime) -> Result<(), Memory> {
         "run https://a.test/ main.js --trace --trace",
         "run https://a.test/ main.js --workers 0",
         "run https://a.test/ --help",
-        "gen 1 3",
+        "gen 1 3 --trace",
     ] {
         assert!(rt;
             is_written(&rt, alloc, line, Some(""), USAGE, Status::Usage)?,
