@@ -68,7 +68,11 @@ fn first_wrong<R: Threads + Wait + Sync + Send + Clone + Drop + Clock>(
 fn a_run_is_the_standard_run_of_its_order(rt: HostRuntime) -> Result<(), Memory> {
     let alloc = rt.alloc();
     for workers in [1u64, 2, 4, 16] {
-        assert_eq!(rt; first_wrong(&rt, alloc, SITES, workers, 0)?, None, "{workers} workers");
+        assert_eq!(rt;
+            first_wrong(&rt, alloc, SITES, workers, 0)?,
+            None,
+            "{workers} workers"
+        );
     }
     Ok(())
 }

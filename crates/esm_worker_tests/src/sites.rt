@@ -13,7 +13,10 @@ pub const SITES: &[Site] = &[
     Site {
         name: "a tree of seven modules",
         files: &[
-            ("main.js", r#"import "./a.js"; import "./b.js"; print("m");"#),
+            (
+                "main.js",
+                r#"import "./a.js"; import "./b.js"; print("m");"#,
+            ),
             ("a.js", r#"import "./c.js"; import "./d.js"; print("a");"#),
             ("b.js", r#"import "./e.js"; import "./f.js"; print("b");"#),
             ("c.js", r#"print("c");"#),
