@@ -1,0 +1,3 @@
+pub mod StandardLemmas
+pub mod WorkerLemmas
+pub mod OrderLemmas
