@@ -1,0 +1,5 @@
+pub mod Pushed
+pub mod Made
+pub mod Found
+pub mod Steps
+pub mod Linked
