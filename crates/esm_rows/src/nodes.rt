@@ -1,9 +1,10 @@
 // The nodes of a tree, for every number.
 ghost use Rattle.std.specs.Prelude.{◌≡◌, ◌∷◌, List};
-ghost use Rattle.esm_tree.specs.Syntax.{Expr};
-ghost use Rattle.esm_tree.specs.Flat.{expr_of, links, part};
+ghost use Rattle.esm_tree.specs.Syntax.{Expr, Stmt};
+ghost use Rattle.esm_tree.specs.Flat.{expr_of, links, part, stmt_of, stmt_part, stmt_parts};
 ghost use Rattle.esm_rows.specs.Making.{link_name, member_name};
 ghost use Rattle.esm_rows.specs.Drafts.{IsExprAt, IsStmtAt};
+ghost use Rattle.esm_rows.specs.Working.{first_block};
 
 use esm_tree::{ExprId, ExprNode, Link, StmtId, StmtNode, Tree};
 
@@ -82,5 +83,40 @@ pub(crate) fn member_text(tree: &Tree, id: ExprId, at: usize) -> &str
     match expr_at(tree, id) {
         Some(node) => node_member(node, at),
         None => "",
+    }
+}
+
+/// The statements of the first block of an `if`, or of the block of a `try`.
+fn node_first(node: &StmtNode) -> &[StmtId]
+    ensures { (exprs : List Expr) → (stmts : List Stmt) → stmt_parts stmts result.now
+        ≡ first_block (stmt_of exprs stmts node.now) }
+{
+    match node {
+        StmtNode::If(_, ids) => ids.as_slice(),
+        StmtNode::IfElse(_, ids, _) => ids.as_slice(),
+        StmtNode::Try(ids, _) => ids.as_slice(),
+        StmtNode::TryCatch(ids, _, _) => ids.as_slice(),
+        StmtNode::Empty => &[],
+        StmtNode::Expression(_) => &[],
+        StmtNode::Assign(_, _) => &[],
+        StmtNode::Block(_) => &[],
+        StmtNode::Throw(_) => &[],
+        StmtNode::Return => &[],
+        StmtNode::ReturnValue(_) => &[],
+        StmtNode::Await(_) => &[],
+        StmtNode::PrintAwait(_) => &[],
+        StmtNode::Const(_) => &[],
+        StmtNode::Let(_) => &[],
+        StmtNode::Default(_) => &[],
+    }
+}
+
+/// The same of the statement with this number.
+pub(crate) fn first_ids(tree: &Tree, id: StmtId) -> &[StmtId]
+    ensures { stmt_parts tree.now.stmts result.now ≡ first_block (stmt_part tree.now.stmts id) }
+{
+    match stmt_at(tree, id) {
+        Some(node) => node_first(node),
+        None => &[],
     }
 }

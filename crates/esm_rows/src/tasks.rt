@@ -122,11 +122,7 @@ pub(crate) fn push_and(
 }
 
 /// Operands of `+`.
-pub(crate) fn push_sum(
-    tasks: &mut Vec<Task>,
-    first: ExprId,
-    others: &ExprIds,
-) -> Result<(), Memory>
+pub(crate) fn push_sum(tasks: &mut Vec<Task>, first: ExprId, others: &ExprIds) -> Result<(), Memory>
     ensures { OnOk result (tasks.new.items ≡ tasks.old.items
         ++ Task.Part first ∷ flat_map sum_tasks others.now.items) }
 {
