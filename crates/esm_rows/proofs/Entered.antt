@@ -1,10 +1,10 @@
 -- The names of blocks: one after another, and as blocks are entered and left.
-use Rattle.std.proofs.Common.{◌≡◌, ◌≤◌, ◌<◌, ℕ, zero, suc, ◌+◌, List, [], ◌∷◌, ◌++◌, length, drop, refl, ap, subst, sym, ◌∙◌, get_or, append_assoc, arith}
-use Rattle.std.specs.Prelude.{Option, None, Some, MatchOption, option_to_list, Bool}
+use Rattle.std.proofs.Common.{◌≡◌, ◌≤◌, ◌<◌, ℕ, ◌+◌, List, [], ◌∷◌, ◌++◌, length, drop, refl, ap, sym, ◌∙◌, get_or, append_assoc, arith}
+use Rattle.std.specs.Prelude.{Option, None, Some, MatchOption, option_to_list}
 use Rattle.std.proofs.lemmas.List.{drop_more, append-nil}
 use Rattle.std.proofs.Math.ListN.{drop_of_length-le}
-use Rattle.esm_tree.specs.Syntax.{Expr, Stmt}
-use Rattle.esm_tree.specs.Flat.{bindings_of, init_of, stmt_parts}
+use Rattle.esm_tree.specs.Syntax.{Expr}
+use Rattle.esm_tree.specs.Flat.{bindings_of, init_of}
 use Rattle.esm_tree.specs.declared.node.LexicalBinding.{LexicalBinding}
 use Rattle.esm_env.specs.Declarations.{Declaration}
 use Rattle.esm_rows.specs.Rows.{Row, Names, init_row, bindings_row, set_by, found_here}

@@ -3,7 +3,7 @@ use Rattle.std.proofs.Common.{◌≡◌, ℕ, List, [], ◌∷◌, subst}
 use Rattle.std.specs.Prelude.{Option, None, Some}
 use Rattle.esm_tree.specs.Syntax.{Parts}
 use Rattle.esm_env.specs.Declarations.{FunctionCode, function_at}
-use Rattle.esm_rows.specs.Functions.{IsRow, IsRowOf, IsFirstRow}
+use Rattle.esm_rows.specs.Functions.{IsRowOf, IsFirstRow}
 use Rattle.esm_rows.specs.declared.row.Row.{Row}
 
 one_row : (owns : List (List ℕ)) (tree : Parts) (index : ℕ) (f : FunctionCode) → function_at tree.items index ≡ Some f → (row : Option Row) → IsFirstRow owns (f ∷ []) row → IsRowOf owns tree index row

@@ -2,13 +2,13 @@
 use Rattle.std.proofs.Common.{◌≡◌, ℕ, zero, suc, ◌+◌, Bool, List, [], ◌∷◌, ◌++◌, length, refl, ap, subst, sym, ◌∙◌, arith}
 use Rattle.std.specs.List.{flat_map}
 use Rattle.esm_tree.specs.Syntax as x
-use Rattle.esm_tree.specs.Syntax.{Expr, Links, Exprs}
+use Rattle.esm_tree.specs.Syntax.{Expr}
 use Rattle.esm_tree.specs.Flat.{part, links, compared_parts}
 use Rattle.esm_tree.specs.Flat.{parts as expr_parts}
 use Rattle.esm_tree.specs.declared.node.ExprId.{ExprId}
 use Rattle.esm_tree.specs.declared.node.Link.{Link}
 use Rattle.esm_tree.specs.declared.node.Link.TheVariants as link
-use Rattle.esm_rows.specs.Rows.{Operation, Row, Names, among, expr_row, exprs_row, ors_row, ands_row, links_row}
+use Rattle.esm_rows.specs.Rows.{Row, Names, among, expr_row, exprs_row, ors_row, ands_row, links_row}
 use Rattle.esm_rows.specs.Rows.{Operation as o}
 use Rattle.esm_rows.specs.declared.op.Op.{Op}
 use Rattle.esm_rows.specs.declared.op.Op.TheVariants as op

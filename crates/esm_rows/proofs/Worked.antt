@@ -1,17 +1,15 @@
 -- Statements one after another: what is there leads on to what is there then.
-use Rattle.std.proofs.Common.{◌≡◌, ℕ, zero, suc, ◌+◌, List, [], ◌∷◌, ◌++◌, length, refl, ap, subst, sym, ◌∙◌, append_assoc, arith}
+use Rattle.std.proofs.Common.{◌≡◌, ℕ, ◌+◌, List, [], ◌∷◌, ◌++◌, length, refl, ap, subst, sym, ◌∙◌, append_assoc, arith}
 use Rattle.std.specs.List.{flat_map}
-use Rattle.std.specs.Prelude.{Option, None, Some, true, false}
-use Rattle.esm_tree.specs.Syntax as x
+use Rattle.std.specs.Prelude.{None, Some, true, false}
 use Rattle.esm_tree.specs.Syntax.{Expr, Stmt, Stmts}
-use Rattle.esm_tree.specs.Flat.{part, stmt_part, stmt_parts}
-use Rattle.esm_tree.specs.declared.node.ExprId.{ExprId}
+use Rattle.esm_tree.specs.Flat.{stmt_parts}
 use Rattle.esm_tree.specs.declared.node.StmtId.{StmtId}
 use Rattle.esm_env.specs.Declarations.{Declaration, declared_in}
-use Rattle.esm_rows.specs.Rows.{Operation, Row, Names, expr_row, stmts_row, block_row, handler_row, caught_names}
+use Rattle.esm_rows.specs.Rows.{Row, Names, stmts_row, block_row, handler_row, caught_names}
 use Rattle.esm_rows.specs.Rows.{Operation as o}
 use Rattle.esm_rows.specs.Making.{AreTold, plain}
-use Rattle.esm_rows.specs.Working.{Amid, amid, outer, first_block, inner_row, first_row, tried_row, work_row, work_names, after_work, undone_works, statement_works, IsPlainOp, IsPlainWork, ArePlainWorks, Owes}
+use Rattle.esm_rows.specs.Working.{Amid, amid, inner_row, first_row, tried_row, work_row, work_names, after_work, undone_works, statement_works, IsPlainOp, IsPlainWork, ArePlainWorks, Owes}
 use Rattle.esm_rows.specs.declared.op.Op.{Op}
 use Rattle.esm_rows.specs.declared.op.Op.TheVariants as op
 use Rattle.esm_rows.specs.declared.works.Work.{Work}

@@ -1,5 +1,5 @@
 -- Statements by what is still to be put in front: the last is next.
-use Rattle.std.specs.Prelude.{◌≡◌, ℕ, List, [], ◌∷◌, ◌++◌, length}
+use Rattle.std.specs.Prelude.{◌≡◌, ℕ, List, [], ◌∷◌, ◌++◌}
 use Rattle.esm_tree.specs.Syntax as x
 use Rattle.esm_tree.specs.Syntax.{Expr, Stmt, Stmts, nothing}
 use Rattle.esm_tree.specs.Flat.{part, stmt_part}

@@ -1,5 +1,5 @@
 // The names of the blocks round a place, as they are entered and left.
-ghost use Rattle.std.specs.Prelude.{◌≡◌, ◌+◌, ◌++◌, ◌∷◌, [], List, ℕ, Some, IfOk, OnOk, length, map};
+ghost use Rattle.std.specs.Prelude.{◌≡◌, ◌+◌, ◌++◌, ◌∷◌, [], List, Some, IfOk, OnOk, length, map};
 ghost use Rattle.esm_tree.specs.Syntax.{Expr, Stmt};
 ghost use Rattle.esm_tree.specs.Flat.{bindings_of, stmt_of, stmt_parts};
 ghost use Rattle.esm_env.specs.Declarations.{declared_by, declared_in, declares};

@@ -1,5 +1,5 @@
 // The rows of statements without others in them, with their steps.
-ghost use Rattle.std.specs.Prelude.{◌∷◌, OnOk, List};
+ghost use Rattle.std.specs.Prelude.{◌∷◌, OnOk};
 ghost use Rattle.esm_base.specs.DefaultExport.{star_default};
 ghost use Rattle.esm_tree.specs.Syntax as x;
 ghost use Rattle.esm_tree.specs.Flat.{bindings_of, init_of, part};

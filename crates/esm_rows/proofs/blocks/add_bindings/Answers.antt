@@ -1,7 +1,6 @@
-use Rattle.std.proofs.Common.{List, [], ◌∷◌, refl}
+use Rattle.std.proofs.Common.{[], ◌∷◌, refl}
 use Rattle.esm_tree.specs.Flat.{bindings_of}
-use Rattle.esm_tree.specs.declared.node.LexicalBinding.{LexicalBinding}
-use Rattle.esm_env.specs.Declarations.{Declaration, declared_by}
+use Rattle.esm_env.specs.Declarations.{declared_by}
 use Rattle.esm_rows.proofs.Entered.{goes, ends}
 use Rattle.esm_rows.proofs.blocks.add_bindings.Goals as goal
 

@@ -1,4 +1,3 @@
-use Rattle.std.proofs.Common.{[], ◌∷◌}
 use Rattle.std.proofs.lemmas.List.{map-append}
 use Rattle.esm_rows.specs.Locals.{declaration}
 use Rattle.esm_rows.proofs.blocks.add_name.Goals as goal

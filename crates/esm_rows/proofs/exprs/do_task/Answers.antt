@@ -1,7 +1,6 @@
-use Rattle.std.proofs.Common.{refl}
 use Rattle.std.proofs.lemmas.Result.{on_ok_weaker}
 use Rattle.esm_rows.specs.Locals.{names_of}
-use Rattle.esm_rows.specs.Making.{plain, member_name}
+use Rattle.esm_rows.specs.Making.{plain}
 use Rattle.esm_rows.specs.declared.tasks.Task.TheVariants as task
 use Rattle.esm_rows.proofs.Steps.{after, plain_last}
 use Rattle.esm_rows.proofs.exprs.do_task.Goals as goal

@@ -1,10 +1,9 @@
-use Rattle.std.proofs.Common.{◌≡◌, [], ◌∷◌, subst}
-use Rattle.std.specs.Prelude.{Option, None, Some}
+use Rattle.std.proofs.Common.{[]}
 use Rattle.std.specs.Arc.{arc_value}
 use Rattle.std.proofs.lemmas.Result.{IfOk-weaker}
 use Rattle.esm_tree.specs.Flat.{item_of}
 use Rattle.esm_env.specs.Declarations.{functions_by}
-use Rattle.esm_rows.specs.Functions.{IsRow, IsRowOf, IsFirstRow}
+use Rattle.esm_rows.specs.Functions.{IsRowOf, IsFirstRow}
 use Rattle.esm_rows.proofs.Lowered.{of_item}
 use Rattle.esm_rows.proofs.lowering.lower.Goals as goal
 

@@ -1,11 +1,10 @@
-use Rattle.std.proofs.Common.{◌≡◌, [], ◌∷◌, ◌++◌, ◌+◌, length, subst, ap, sym, ◌∙◌, arith, length-append}
+use Rattle.std.proofs.Common.{[], ◌∷◌, ◌++◌, ◌+◌, length, subst, ap, ◌∙◌, arith, length-append}
 use Rattle.std.specs.Prelude.{map}
 use Rattle.std.proofs.lemmas.List.{length-map}
 use Rattle.esm_tree.specs.Flat.{stmt_parts}
 use Rattle.esm_env.specs.Declarations.{declared_in}
 use Rattle.esm_rows.specs.Rows.{Operation as o}
 use Rattle.esm_rows.specs.Rows.{parameter, stmts_row}
-use Rattle.esm_rows.specs.Locals.{declared}
 use Rattle.esm_rows.specs.Making.{AreTold}
 use Rattle.esm_rows.proofs.lowering.row_of.Goals as goal
 

@@ -1,6 +1,5 @@
-use Rattle.std.proofs.Common.{refl, ap, ◌∙◌}
-use Rattle.esm_rows.specs.Locals.{declared}
-use Rattle.esm_rows.specs.Rows.{found_here, found_among}
+use Rattle.std.proofs.Common.{refl}
+use Rattle.esm_rows.specs.Rows.{found_here}
 use Rattle.esm_rows.proofs.Found.{begins, looks, looked, here_more}
 use Rattle.esm_rows.proofs.names.find_here.Goals as goal
 

@@ -1,4 +1,4 @@
-use Rattle.std.proofs.Common.{◌≤◌, length, arith}
+use Rattle.std.proofs.Common.{arith}
 use Rattle.std.proofs.lemmas.List.{get_or_past}
 use Rattle.esm_tree.specs.Syntax as x
 use Rattle.esm_rows.proofs.nodes.stmt_at.Goals as goal

@@ -1,4 +1,4 @@
-use Rattle.std.proofs.Common.{◌≤◌, ◌-◌, length, refl, subst, arith}
+use Rattle.std.proofs.Common.{◌≤◌, ◌-◌, length, subst, arith}
 use Rattle.std.proofs.Math.ListN.{drop_of_length-le}
 use Rattle.esm_rows.specs.Drafts.{IsDraft}
 use Rattle.esm_rows.specs.Locals.{names_of}
@@ -15,6 +15,3 @@ loop-at-preserved c =
     let a = c.loop-at.auto.at in
     let b = c.loop-at-test.true in
     λ row told. subst (λ r. IsDraft c.put_declared.new.draft r) (binding_goes (names_of c.args.blocks.now) c.args.tree.now.exprs c.args.bindings.now (c.loop-at.at - 1) c.loop-at.at c.index-bindings-at.result row c.index-bindings-at.is (omega (arith, b)) (omega (arith, a, b))) (rw c.as_str.ensures.value at (c.in_ok-put_declared.ensures _ (c.loop-at.invariant row told)))
-
-pub returns : goal.returns
-returns c = c.loop-at.invariant

@@ -1,5 +1,4 @@
-use Rattle.std.proofs.Common.{[], ◌∷◌, ap, ◌∙◌, ◌≡◌, length}
-use Rattle.std.specs.Prelude.{slice_get, Some}
+use Rattle.std.proofs.Common.{[], ◌∷◌, ap, ◌∙◌, length}
 use Rattle.esm_rows.proofs.Made.{same, behind}
 use Rattle.esm_rows.proofs.draft.Draft.add_text.Goals as goal
 

@@ -1,8 +1,5 @@
-use Rattle.std.proofs.Common.{◌∷◌, subst}
-use Rattle.std.specs.Prelude.{OnOk}
 use Rattle.esm_rows.specs.Locals.{place_told}
 use Rattle.esm_rows.specs.Rows.{write_by}
-use Rattle.esm_rows.specs.Drafts.{IsDraft}
 use Rattle.esm_rows.proofs.draft.Draft.put_write.Goals as goal
 
 pub returns : goal.returns

@@ -1,18 +1,15 @@
-use Rattle.std.proofs.Common.{[], ◌∷◌, ◌++◌, length, refl, ap, sym, ◌∙◌}
-use Rattle.std.proofs.lemmas.Result.{on_ok_weaker}
-use Rattle.std.proofs.lemmas.List.{append-nil}
+use Rattle.std.proofs.Common.{[], ◌∷◌, ◌++◌, refl, ap, sym, ◌∙◌}
 use Rattle.std.specs.Prelude.{Some}
-use Rattle.esm_tree.specs.Syntax as x
-use Rattle.esm_tree.specs.Flat.{part, stmt_of, stmt_part, stmt_parts, bindings_of, init_of}
+use Rattle.std.specs.Prelude.{true}
+use Rattle.esm_tree.specs.Flat.{stmt_parts}
 use Rattle.esm_env.specs.Declarations.{declared_in}
-use Rattle.esm_rows.specs.Rows.{block_row, caught_names, expr_row, stmt_row}
+use Rattle.esm_rows.specs.Rows.{stmts_row, caught_names}
 use Rattle.esm_rows.specs.Rows.{Operation as o}
-use Rattle.esm_rows.specs.Making.{plain}
 use Rattle.esm_rows.specs.Locals.{declared, names_of}
-use Rattle.esm_rows.specs.Working.{amid, first_block, first_row, tried_row, inner_row}
+use Rattle.esm_rows.specs.Working.{amid, tried_row}
 use Rattle.esm_rows.specs.declared.op.Op.TheVariants as op
 use Rattle.esm_rows.specs.declared.works.Work.TheVariants as w
-use Rattle.esm_rows.proofs.Worked.{pay, shift, owed_as, next, done, opened, plain_last, block_same, first_same, tried_same, handler_same, named_same}
+use Rattle.esm_rows.proofs.Worked.{shift, named_same}
 use Rattle.esm_rows.proofs.maker.Maker.attempt_named.Goals as goal
 
 pub returns : goal.returns
@@ -22,4 +19,4 @@ returns c = λ made ss handler is hs owes.
     let a = rw c.as_slice.ensures.value at c.in_ok-all.ensures in
     let l = c.in_ok-left.ensures owes.row owes.told in
     let same = named_same (names_of c.args.self.now.blocks.items) handler c.args.name.now (declared c.in_ok-block.block.names.items) (stmt_parts c.args.tree.now.stmts c.args.handler.now) d s c.in_ok-all.all c.in_ok-many.many c.in_ok-left.left owes.row a c.in_ok-many.ensures l in
-    c.open.ensures c.args.tree.now.exprs c.args.tree.now.stmts made (λ texts. refl) (λ texts. refl) (shift c.args.tree.now.exprs c.args.tree.now.stmts (w.Put op.Step ∷ w.Tried c.args.id c.in_ok-left.left ∷ []) owes _ owes.row owes.told (λ i. amid (names_of c.args.self.now.blocks.items) (o.Step ∷ tried_row (names_of c.args.self.now.blocks.items) (is i) (l i) (same i))) ((λ texts. refl), (tt, tt)) _ c.in_ok-push_two.ensures)
+    c.open.ensures c.args.tree.now.exprs c.args.tree.now.stmts made (λ texts. refl) (λ texts. refl) (shift c.args.tree.now.exprs c.args.tree.now.stmts (w.Put op.Step ∷ w.Tried c.args.id c.in_ok-left.left ∷ []) owes (λ r. o.Caught true c.in_ok-many.many ∷ stmts_row (declared c.in_ok-block.block.names.items ∷ names_of c.args.self.now.blocks.items) (stmt_parts c.args.tree.now.stmts c.args.handler.now) (o.Leave c.in_ok-all.all c.in_ok-left.left ∷ r)) owes.row owes.told (λ i. amid (names_of c.args.self.now.blocks.items) (o.Step ∷ tried_row (names_of c.args.self.now.blocks.items) (is i) (l i) (same i))) ((λ texts. refl), (tt, tt)) _ c.in_ok-push_two.ensures)

@@ -1,17 +1,9 @@
-use Rattle.std.proofs.Common.{[], ◌∷◌, ◌++◌, length, refl, ap, sym, ◌∙◌}
+use Rattle.std.proofs.Common.{refl, ap, sym}
 use Rattle.std.proofs.lemmas.Result.{on_ok_weaker}
-use Rattle.std.proofs.lemmas.List.{append-nil}
-use Rattle.esm_tree.specs.Syntax as x
-use Rattle.esm_tree.specs.Flat.{part, stmt_of, stmt_part, stmt_parts, bindings_of, init_of}
-use Rattle.esm_env.specs.Declarations.{declared_in}
-use Rattle.esm_rows.specs.Rows.{block_row, expr_row, stmt_row}
+use Rattle.esm_tree.specs.Flat.{stmt_parts}
 use Rattle.esm_rows.specs.Rows.{Operation as o}
-use Rattle.esm_rows.specs.Making.{plain}
-use Rattle.esm_rows.specs.Locals.{declared, names_of}
-use Rattle.esm_rows.specs.Working.{amid, first_block, first_row, tried_row, inner_row}
-use Rattle.esm_rows.specs.declared.op.Op.TheVariants as op
-use Rattle.esm_rows.specs.declared.works.Work.TheVariants as w
-use Rattle.esm_rows.proofs.Worked.{pay, shift, owed_as, next, done, opened, plain_last, block_same, first_same, tried_same, handler_same, named_same}
+use Rattle.esm_rows.specs.Working.{first_block}
+use Rattle.esm_rows.proofs.Worked.{pay}
 use Rattle.esm_rows.proofs.maker.Maker.node.Goals as goal
 
 pub returns-in-Block : goal.returns-in-Block
@@ -27,7 +19,7 @@ pub returns-in-Try : goal.returns-in-Try
 returns-in-Try c = λ made is owes. c.attempt.ensures made _ _ (ap first_block (rw c.in-Try.is at is)) (ap (stmt_parts c.args.tree.now.stmts) (sym c.as_slice-in-Try.ensures.value)) (rw c.in-Try.is at owes)
 
 pub returns-in-TryCatch : goal.returns-in-TryCatch
-returns-in-TryCatch c = λ made is owes. c.attempt_named.ensures made _ _ (ap first_block (rw c.in-TryCatch.is at is)) (ap (stmt_parts c.args.tree.now.stmts) (sym c.as_slice-in-TryCatch.ensures.value)) (rw (← c.as_str.ensures.value) (rw c.in-TryCatch.is at owes))
+returns-in-TryCatch c = λ made is owes. c.attempt_named.ensures made _ _ (ap first_block (rw c.in-TryCatch.is at is)) (ap (stmt_parts c.args.tree.now.stmts) (sym c.as_slice-in-TryCatch.ensures.value)) (rw (c.in-TryCatch.is, ← c.as_str.ensures.value) at owes)
 
 pub returns-in-Empty : goal.returns-in-Empty
 returns-in-Empty c = λ made is owes. let d = (rw c.in-Empty.is at owes) in on_ok_weaker c.put.result (pay c.args.tree.now.exprs c.args.tree.now.stmts d) (c.put.ensures d.row o.Step d.told refl)
@@ -51,13 +43,13 @@ pub returns-in-PrintAwait : goal.returns-in-PrintAwait
 returns-in-PrintAwait c = λ made is owes. c.awaited-in-PrintAwait.ensures made o.PrintAwaited refl (rw c.in-PrintAwait.is at owes)
 
 pub returns-in-Assign : goal.returns-in-Assign
-returns-in-Assign c = λ made is owes. c.assign.ensures made (rw (← c.as_str-in-Assign.ensures.value) (rw c.in-Assign.is at owes))
+returns-in-Assign c = λ made is owes. c.assign.ensures made (rw (c.in-Assign.is, ← c.as_str-in-Assign.ensures.value) at owes)
 
 pub returns-in-Const : goal.returns-in-Const
-returns-in-Const c = λ made is owes. c.declaration.ensures made (rw (← c.as_slice-in-Const.ensures.value) (rw c.in-Const.is at owes))
+returns-in-Const c = λ made is owes. c.declaration.ensures made (rw (c.in-Const.is, ← c.as_slice-in-Const.ensures.value) at owes)
 
 pub returns-in-Let : goal.returns-in-Let
-returns-in-Let c = λ made is owes. c.declaration-in-Let.ensures made (rw (← c.as_slice-in-Let.ensures.value) (rw c.in-Let.is at owes))
+returns-in-Let c = λ made is owes. c.declaration-in-Let.ensures made (rw (c.in-Let.is, ← c.as_slice-in-Let.ensures.value) at owes)
 
 pub returns-in-Default : goal.returns-in-Default
 returns-in-Default c = λ made is owes. c.defaults.ensures made (rw c.in-Default.is at owes)
