@@ -33,13 +33,7 @@ fn text_at(row: &Row, at: u32) -> &str {
 }
 
 // One with a text.
-fn put_text(
-    alloc: Global,
-    out: &mut String,
-    word: &str,
-    row: &Row,
-    at: u32,
-) -> Result<(), Memory> {
+fn put_text(alloc: Global, out: &mut String, word: &str, row: &Row, at: u32) -> Result<(), Memory> {
     let name = text_at(row, at);
     let text = format!(in alloc; "{word} {name}; ")?;
     out.push_str(text.as_str())?;
