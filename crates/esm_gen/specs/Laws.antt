@@ -4,7 +4,7 @@ use Rattle.url.specs.Parts.{serialize}
 use Rattle.esm_base.specs.Lists.{EachOnce}
 use Rattle.esm_base.specs.Urls.{Text, Url, same_url, is_usable, url_of}
 use Rattle.esm_gen.specs.declared.modules.TheConstants.{BASE, ENTRY}
-use Rattle.esm_gen.specs.Generated.{files_of, generated_at, module_url, module_text}
+use Rattle.esm_gen.specs.Generated.{files_of, generated_at, import_line, module_url, module_text}
 
 -- the entry's name, read against the base, is the URL of the module with the number 0
 abbrev pub NamesEntry : Type 0
@@ -21,6 +21,10 @@ NamesModules = (i : ℕ) → i < 2 ^ 32 → is_usable (module_url i) ≡ true
 -- what stands between the quotes of an import's line
 abbrev pub specifier_of : ℕ → Text
 specifier_of i = codes "./m" ++ decimal i ++ codes ".js"
+
+-- so it does
+abbrev pub QuotesSpecifiers : Type 0
+QuotesSpecifiers = (j : ℕ) → import_line j ≡ codes "import \"" ++ specifier_of j ++ codes "\";\n"
 
 -- read against the URL of any module, it is the URL of the module with its number
 abbrev pub ImportsModules : Type 0

@@ -1,5 +1,5 @@
 //! Laws of the definitions, each the contract of a function without effect.
-ghost use Rattle.esm_gen.specs.Laws.{NamesEntry, HaveOneUrlEach, NamesModules, ImportsModules, HasModules, HasNothingElse};
+ghost use Rattle.esm_gen.specs.Laws.{NamesEntry, HaveOneUrlEach, NamesModules, ImportsModules, QuotesSpecifiers, HasModules, HasNothingElse};
 
 /// The name of the entry, read against the base, is the URL of the module with the number 0.
 pub fn names_entry()
@@ -16,9 +16,11 @@ pub fn names_modules()
     ensures { NamesModules }
 {}
 
-/// The specifier of each import, read against the URL of any module, is the URL of the module with its number, below 2^32.
+/// Each import names a specifier between quotes, which, read against the URL of any module, is the URL of the module with
+/// its number, below 2^32.
 pub fn imports_modules()
-    ensures { ImportsModules }
+    ensures quoted { QuotesSpecifiers }
+    ensures named { ImportsModules }
 {}
 
 /// At the URL of each module stands its text, where there are fewer than 2^32.

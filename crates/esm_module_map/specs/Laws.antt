@@ -9,6 +9,7 @@ use Rattle.esm_module_map.specs.Replay.{replay, is_legal, maker_of}
 use Rattle.esm_module_map.specs.Histories.{is_post_of, IsPostIn, asks_by, takes_by, answers_by}
 use Rattle.esm_module_map.specs.Counts.{count, AreTakenOnce}
 use Rattle.esm_module_map.specs.Saying.{Begins}
+use Rattle.esm_module_map.specs.Replies.{Found, IsOrderOf}
 
 -- the event takes the number
 abbrev pub is_take_of : {P G : Type 0} → ℕ → MapEvent P G → Bool
@@ -40,6 +41,11 @@ module _ (P G : Type 0) (weight : P → ℕ) where
   abbrev pub UrlsStay : Type 0
   UrlsStay = (n : ℕ) (u : Url) (old new : List (MapEvent P G)) → Begins old new → slice_get (replay weight old).urls n ≡ Some u
       → slice_get (replay weight new).urls n ≡ Some u
+
+  -- an order of a caller stays so in what a call of it finds
+  abbrev pub OrdersStay : Type 0
+  OrdersStay = (c n : ℕ) (seen found : List (MapEvent P G)) → Found weight seen (Some c) found → IsOrderOf weight seen c n
+      → IsOrderOf weight found c n
 
   -- what is posted was answered by a caller, under the URL of its number
   abbrev pub PostsAreAnswers : Type 0

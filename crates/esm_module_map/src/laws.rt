@@ -1,5 +1,5 @@
 //! Laws of histories, as functions without effect.
-ghost use Rattle.esm_module_map.specs.Laws.{PostedOnce, PostsAreAnswers, PostsStay, TakenOnce, TakenOnceByMakers, TakesWereAsked, UrlsDiffer, UrlsStay};
+ghost use Rattle.esm_module_map.specs.Laws.{OrdersStay, PostedOnce, PostsAreAnswers, PostsStay, TakenOnce, TakenOnceByMakers, TakesWereAsked, UrlsDiffer, UrlsStay};
 
 use crate::event::Payload;
 
@@ -26,6 +26,11 @@ pub fn urls_stay<P: Payload>()
 /// What is posted stays so as the history grows.
 pub fn posts_stay<P: Payload>()
     ensures { PostsStay P P.Guide }
+{}
+
+/// What a caller has taken and not posted is its order still in what a call of it finds, whatever others did meanwhile.
+pub fn orders_stay<P: Payload>()
+    ensures { OrdersStay P P.Guide P.weight }
 {}
 
 /// In a legal history what is posted was posted by a caller, under the URL of its number, what is taken was asked for,

@@ -24,6 +24,10 @@ use std::sync::Arc;
 // From this weight on no number is given out that has only asks ahead.
 const HEAVY: usize = MAX_DELIVERED_BYTES as usize;
 
+// For so many events there is room from the beginning: an ask, a take and a post for each of `MAX_URLS` URLs, and for
+// callers. A map that needs no more reserves nothing under the lock.
+const EVENTS: usize = 4 * MAX_URLS;
+
 /// The events so far, and what they come to.
 #[derive(Drop)]
 pub struct MapState<P: Payload> {
@@ -81,14 +85,17 @@ impl<P: Payload> MapState<P> {
     pub(crate) fn new(alloc: Global, guide: Arc<P::Guide, Global>) -> Result<MapState<P>, Memory>
         ensures { IfOk result (λ s. s.events.items ≡ MapEvent.Begin guide ∷ []) }
     {
-        let mut events = Vec::with_capacity(alloc, 2)?;
+        let mut events = Vec::with_capacity(alloc, EVENTS)?;
         events.push_reserved(MapEvent::Begin(guide));
+        let urls = IndexSet::with_capacity(alloc, MAX_URLS)?;
+        let numbers = Vec::with_capacity(alloc, MAX_URLS)?;
+        let posts = Vec::with_capacity(alloc, MAX_URLS)?;
         Ok(MapState {
             events,
             callers: 0,
-            urls: IndexSet::new(alloc),
-            numbers: Vec::new(alloc),
-            posts: Vec::new(alloc),
+            urls,
+            numbers,
+            posts,
             wanted: 0,
             ahead: 0,
             weight: 0,

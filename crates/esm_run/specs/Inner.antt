@@ -1,3 +1,4 @@
 pub mod Endings
 pub mod MapReading
 pub mod Leading
+pub mod Generating

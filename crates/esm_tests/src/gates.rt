@@ -2,10 +2,10 @@
 ghost use Rattle.std.specs.Prelude.{◌≡◌, ◌<◌, ◌-◌, ◌^◌, [], All, IfOk, None, refl, vec_len};
 ghost use Rattle.esm_ports.specs.Asks.{failed_count};
 
-use crate::helpers::{COMMAND, site, words};
 use esm_base::{Memory, Status};
 use esm_ports::{FetchEnd, MemSource, Source, SureSink};
 use esm_run::run;
+use esm_sites::{COMMAND, site, words};
 use std::alloc::Global;
 use std::marker::{Send, Sync};
 use std::sync::{Arc, Mutex, Wait};

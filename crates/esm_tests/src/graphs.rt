@@ -1,60 +1,8 @@
-// Whole runs over graphs of modules.
-ghost use Rattle.std.specs.Prelude.{◌≡◌, ◌<◌, ◌-◌, ◌^◌, [], All, IfOk};
-
-use crate::dynamic::RACES;
-use crate::helpers::{COMMAND, add_named, site, sure, words};
-use crate::sites::Row;
+// Runs over large graphs of modules.
 use esm_base::{Memory, Status, Text};
-use esm_ports::{SureSink, SureSource};
-use esm_run::{RunReport, run};
+use esm_ports::SureSink;
+use esm_sites::{add_named, run_over};
 use std::alloc::Global;
-use std::marker::Sync;
-use std::sync::Wait;
-use std::thread::Threads;
-
-// Runs the entry over these files.
-pub fn run_over<R: Threads + Wait + Sync>(
-    rt: &R,
-    alloc: Global,
-    files: Vec<(Text, Vec<u8>)>,
-    out: &mut SureSink,
-) -> Result<RunReport<SureSource>, Memory> {
-    let words = words(alloc, COMMAND)?;
-    let mut desk = sure(alloc, None)?;
-    let mut sources = Vec::new(alloc);
-    sources.push(SureSource::new(alloc, files)?)?;
-    Ok(run(rt, alloc, &words, &mut desk, sources, out))
-}
-
-// The first of these sites that doesn't run as its row says.
-pub fn first_wrong<R: Threads + Wait + Sync>(
-    rt: &R,
-    alloc: Global,
-    rows: &[Row],
-) -> Result<Option<&'static str>, Memory> {
-    for row in rows {
-        let mut out = SureSink::new(alloc);
-        let report = run_over(rt, alloc, site(alloc, row.files)?, &mut out)?;
-        let holds = report.status == row.status && out.written() == row.output.as_bytes();
-        if !holds {
-            return Ok(Some(row.name));
-        }
-    }
-    Ok(None)
-}
-
-#[test]
-fn one_worker_delivers_in_the_order_of_asking(rt: HostRuntime) -> Result<(), Memory> {
-    let alloc = rt.alloc();
-    for race in RACES {
-        let mut out = SureSink::new(alloc);
-        let report = run_over(&rt, alloc, site(alloc, race.files)?, &mut out)?;
-        assert_eq!(rt; report.status, Status::Fulfilled, "{}", race.name);
-        let (_, output) = &race.runs[0];
-        assert!(rt; out.written() == output.as_bytes(), "{}", race.name);
-    }
-    Ok(())
-}
 
 // A module that imports this many others and prints nothing.
 fn many_imports(alloc: Global, many: u64) -> Result<String, Memory> {

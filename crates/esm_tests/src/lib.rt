@@ -5,25 +5,13 @@ ghost use Rattle.std.specs.Prelude.{◌≡◌, ◌≢◌, ◌<◌, [], All, vec_
 ghost use Rattle.esm_base.specs.declared.status.Status.TheVariants.{WriteFault};
 
 #[cfg(test)]
-mod awaits;
-#[cfg(test)]
-mod calls;
-#[cfg(test)]
-mod dynamic;
-#[cfg(test)]
 mod gates;
+#[cfg(test)]
+mod generated;
 #[cfg(test)]
 mod graphs;
 #[cfg(test)]
-mod helpers;
-#[cfg(test)]
-mod limits;
-#[cfg(test)]
 mod maps;
-#[cfg(test)]
-mod names;
-#[cfg(test)]
-mod orders;
 #[cfg(test)]
 mod records;
 #[cfg(test)]
@@ -33,13 +21,7 @@ mod shop;
 #[cfg(test)]
 mod sites;
 #[cfg(test)]
-mod steps;
-#[cfg(test)]
 mod traces;
-#[cfg(test)]
-mod values;
-#[cfg(test)]
-mod worked;
 #[cfg(test)]
 mod workers;
 

@@ -1,10 +1,10 @@
 // Runs under an import map.
 ghost use Rattle.std.specs.Prelude.{◌≡◌, ◌<◌, ◌-◌, ◌^◌, [], All};
 
-use crate::helpers::{failing, files, site, words};
 use esm_base::{Memory, Status};
 use esm_ports::{Source, SureSink, SureSource};
 use esm_run::run;
+use esm_sites::{failing, files, site, words};
 
 const MAP: &str = "https://a.test/map.json";
 

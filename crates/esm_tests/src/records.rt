@@ -1,8 +1,8 @@
 // Whole runs with a record before the log: what was given and what was taken, byte by byte.
-use crate::helpers::{COMMAND, files, site, sure, words};
 use esm_base::{Memory, Status};
 use esm_ports::{MemSink, SureSink, SureSource};
 use esm_run::run;
+use esm_sites::{COMMAND, files, site, sure, words};
 
 const HI: &str = "\
 esm-record 1

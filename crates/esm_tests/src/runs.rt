@@ -1,11 +1,11 @@
 // Whole runs, from the words to the bytes.
 ghost use Rattle.std.specs.Prelude.{◌≡◌, ◌<◌, ◌-◌, ◌^◌, [], ◌∷◌, All};
 
-use crate::helpers::{COMMAND, failing, site, sure, words};
 use esm_ast::Outcome;
 use esm_base::{Memory, Status};
 use esm_ports::{MemSink, Source, SureSink, SureSource};
 use esm_run::run;
+use esm_sites::{COMMAND, failing, site, sure, words};
 use std::alloc::Global;
 use std::marker::Sync;
 use std::sync::Wait;
@@ -163,7 +163,7 @@ fn words_that_are_no_command_are_told(rt: HostRuntime) -> Result<(), Memory> {
         "run https://a.test/ main.js --trace --trace",
         "run https://a.test/ main.js --workers 0",
         "run https://a.test/ --help",
-        "gen 1 3",
+        "gen 1 3 --trace",
     ] {
         assert!(rt;
             is_written(&rt, alloc, line, Some(""), USAGE, Status::Usage)?,

@@ -1,11 +1,14 @@
 // A site of forty modules in three packages under an import map with a scope.
 ghost use Rattle.std.specs.Prelude.{◌≡◌, ◌<◌, ◌≤◌, [], All, IfOk, vec_len};
 
-use crate::helpers::{files, words};
 use esm_base::{Memory, Status, Text};
 use esm_ports::{AskKind, MemSink, MemSource, Source, SureSink, SureSource};
 use esm_run::run;
+use esm_sites::{files, words};
 use std::alloc::Global;
+use std::marker::Sync;
+use std::sync::Wait;
+use std::thread::Threads;
 
 const COMMAND: &str = "run https://shop.test/ app/main.js --map map.json";
 
@@ -152,6 +155,35 @@ fn the_shop_runs_the_same_over_one_worker_and_four(rt: HostRuntime) -> Result<()
         assert!(rt; out.written() == OUTPUT.as_bytes(), "{more}");
         assert_eq!(rt; report.taken.len(), 40, "{more}");
     }
+    Ok(())
+}
+
+// What the run of these words writes, where it ends well.
+fn written_by<R: Threads + Wait + Sync>(
+    rt: &R,
+    alloc: Global,
+    line: &str,
+) -> Result<Vec<u8>, Memory> {
+    let words = words(alloc, line)?;
+    let mut desk = desk(alloc)?;
+    let mut out = SureSink::new(alloc);
+    let report = run(rt, alloc, &words, &mut desk, four_sources(alloc)?, &mut out);
+    if report.status != Status::Fulfilled {
+        return Ok(Vec::new(alloc));
+    }
+    Ok(Vec::from_slice(alloc, out.written())?)
+}
+
+// A line for each start and end of forty bodies, and three that they print.
+#[test]
+fn the_traced_shop_runs_the_same_over_one_worker_and_four(rt: HostRuntime) -> Result<(), Memory> {
+    let alloc = rt.alloc();
+    let one = format!(in alloc; "{COMMAND} --trace --workers 1")?;
+    let four = format!(in alloc; "{COMMAND} --trace --workers 4")?;
+    let one = written_by(&rt, alloc, one.as_str())?;
+    let four = written_by(&rt, alloc, four.as_str())?;
+    assert_eq!(rt; one.iter().filter(|byte| **byte == b'\n').count(), 83);
+    assert!(rt; one == four);
     Ok(())
 }
 

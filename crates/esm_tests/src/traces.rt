@@ -1,8 +1,8 @@
 // Whole runs with trace lines: the start and the end of each body, among the lines that it prints.
-use crate::helpers::{site, sure, words};
 use esm_base::{Memory, Status};
 use esm_ports::{SureSink, SureSource};
 use esm_run::run;
+use esm_sites::{site, sure, words};
 
 const SITE: &[(&str, &str)] = &[
     ("hi.js", "print(\"hi\")"),

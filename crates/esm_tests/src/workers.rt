@@ -1,11 +1,10 @@
 // Whole runs over several sources, with a worker for each.
 ghost use Rattle.std.specs.Prelude.{◌≡◌, ◌<◌, ◌-◌, ◌^◌, [], All, IfOk, vec_len};
 
-use crate::helpers::{COMMAND, site, sure, words};
-use crate::sites::SITES;
 use esm_base::{Memory, Status};
 use esm_ports::{SureSink, SureSource};
 use esm_run::{RunReport, run};
+use esm_sites::{COMMAND, SITES, site, sure, words};
 use std::alloc::Global;
 use std::marker::Sync;
 use std::sync::Wait;
