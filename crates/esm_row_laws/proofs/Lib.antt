@@ -1,0 +1,12 @@
+pub mod Plugged
+pub mod Settling
+pub mod Telling
+pub mod Operating
+pub mod Beginning
+pub mod Placing
+pub mod Landed
+pub mod Filling
+pub mod Calling
+pub mod Moves
+pub mod SettingNames
+pub mod Ending

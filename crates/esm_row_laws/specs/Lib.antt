@@ -1,0 +1,15 @@
+pub mod Spots
+pub mod Remaining
+pub mod Rooms
+pub mod Laws
+pub mod Settled
+pub mod Leading
+pub mod Told
+pub mod Operations
+pub mod Beginnings
+pub mod Places
+pub mod Landings
+pub mod Callings
+pub mod Moving
+pub mod Setting
+pub mod Endings

@@ -1,0 +1,78 @@
+//! Laws of the definitions, each the contract of a function without effect.
+ghost use Rattle.esm_row_laws.specs.Laws.{PartsRewrite, Settles, Tells};
+ghost use Rattle.esm_row_laws.specs.Operations.{OperationsPass};
+ghost use Rattle.esm_row_laws.specs.Beginnings.{StatementsBegin};
+ghost use Rattle.esm_row_laws.specs.Places.{NamesHavePlaces};
+ghost use Rattle.esm_row_laws.specs.Landings.{ThrowsLand, FunctionsEnd};
+ghost use Rattle.esm_row_laws.specs.Callings.{CallsLead};
+ghost use Rattle.esm_row_laws.specs.Moving.{PartsMove, NamesRead};
+ghost use Rattle.esm_row_laws.specs.Setting.{NamesSet};
+ghost use Rattle.esm_row_laws.specs.Endings.{RowsEnd};
+ghost use Rattle.esm_values.specs.Code.{numbered};
+
+use esm_body::Importer;
+
+/// A rewriting of a part is one of what it stands in.
+pub fn parts_rewrite<I: Importer>()
+    ensures { PartsRewrite I.modules I.begins }
+{}
+
+/// Each place has the row of one whose first operation is its own, and what remains there leads to what remains at that one.
+pub fn settles<I: Importer>()
+    ensures { Settles I.modules I.begins }
+{}
+
+/// The first operation of a place tells which it is.
+pub fn tells()
+    ensures { Tells }
+{}
+
+/// What remains behind an operation that asks nothing of the world is what remains before it, rewritten.
+pub fn operations_pass<I: Importer>()
+    ensures { OperationsPass I.modules I.begins }
+{}
+
+/// A statement takes its step, and leads to a place with the operations behind its step.
+pub fn statements_begin<I: Importer>()
+    ensures { StatementsBegin I.modules I.begins }
+{}
+
+/// A name that is found is that of the cell at its place; of another name there is no cell.
+pub fn names_have_places()
+    ensures { NamesHavePlaces numbered }
+{}
+
+/// A throw leads to the innermost handler of the function, or into its caller, and a handler begins.
+pub fn throws_land<I: Importer>()
+    ensures { ThrowsLand I.modules I.begins }
+{}
+
+/// A function that returns a value, or is at its end, gives it to its caller.
+pub fn functions_end<I: Importer>()
+    ensures { FunctionsEnd I.modules I.begins }
+{}
+
+/// A call leads to the function, and what stands for it is given to its caller.
+pub fn calls_lead<I: Importer>()
+    ensures { CallsLead I.modules I.begins }
+{}
+
+/// A part that is rewritten goes on, throws, or stops, and so does what it stands in.
+pub fn parts_move<I: Importer>()
+    ensures { PartsMove I.modules I.begins }
+{}
+
+/// A name of a function reads as its value, and another one as its module's.
+pub fn names_read<I: Importer>()
+    ensures { NamesRead I.modules I.begins }
+{}
+
+/// A declaration sets its name at its place, and an assignment writes it, or throws.
+pub fn names_set<I: Importer>()
+    ensures { NamesSet I.modules I.begins }
+{}
+
+/// A row ends with the row behind it, so a jump leads into the same row.
+pub fn rows_end()
+    ensures { RowsEnd }
+{}

@@ -1,0 +1,137 @@
+// Rows of functions, each worked out by hand from what the statements do.
+ghost use Rattle.std.specs.Prelude.{◌<◌, ◌^◌, length, IsTrue};
+
+use crate::words::words_of;
+use esm_ast::Script;
+use esm_base::{Memory, ModuleId};
+use esm_env::Envs;
+use esm_rows::lower;
+use esm_script::read_script;
+use esm_tree::Tree;
+use std::alloc::Global;
+use std::test::Fail;
+
+const EXPRESSIONS: [(&str, &str); 7] = [
+    (
+        "function f(a, b) { return a + b || \"no\"; }",
+        "2 0: step; local 0 a; local 1 b; add; or 2; text no; return; end; ",
+    ),
+    (
+        "function f(a) { return a && (a !== undefined) && true; }",
+        "1 0: step; local 0 a; and 2; local 0 a; undefined; differs; and 2; true; return; end; ",
+    ),
+    (
+        "function f(a) { g(a, !a)().message.name; }",
+        "1 0: step; name g; local 0 a; local 0 a; not; call 2; call 0; member message; member name; drop; end; ",
+    ),
+    (
+        "function f() { print(\"a\", import.meta.url); throw new Error(\"b\"); }",
+        "0 0: step; text a; url; print 2; drop; step; text b; error; throw; end; ",
+    ),
+    (
+        "function f() { return (new Error()) === import(\"x\"); }",
+        "0 0: step; undefined; error; text x; import; same; return; end; ",
+    ),
+    (
+        "export default function () { return; }",
+        "0 0: step; undefined; return; end; ",
+    ),
+    (
+        "function f() { return false; ; }",
+        "0 0: step; false; return; step; end; ",
+    ),
+];
+
+const STATEMENTS: [(&str, &str); 5] = [
+    (
+        "let z = \"1\"; function f(x) { if (x === \"a\") { const y = x; return y; } else { z = x; } }",
+        "1 0: step; local 0 x; text a; same; choose 6; enter 1; step; local 0 x; set 1; step; local 1 y; return; leave 1 1; enter 0; step; local 0 x; write z; leave 0 1; end; ",
+    ),
+    (
+        "function f() { try { throw \"a\"; } catch (e) { let d = e; print(d); } }",
+        "0 0: step; try 0 10; step; text a; throw; endtry 0 1; caught 1; step; local 0 e; set 1; step; local 1 d; print 1; drop; leave 2 1; end; ",
+    ),
+    (
+        "function f() { try { let a; } catch { return; } f(); }",
+        "0 0: step; try 1 10; step; undefined; set 0; endtry 1 5; unnamed 0; step; undefined; return; leave 0 5; step; name f; call 0; drop; end; ",
+    ),
+    (
+        "function f(a) { let b = a; { let a = b; b = a; } if (a) { } }",
+        "1 1: step; local 0 a; set 1; step; enter 1; step; local 1 b; set 2; step; local 2 a; write 1 b; leave 1 8; step; local 0 a; choose 3; enter 0; leave 0 1; enter 0; leave 0 1; end; ",
+    ),
+    (
+        "function f() { const c = \"x\", d = c; c = d; }",
+        "0 2: step; text x; set 0; local 0 c; set 1; step; local 1 d; constant 0 c; end; ",
+    ),
+];
+
+fn read(alloc: Global, text: &str) -> Result<Script, Memory> {
+    let text = String::from_str(alloc, text)?;
+    match read_script(alloc, text.into_bytes()) {
+        Ok(script) => Ok(script),
+        Err(_refused) => Err(Memory),
+    }
+}
+
+// Whether a tree has few items.
+fn has_few(tree: &Tree) -> bool
+    ensures { IsTrue result → length tree.now.items < 2 ^ 31 }
+{
+    tree.items().len() < 1000
+}
+
+// What the function with this number does, in words, or `none`.
+fn told(alloc: Global, envs: &Envs, index: u32) -> Result<String, Memory> {
+    match envs.scope(ModuleId(0)) {
+        Some(scope) => match lower(alloc, scope, index)? {
+            Some(row) => words_of(alloc, &row),
+            None => Ok(String::from_str(alloc, "none")?),
+        },
+        None => Err(Memory),
+    }
+}
+
+// What the function with this number of a text does, in words.
+fn row_told(alloc: Global, text: &str, index: u32) -> Result<String, Memory> {
+    let script = read(alloc, text)?;
+    if !has_few(script.tree()) {
+        return Err(Memory);
+    }
+    let tree = script.share_tree()?;
+    let mut envs = Envs::new(alloc);
+    envs.make_module(alloc, ModuleId(0), tree, Vec::new(alloc))?;
+    told(alloc, &envs, index)
+}
+
+#[test]
+fn expressions_are_rows(rt: HostRuntime) -> Result<(), Fail> {
+    let alloc = rt.alloc();
+    for (text, expected) in EXPRESSIONS {
+        let row = row_told(alloc, text, 0)?;
+        assert_eq!(rt; row.as_str(), expected);
+    }
+    Ok(())
+}
+
+#[test]
+fn statements_are_rows(rt: HostRuntime) -> Result<(), Fail> {
+    let alloc = rt.alloc();
+    for (text, expected) in STATEMENTS {
+        let row = row_told(alloc, text, 0)?;
+        assert_eq!(rt; row.as_str(), expected);
+    }
+    Ok(())
+}
+
+#[test]
+fn functions_are_counted(rt: HostRuntime) -> Result<(), Fail> {
+    let alloc = rt.alloc();
+    let text = "print(\"a\"); function f() { } export function g(a) { } let z;";
+    let first = row_told(alloc, text, 0)?;
+    assert_eq!(rt; first.as_str(), "0 0: end; ");
+    let second = row_told(alloc, text, 1)?;
+    assert_eq!(rt; second.as_str(), "1 0: end; ");
+    let third = row_told(alloc, text, 2)?;
+    assert_eq!(rt; third.as_str(), "none");
+    Ok(())
+}

@@ -1,0 +1,9 @@
+use Rattle.esm_rows.specs.Making.{part_tasks}
+use Rattle.esm_rows.proofs.Pushed.{goes, ends}
+use Rattle.esm_rows.proofs.tasks.push_parts.Goals as goal
+
+pub loop-id-preserved : goal.loop-id-preserved
+loop-id-preserved c = rw c.in_ok-push_task.ensures (goes part_tasks c.args.ids.now c.loop-id.id-index _ _ _ c.loop-id-test.true c.loop-id.invariant)
+
+pub returns : goal.returns
+returns c = ends part_tasks c.args.ids.now c.loop-id.id-index _ _ c.loop-id-test.false c.loop-id.invariant

@@ -1,0 +1,6 @@
+pub mod Rows
+pub mod Making
+pub mod Locals
+pub mod Drafts
+pub mod Working
+pub mod Functions

@@ -1,0 +1,20 @@
+//! What functions do as rows of small operations, made once from their syntax.
+#![tactic(auto)]
+
+mod blocks;
+mod draft;
+mod exprs;
+pub mod laws;
+mod lowering;
+mod maker;
+mod names;
+mod nodes;
+mod op;
+mod row;
+mod simple;
+mod tasks;
+mod works;
+
+pub use lowering::lower;
+pub use op::Op;
+pub use row::Row;
