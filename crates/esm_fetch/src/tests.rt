@@ -198,7 +198,7 @@ fn lead<R: Wait>(
     let asked = ask(rt, alloc, modules, &mut caller, URLS[0])
         && ask(rt, alloc, modules, &mut caller, URLS[1])
         && ask(rt, alloc, modules, &mut caller, URLS[2]);
-    bell.ring(rt);
+    bell.ring_for_all(rt);
     let mut heard = 0;
     for _ in rt.forever() {
         if !asked || !ask(rt, alloc, modules, &mut caller, URLS[0]) {
@@ -207,10 +207,10 @@ fn lead<R: Wait>(
         if modules.post_at(rt, &mut caller, 2).is_some() {
             break;
         }
-        heard = bell.wait(rt, heard);
+        heard = bell.wait_for_post(rt, heard);
     }
     modules.shut(rt, &mut caller);
-    bell.ring(rt);
+    bell.ring_for_all(rt);
     caller
 }
 

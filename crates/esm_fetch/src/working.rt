@@ -61,7 +61,7 @@ fn give_up<R: Wait>(
     ensures shut { IsShut weight (view_in caller.new.pass).seen }
 {
     modules.shut(rt, caller);
-    bell.ring(rt);
+    bell.ring_for_all(rt);
     Memory
 }
 
@@ -127,14 +127,14 @@ fn fill<R: Wait, S: Source>(
         Ok(payload) => {
             let number = order.number();
             modules.post(rt, caller, order, payload);
-            bell.ring(rt);
+            bell.ring_for_post(rt);
             Ok(Turned::Posted(number))
         }
         Err(_) => Err(give_up(rt, modules, bell, caller)),
     }
 }
 
-/// Takes a number, fetches its URL from the source, reads it, and posts what came; then rings the bell. `NotYet` and
+/// Takes a number, fetches its URL from the source, reads it, and posts what came; then rings the bell for it. `NotYet` and
 /// `Closed` are those of the take; the source isn't asked then. Where memory runs out the map is shut, and at most one
 /// URL was taken and not posted.
 pub fn fetch_one<R: Wait, S: Source>(
@@ -216,7 +216,7 @@ pub fn worker<R: Wait, S: Source>(
         };
         match turned {
             Turned::Posted(_) => (),
-            Turned::NotYet => heard = bell.wait(rt, heard),
+            Turned::NotYet => heard = bell.wait_for_order(rt, heard),
             Turned::Closed => {
                 return WorkerEnd {
                     source,

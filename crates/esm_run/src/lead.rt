@@ -151,7 +151,7 @@ fn fetch_or_wait<R: Wait, S: Source>(
     match turned {
         Turned::Posted(_) => Ok(()),
         Turned::NotYet => {
-            queue.heard = bell.wait(rt, queue.heard);
+            queue.heard = bell.wait_for_post(rt, queue.heard);
             Ok(())
         }
         Turned::Closed => Err(Memory),
@@ -317,7 +317,7 @@ pub(crate) fn lead<R: Wait, S: Source>(
         &mut taken,
     );
     modules.shut(rt, &mut caller);
-    bell.ring(rt);
+    bell.ring_for_all(rt);
     Led {
         machine: driven.ok(),
         taken,

@@ -97,7 +97,7 @@ fn ask_one<R: Wait>(
     let Ok(asked) = modules.ask(rt, caller, &url, Why::Wanted) else {
         return Err(Memory);
     };
-    bell.ring(rt);
+    bell.ring_for_order(rt);
     let ticket = Ticket {
         url,
         number: number_of(asked),
