@@ -8,12 +8,15 @@ ghost use Rattle.esm_base.specs.Urls.{is_usable};
 ghost use Rattle.esm_base.specs.declared.limits.TheConstants.{MAX_URLS, MAX_DELIVERED_BYTES};
 ghost use Rattle.esm_module_map.specs.Replay.{Replay, replay, is_legal, is_order, next_order, has_room, room_by, fresh_number, made_wanted, made_ahead, next_by, is_free, has_place, may_be_ahead, number_for, is_numbered, is_posted};
 ghost use Rattle.esm_module_map.specs.Inner.Outs.{outs_of};
+ghost use Rattle.esm_module_map.specs.Inner.Firsts.{has_free};
 ghost use Rattle.esm_module_map.specs.Histories.{Posts, IsPostIn, is_post_of};
 ghost use Rattle.esm_module_map.specs.Leading.{is_led, leads_to};
 ghost use Rattle.esm_module_map.specs.Replies.{AskReply, TakeReply, ShutReply, answer_by};
 
 use crate::event::{MapEvent, Payload, Why};
-use crate::number::{Number, ask_again, free, set_place, set_taker, wanted_and_free};
+use crate::number::{
+    Number, ask_again, free_from, set_place, set_taker, taken_up_to, wanted_and_free_from,
+};
 use crate::reply::{Asked, MapEnd, Order, Taken};
 use esm_base::{MAX_DELIVERED_BYTES, MAX_URLS, Memory, Text};
 use esm_hlock::Story;
@@ -41,6 +44,7 @@ pub struct MapState<P: Payload> {
     weight: usize,
     shut: bool,
     out: usize,
+    free_from: usize,
     ghost legal: { is_legal P.weight events.items ≡ true },
     ghost led: { is_led P.leads events.items ≡ true },
     ghost replayed: { record { events = vec_len events; callers = callers; urls = urls.keys; numbers = numbers.items; posts = posts.items; wanted = wanted; ahead = ahead; weight = weight; shut = shut } ≡ replay P.weight events.items } by { Coded-set (Prim.hlevel codes) (record { events = vec_len events; callers = callers; urls = urls.keys; numbers = numbers.items; posts = posts.items; wanted = wanted; ahead = ahead; weight = weight; shut = shut }) (replay P.weight events.items) },
@@ -54,6 +58,8 @@ pub struct MapState<P: Payload> {
     ghost room: { vec_len events + out + (if shut then 0 else 1) ≤ vec_capacity events },
     ghost light: { weight ≤ MAX_DELIVERED_BYTES },
     ghost posts_room: { vec_len posts + out ≤ vec_capacity posts },
+    ghost none_free: { has_free free_from numbers.items ≡ false },
+    ghost free_within: { free_from ≤ vec_len numbers },
 }
 
 impl<P: Payload> Story for MapState<P> {
@@ -101,6 +107,7 @@ impl<P: Payload> MapState<P> {
             weight: 0,
             shut: false,
             out: 0,
+            free_from: 0,
         })
     }
 
@@ -239,7 +246,7 @@ impl<P: Payload> MapState<P> {
     fn next(&self) -> Option<usize>
         ensures { result ≡ next_order (replay P.weight self.now.events.items) }
     {
-        match wanted_and_free(&self.numbers) {
+        match wanted_and_free_from(&self.numbers, self.free_from) {
             Some(place) => Some(place),
             None => self.next_ahead(),
         }
@@ -251,7 +258,7 @@ impl<P: Payload> MapState<P> {
             (position is_free self.now.numbers.items) }
     {
         if self.weight < HEAVY {
-            free(&self.numbers)
+            free_from(&self.numbers, self.free_from)
         } else {
             None
         }
@@ -279,6 +286,7 @@ impl<P: Payload> MapState<P> {
             numbers,
             posts,
             out,
+            free_from,
             ..
         } = self;
         if events.reserve(*out + 3).is_err() {
@@ -290,6 +298,7 @@ impl<P: Payload> MapState<P> {
         let number = place as u32;
         let url = Text::from_string(room);
         set_taker(numbers, place, caller);
+        *free_from = taken_up_to(*free_from, place);
         *out += 1;
         events.push_reserved(MapEvent::Take(caller, number));
         Ok(Taken::Order(Order { number, url }))

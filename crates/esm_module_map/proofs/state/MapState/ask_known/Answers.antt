@@ -3,6 +3,9 @@ use Rattle.esm_module_map.specs.Replay.{asked_again, may_be_ahead}
 use Rattle.esm_module_map.specs.Inner.Outs.{outs_of}
 use Rattle.esm_module_map.proofs.Replays.{outs_same}
 use Rattle.esm_module_map.proofs.Asks as asks
+use Rattle.std.proofs.Common.{false}
+use Rattle.esm_module_map.specs.Inner.Firsts.{has_free}
+use Rattle.esm_module_map.proofs.Firsts.{asked_firsts}
 use Rattle.esm_module_map.proofs.state.MapState.ask_known.Goals as goal
 use Rattle.esm_module_map.proofs.Led.{led_ask}
 
@@ -22,3 +25,7 @@ invariant_of-self-2-clause-outs g c = let it = c.args.self.now in it.outs ∙ sy
 pub invariant_of-self-2-clause-led : goal.invariant_of-self-2-clause-led
 invariant_of-self-2-clause-led g c = let it = c.args.self.now in
     led_ask g.P.Payload.leads it.events.items c.reserve.new.self.items c.push_reserved.new.self.items c.args.caller c.args.place c.args.url c.args.url c.args.why c.reserve.ensures.items c.push_reserved.ensures.items it.led refl c.requires.leads
+
+pub invariant_of-self-2-clause-none_free : goal.invariant_of-self-2-clause-none_free
+invariant_of-self-2-clause-none_free g c = let it = c.args.self.now in
+    subst (λ xs. has_free it.free_from xs ≡ false) (sym c.ask_again.ensures.items) (asked_firsts c.args.why it.numbers.items it.free_from c.args.place it.none_free)

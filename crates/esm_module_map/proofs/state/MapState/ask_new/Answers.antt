@@ -4,6 +4,9 @@ use Rattle.esm_module_map.specs.Replay.{fresh_number, may_be_ahead}
 use Rattle.esm_module_map.specs.Inner.Outs.{is_out, outs_of}
 use Rattle.esm_module_map.proofs.Replays.{outs_append}
 use Rattle.esm_module_map.proofs.Asks as asks
+use Rattle.std.proofs.Common.{false}
+use Rattle.esm_module_map.specs.Inner.Firsts.{has_free}
+use Rattle.esm_module_map.proofs.Firsts.{appended_firsts}
 use Rattle.esm_module_map.proofs.state.MapState.ask_new.Goals as goal
 use Rattle.esm_module_map.proofs.Led.{led_ask}
 
@@ -24,3 +27,8 @@ invariant_of-self-2-clause-outs g c = let it = c.args.self.now in let e = ap out
 pub invariant_of-self-2-clause-led : goal.invariant_of-self-2-clause-led
 invariant_of-self-2-clause-led g c = let it = c.args.self.now in
     led_ask g.P.Payload.leads it.events.items c.reserve.new.self.items c.push_reserved-2.new.self.items c.args.caller c.len-number.result c.args.url c.args.url c.args.why c.reserve.ensures.items c.push_reserved-2.ensures.items it.led refl c.requires.leads
+
+pub invariant_of-self-2-clause-none_free : goal.invariant_of-self-2-clause-none_free
+invariant_of-self-2-clause-none_free g c = let it = c.args.self.now in let w = it.free_within in let k = it.numbers.ok.0 in
+    let e = c.push_reserved.ensures.items ∙ ap (λ l. l ++ c.fresh.result ∷ []) c.reserve-2.ensures.items in
+    subst (λ xs. has_free it.free_from xs ≡ false) (sym e) (appended_firsts it.numbers.items (c.fresh.result ∷ []) it.free_from (omega (arith, w, k)) it.none_free)

@@ -2,6 +2,8 @@ use Rattle.std.proofs.Common.{arith, ap, ◌∙◌, refl, ◌+◌, vec_len}
 use Rattle.esm_module_map.specs.Replay.{next_order}
 use Rattle.esm_module_map.specs.Inner.Outs.{outs_of}
 use Rattle.esm_module_map.proofs.Asks as asks
+use Rattle.std.proofs.Common.{◌≡◌, sym, subst, false}
+use Rattle.esm_module_map.specs.Inner.Firsts.{has_free}
 use Rattle.esm_module_map.proofs.state.MapState.give_out.Goals as goal
 use Rattle.esm_module_map.proofs.Led.{led_with}
 use Rattle.esm_module_map.specs.declared.event.MapEvent.TheVariants.{Take}
@@ -24,3 +26,15 @@ invariant_of-self-2-clause-outs g c = let it = c.args.self.now in let t = (asks.
 
 pub invariant_of-self-2-clause-led : goal.invariant_of-self-2-clause-led
 invariant_of-self-2-clause-led g c = let it = c.args.self.now in led_with g.P.Payload.leads it.events.items c.reserve.new.self.items c.push_reserved.new.self.items (Take c.args.caller c.args.place) c.reserve.ensures.items c.push_reserved.ensures.items it.led refl
+
+pub taken_up_to-requires : goal.taken_up_to-requires
+taken_up_to-requires g c = let it = c.args.self.now in let t = (asks.taken_outs (record { events = vec_len it.events; callers = it.callers; urls = it.urls.keys; numbers = it.numbers.items; posts = it.posts.items; wanted = it.wanted; ahead = it.ahead; weight = it.weight; shut = it.shut }) c.args.place c.args.caller (ap next_order it.replayed ∙ c.requires.next)).0 in
+    let k = it.numbers.ok.0 in let m = it.made in let a = it.few_wanted in let b = it.few_ahead in record { small = omega (arith, t, k, m, a, b) }
+
+pub invariant_of-self-2-clause-none_free : goal.invariant_of-self-2-clause-none_free
+invariant_of-self-2-clause-none_free g c = let it = c.args.self.now in
+    subst (λ xs. has_free c.taken_up_to.result xs ≡ false) (sym c.set_taker.ensures.items) (c.taken_up_to.ensures.none it.numbers.items c.args.caller it.none_free)
+
+pub invariant_of-self-2-clause-free_within : goal.invariant_of-self-2-clause-free_within
+invariant_of-self-2-clause-free_within g c = let it = c.args.self.now in let t = (asks.taken_outs (record { events = vec_len it.events; callers = it.callers; urls = it.urls.keys; numbers = it.numbers.items; posts = it.posts.items; wanted = it.wanted; ahead = it.ahead; weight = it.weight; shut = it.shut }) c.args.place c.args.caller (ap next_order it.replayed ∙ c.requires.next)).0 in
+    let k = it.numbers.ok.0 in let w = it.free_within in let r = c.taken_up_to.ensures.within (vec_len it.numbers) (omega (arith, t, k)) w in let l = c.set_taker.ensures.len in omega (arith, r, l)

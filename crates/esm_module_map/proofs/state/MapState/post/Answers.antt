@@ -3,6 +3,9 @@ use Rattle.esm_module_map.specs.Replay.{change_at, posted_at, is_order}
 use Rattle.esm_module_map.specs.Inner.Outs.{outs_of}
 use Rattle.esm_base.specs.declared.limits.TheConstants.{MAX_DELIVERED_BYTES}
 use Rattle.esm_module_map.proofs.Asks as asks
+use Rattle.std.proofs.Common.{false}
+use Rattle.esm_module_map.specs.Inner.Firsts.{has_free}
+use Rattle.esm_module_map.proofs.Firsts.{posted_firsts}
 use Rattle.esm_module_map.proofs.state.MapState.post.Goals as goal
 use Rattle.esm_module_map.proofs.Led.{led_with}
 use Rattle.esm_module_map.specs.declared.event.MapEvent.TheVariants.{Post}
@@ -49,3 +52,7 @@ invariant_of-self-clause-room g c =
 
 pub invariant_of-self-clause-led : goal.invariant_of-self-clause-led
 invariant_of-self-clause-led g c = let it = c.args.self.now in led_with g.P.Payload.leads it.events.items it.events.items c.push_reserved-2.new.self.items (Post c.args.caller c.args.number c.args.payload) refl c.push_reserved-2.ensures.items it.led refl
+
+pub invariant_of-self-clause-none_free : goal.invariant_of-self-clause-none_free
+invariant_of-self-clause-none_free g c = let it = c.args.self.now in
+    subst (λ xs. has_free it.free_from xs ≡ false) (sym c.set_place.ensures.items) (posted_firsts c.len.result it.numbers.items it.free_from c.args.number it.none_free)
