@@ -12,39 +12,38 @@ MAX_BODY = 1 << 20
 
 GRAMMAR = {
     "Module": ["", "Item", "Item Item", "Item Item Item", "Item Item Item Item Item"],
-    "Item": ["import Text ;", "import Fresh from Text ;", "import * as Fresh from Text ;", "import { Ispecs } from Text ;",
-             "import Fresh , { Ispecs } from Text ;", "import Fresh , * as Fresh from Text ;", "export * from Text ;",
-             "export * as Ext from Text ;", "export { Especs } from Text ;", "export { Especs } ;", "export Declare", "export Func",
-             "export default Func", "export default function ( Params ) Block", "export default Init ;", "Func", "Statement",
-             "Statement", "Statement", "Statement", "Statement", "Statement"],
+    "Item": ["import Request ;", "import Fresh from Request ;", "import * as Fresh from Request ;", "import { Ispecs } from Request ;",
+             "import Fresh , { Ispecs } from Request ;", "import Fresh , * as Fresh from Request ;", "export * from Request ;",
+             "export * as Fresh from Request ;", "export { Especs } from Request ;", "export { Especs } ;", "export Declare", "export Func",
+             "export default Func", "export default function ( Params ) Body", "export default Init ;", "Func", "Func"] + ["Statement"] * 12,
     "Ispecs": ["", "Fresh", "Ext as Fresh", "Fresh , Fresh", "Ext as Fresh , Fresh ,"],
-    "Especs": ["", "Name", "Ext as Ext", "Name , Name as Ext", "Name as Ext ,"],
-    "Ext": ["Name", "Name", "Text", "default", "if", "then"],
-    "Func": ["function Fresh ( Params ) Block"],
-    "Params": ["", "Name", "Name , Name", "Name , Name , Name ,"],
-    "Block": ["{ }", "{ Statement }", "{ Statement Statement }", "{ return ; }", "{ return Expr ; }"],
-    "Statement": ["Block", ";", "Declare", "Declare", "Name = Init ;", "if ( Expr ) Block", "if ( Expr ) Block else Block",
-                  "try Block catch ( Name ) Block", "try Block catch Block", "throw Expr ;", "await Unary ;", "print ( await Unary ) ;",
+    "Especs": ["", "Name", "Ext as Fresh", "Name , Name as Fresh", "Name as Fresh ,"],
+    "Ext": ["Name", "Name", "Name", "Text", "default", "if"],
+    "Func": ["function Fresh ( Params ) Body"],
+    "Params": ["", "Fresh", "Fresh , Fresh", "Fresh , Fresh , Fresh ,"],
+    "Body": ["{ }", "{ Inside }", "{ Inside Inside return Expr ; }", "{ return ; }", "{ return Expr ; }", "{ if ( Expr ) { return Expr ; } Inside }"],
+    "Inside": ["{ Inside }", "let Fresh = Expr ;", "const Fresh = Expr ;", "Name = Expr ;", "if ( Expr ) { Inside } else { Inside }",
+               "try { Inside } catch ( Fresh ) { print ( Expr ) ; }", "throw Expr ;", "print ( Args ) ;", "Expr ;", "Expr ;"],
+    "Block": ["{ }", "{ Statement }", "{ Statement Statement }"],
+    "Statement": ["Block", ";", "Declare", "Declare", "Declare", "Name = Init ;", "if ( Expr ) Block", "if ( Expr ) Block else Block",
+                  "try Block catch ( Fresh ) Block", "try Block catch Block", "throw Expr ;", "await Unary ;", "print ( await Unary ) ;",
                   "print ( Args ) ;", "print ( Args ) ;", "Expr ;",
-                  "try { print ( await import ( Text ) ) ; } catch ( Name ) { print ( Name ) ; }"],
+                  "try { print ( await import ( Request ) ) ; } catch ( Fresh ) { print ( Name ) ; }"],
     "Declare": ["const Fresh = Init ;", "let Fresh ;", "let Fresh = Init ;", "let Fresh = Init , Fresh ;"],
     "Init": ["Expr", "Expr", "await Unary"],
-    "Expr": ["Unary", "Unary", "Unary + Unary", "Unary === Unary", "Unary !== Unary + Unary", "Unary && Unary",
-        "Unary || Unary && Unary"],
+    "Expr": ["Unary", "Unary", "Unary + Unary", "Unary === Unary", "Unary !== Unary + Unary", "Unary && Unary", "Unary || Unary && Unary"],
     "Unary": ["Post", "Post", "! Post", "! ! Post"],
     "Post": ["Prim", "Prim", "Prim", "Prim . Name", "Prim . message", "Prim ( Args )", "Name ( Args )"],
-    "Prim": ["Text", "Text", "true", "false", "undefined", "Name", "Name", "( Expr )", "print ( Args )", "new Error ( )",
-        "new Error ( Expr )",
-             "import ( Text )", "import ( Expr )", "import . meta . url"],
+    "Prim": ["Text", "Text", "true", "false", "undefined", "Name", "Name", "( Expr )", "print ( Args )", "new Error ( )", "new Error ( Expr )",
+             "import ( Request )", "import ( Expr )", "import . meta . url"],
     "Args": ["", "Expr", "Expr , Expr", "Expr , Expr ,"],
     "Name": ["a", "b", "c", "f", "$", "_", "as", "from", "é", "x\u0301", "\U00010400", "n0", "n1"],
     "Fresh": ["a", "b", "c", "f", "é"] + ["n%d" % k for k in range(60)],  # names to declare, of which few are the same
-    "Text": ['"./a.js"', '"./b.js"', '"./main.js"', '"./none.js"', '"./a.js"', '"./b.js"', '"x"', "'y'", '""', '"bare"', '"lib/x.js"',
-        '"\\n\\u{41}"',
-             '"\\ud83d\\ude00"', '"https://b.test/"', '"../../up"', '"then"'],
+    "Request": ['"./a.js"', '"./b.js"', "'./a.js'", '"./b.js"', '"./main.js"', '"./a.js"', '"./b.js"', '"././a.js"', '"./none.js"', '"bare"'],
+    "Text": ['"x"', "'y'", '""', '"./a.js"', '"\\n\\u{41}"', '"\\ud83d\\ude00"', '"https://b.test/"', '"../../up"', '"then"'],
 }
-LEAVES = {"Module": "", "Item": ";", "Block": "{ }", "Statement": ";", "Expr": "a", "Unary": "a", "Post": "a", "Prim": '"x"', "Args": "",
-    "Init": "a"}
+LEAVES = {"Module": "", "Item": ";", "Block": "{ }", "Body": "{ }", "Inside": ";", "Statement": ";", "Expr": "a", "Unary": "a", "Post": "a",
+          "Prim": '"x"', "Args": "", "Init": "a"}
 PIECES = list("{}();,.*+=!\"'\\/@#`<&|?:[]-0") + [
     "===", "!==", "&&", "||", "==", "=>", "...", "//", "/*", "*/", "<!--", "-->", "#!", "await", "import", "export", "default",
     "function", "return",
@@ -52,6 +51,7 @@ PIECES = list("{}();,.*+=!\"'\\/@#`<&|?:[]-0") + [
     "super", "this",
     "then", "\n", "\r\n", "\u2028", "\u2029", "\ufeff", "\u00a0", "\u200d", "\0", "\\u0061", "\\u{61}", '"\\', '"\\ud800"',
     '"\\u{110000}"', '"\\8"']
+PLAIN = ["a", "b", "f", "n0", '"x"', "true", "undefined", ";", "!", "+", "await", "print", "{", "}", "(", ")"]
 BYTES = [b"\xff", b"\xc3", b"\xed\xa0\x80", b"\xef\xbb\xbf", b"\xf0\x9f\x98\x80", b"\xf4\x90\x80\x80", b"\0", b"\xe2\x80", b"\n", b'"',
     b"\\"]
 
@@ -69,18 +69,18 @@ def grown(dice, word, deep, out):
             grown(dice, part, deep - 1, out)
 
 
-def module_text(dice):
-    """A module text: rarely as it was made, mostly changed."""
+def module_text(dice, spoiled=True):
+    """A module text, by tokens or by bytes changed in one place or more, but for one in four."""
     tokens = []
     for _ in range(dice.choice([1, 1, 1, 2, 4])):
         grown(dice, "Module", dice.choice([4, 6, 8, 10]), tokens)
-    way = dice.random()
+    way = dice.random() if spoiled else 0
     if way > 0.25:
-        for _ in range(dice.choice([1, 1, 1, 2, 3, 8])):
-            change_list(dice, tokens, lambda: dice.choice(PIECES))
+        for _ in range(dice.choice([1, 1, 1, 1, 2, 3, 8])):
+            change_list(dice, tokens, lambda: dice.choice(PIECES if way > 0.5 else PLAIN))
     spaces = dice.choice([[" "], [" "], [" ", "\n"], [" ", "\n", "\u2028", "/**/", "/*\n*/", "//\n", "\t"]])
-    text = "".join(token + dice.choice(spaces) for token in tokens).encode("utf-8", "surrogatepass")
-    return changed_bytes(dice, text) if way > 0.6 else text
+    text = "".join(token + (" " if token == "throw" else dice.choice(spaces)) for token in tokens).encode("utf-8", "surrogatepass")
+    return changed_bytes(dice, text) if way > 0.8 else text
 
 
 def change_list(dice, items, fresh):
