@@ -14,14 +14,17 @@ GRAMMAR = {
     "Module": ["", "Item", "Item Item", "Item Item Item", "Item Item Item Item Item"],
     "Item": ["import Request ;", "import Fresh from Request ;", "import * as Fresh from Request ;", "import { Ispecs } from Request ;",
              "import Fresh , { Ispecs } from Request ;", "import Fresh , * as Fresh from Request ;", "export * from Request ;",
-             "export * as Fresh from Request ;", "export { Especs } from Request ;", "export { Especs } ;", "export Declare", "export Func",
-             "export default Func", "export default function ( Params ) Body", "export default Init ;", "Func", "Func"] + ["Statement"] * 12,
+             "export * as Fresh from Request ;", "export { Especs } from Request ;", "export { Especs } ;", "export Declare",
+             "export Func",
+             "export default Func", "export default function ( Params ) Body", "export default Init ;", "Func",
+             "Func"] + ["Statement"] * 12,
     "Ispecs": ["", "Fresh", "Ext as Fresh", "Fresh , Fresh", "Ext as Fresh , Fresh ,"],
     "Especs": ["", "Name", "Ext as Fresh", "Name , Name as Fresh", "Name as Fresh ,"],
     "Ext": ["Name", "Name", "Name", "Text", "default", "if"],
     "Func": ["function Fresh ( Params ) Body"],
     "Params": ["", "Fresh", "Fresh , Fresh", "Fresh , Fresh , Fresh ,"],
-    "Body": ["{ }", "{ Inside }", "{ Inside Inside return Expr ; }", "{ return ; }", "{ return Expr ; }", "{ if ( Expr ) { return Expr ; } Inside }"],
+    "Body": ["{ }", "{ Inside }", "{ Inside Inside return Expr ; }", "{ return ; }", "{ return Expr ; }",
+        "{ if ( Expr ) { return Expr ; } Inside }"],
     "Inside": ["{ Inside }", "let Fresh = Expr ;", "const Fresh = Expr ;", "Name = Expr ;", "if ( Expr ) { Inside } else { Inside }",
                "try { Inside } catch ( Fresh ) { print ( Expr ) ; }", "throw Expr ;", "print ( Args ) ;", "Expr ;", "Expr ;"],
     "Block": ["{ }", "{ Statement }", "{ Statement Statement }"],
@@ -31,18 +34,22 @@ GRAMMAR = {
                   "try { print ( await import ( Request ) ) ; } catch ( Fresh ) { print ( Name ) ; }"],
     "Declare": ["const Fresh = Init ;", "let Fresh ;", "let Fresh = Init ;", "let Fresh = Init , Fresh ;"],
     "Init": ["Expr", "Expr", "await Unary"],
-    "Expr": ["Unary", "Unary", "Unary + Unary", "Unary === Unary", "Unary !== Unary + Unary", "Unary && Unary", "Unary || Unary && Unary"],
+    "Expr": ["Unary", "Unary", "Unary + Unary", "Unary === Unary", "Unary !== Unary + Unary", "Unary && Unary",
+        "Unary || Unary && Unary"],
     "Unary": ["Post", "Post", "! Post", "! ! Post"],
     "Post": ["Prim", "Prim", "Prim", "Prim . Name", "Prim . message", "Prim ( Args )", "Name ( Args )"],
-    "Prim": ["Text", "Text", "true", "false", "undefined", "Name", "Name", "( Expr )", "print ( Args )", "new Error ( )", "new Error ( Expr )",
+    "Prim": ["Text", "Text", "true", "false", "undefined", "Name", "Name", "( Expr )", "print ( Args )", "new Error ( )",
+        "new Error ( Expr )",
              "import ( Request )", "import ( Expr )", "import . meta . url"],
     "Args": ["", "Expr", "Expr , Expr", "Expr , Expr ,"],
     "Name": ["a", "b", "c", "f", "$", "_", "as", "from", "é", "x\u0301", "\U00010400", "n0", "n1"],
     "Fresh": ["a", "b", "c", "f", "é"] + ["n%d" % k for k in range(60)],  # names to declare, of which few are the same
-    "Request": ['"./a.js"', '"./b.js"', "'./a.js'", '"./b.js"', '"./main.js"', '"./a.js"', '"./b.js"', '"././a.js"', '"./none.js"', '"bare"'],
+    "Request": ['"./a.js"', '"./b.js"', "'./a.js'", '"./b.js"', '"./main.js"', '"./a.js"', '"./b.js"', '"././a.js"', '"./none.js"',
+        '"bare"'],
     "Text": ['"x"', "'y'", '""', '"./a.js"', '"\\n\\u{41}"', '"\\ud83d\\ude00"', '"https://b.test/"', '"../../up"', '"then"'],
 }
-LEAVES = {"Module": "", "Item": ";", "Block": "{ }", "Body": "{ }", "Inside": ";", "Statement": ";", "Expr": "a", "Unary": "a", "Post": "a",
+LEAVES = {"Module": "", "Item": ";", "Block": "{ }", "Body": "{ }", "Inside": ";", "Statement": ";", "Expr": "a", "Unary": "a",
+    "Post": "a",
           "Prim": '"x"', "Args": "", "Init": "a"}
 PIECES = list("{}();,.*+=!\"'\\/@#`<&|?:[]-0") + [
     "===", "!==", "&&", "||", "==", "=>", "...", "//", "/*", "*/", "<!--", "-->", "#!", "await", "import", "export", "default",
@@ -248,6 +255,10 @@ def nested(shape, many, closed):
     return (before + opening * many + inside + (closing * many if closed else "") + (behind if closed else "")).encode()
 
 
+def called(what, many, closed):
+    return "%s %s times, %s" % (what.strip(), many or "as many", "closed" if closed else "not closed")
+
+
 def nesting_inputs():
     """Names of inputs with their texts, and whether P4 has to be said, or mustn't be, or None."""
     for shape in DEEP:
@@ -256,12 +267,11 @@ def nesting_inputs():
         most = (64 - own) // each
         for many, deep in ((1, False), (most, False), (most + 1, True), (1000, True), (FILL, True)):
             for closed in (True, False):
-                yield "%s %d times %s" % (shape[1], many, "closed" if closed else "not closed"), nested(shape, many, closed), deep
+                yield called(shape[1], many, closed), nested(shape, many, closed), deep
     for shape in LONG:
         for many in (64, 65, 5000, FILL):
             for closed in (True, False):
-                yield "%s%s %d times %s" % (shape[0], shape[1], many, "closed" if closed else "not closed"), nested(shape, many,
-                    closed), None
+                yield called(shape[0] + shape[1], many, closed), nested(shape, many, closed), None
     for before, form, behind in NUMBERED:
         for many in (65, 4096, MAX_BODY // (len(form) + 5)):
             text = before + "".join(form % k for k in range(many)) + behind
@@ -272,8 +282,8 @@ def map_nesting_inputs():
     for opening, closing in (("[", "]"), ('{"a":', "}"), ('{"imports":', "}"), ('{"scopes":', "}"), ('{"scopes":{"/":', "}}")):
         for many in (1, 62, 63, 64, 65, 126, 127, 128, 1000, MAX_BODY // (len(opening) + len(closing))):
             for inside, closed in (("{}", True), ("", False)):
-                yield "%s %d times %s" % (opening, many,
-                    closed), (opening * many + inside + (closing * many if closed else "")).encode()[:MAX_BODY + 1]
+                text = opening * many + inside + (closing * many if closed else "")
+                yield called(opening, many, closed), text.encode()[:MAX_BODY + 1]
     for name, one in (("keys", '"k%d/":"/v%d/"'), ("one text", '"./a%d/../k":"/v%d"'), ("slashes", '"' + "x/" * 400 + '%d/":"/v%d/"'),
         ("null", '"k%d":%d')):
         many = 1000000 // (len(one) + 8)
