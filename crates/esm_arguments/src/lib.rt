@@ -9,6 +9,3 @@ mod urls;
 
 pub use command::{Command, Generation, MAX_START};
 pub use reading::{read_generation, read_words};
-
-#[cfg(test)]
-mod tests;

@@ -15,23 +15,23 @@ use Rattle.esm_expr_eval.specs.Terms.{Term}
 use Rattle.esm_expr_eval.specs.Terms.Term.{Val}
 use Rattle.esm_promise.specs.Outer.{Outer}
 use Rattle.esm_env.specs.Modules.{Modules}
-use Rattle.esm_body.specs.Rest.{Rest, more}
-use Rattle.esm_body.specs.Rest.{Use as Purpose}
-use Rattle.esm_body.specs.Rest.{Part as parts}
-use Rattle.esm_body.specs.Rest.{Use as uses}
-use Rattle.esm_body.specs.State.{Importing}
-use Rattle.esm_body.specs.BodyRewriting.{On}
-use Rattle.esm_body.specs.BodyRewriting.{RewritesBody as rule}
-use Rattle.esm_body.specs.Fits.{Kind, AreLinked}
+use Rattle.esm_rewriting.specs.Rest.{Rest, more}
+use Rattle.esm_rewriting.specs.Rest.{Use as Purpose}
+use Rattle.esm_rewriting.specs.Rest.{Part as parts}
+use Rattle.esm_rewriting.specs.Rest.{Use as uses}
+use Rattle.esm_rewriting.specs.State.{Importing}
+use Rattle.esm_rewriting.specs.BodyRewriting.{On}
+use Rattle.esm_rewriting.specs.BodyRewriting.{RewritesBody as rule}
+use Rattle.esm_rewriting.specs.Fits.{Kind, AreLinked}
 use Rattle.esm_body.specs.Importers.{HasLinked, ImportsAreLawful}
-use Rattle.esm_body.specs.Inner.Chains.{Turns, only}
-use Rattle.esm_body.specs.Contexts.{caught_in}
+use Rattle.esm_rewriting.specs.Chains.{Turns, only}
+use Rattle.esm_rewriting.specs.Contexts.{caught_in}
 use Rattle.esm_body.specs.Inner.Stack.{doing_part}
 use Rattle.esm_body.specs.Code.{innermost, in_front_of, awaited_by, use_of, IsUse, IsCode}
 use Rattle.esm_body.specs.Inner.World.{state_in, inner_of, ActsInside, url_inside}
 use Rattle.esm_body.specs.Inner.Turn.{code_contexts, used, doing_given, IsReadyFor, MayTurn, Came, Turned, Threw}
-use Rattle.esm_body.specs.declared.log.Stop.{Stop}
-use Rattle.esm_body.specs.declared.log.Stop.TheVariants as stops
+use Rattle.esm_rewriting.specs.declared.stop.Stop.{Stop}
+use Rattle.esm_rewriting.specs.declared.stop.Stop.TheVariants as stops
 use Rattle.esm_body.specs.declared.inside.Inside.{Inside}
 use Rattle.esm_body.specs.declared.turn.Outcome.{Outcome}
 use Rattle.esm_body.specs.declared.turn.Outcome.TheVariants as o
@@ -40,8 +40,8 @@ use Rattle.esm_body.specs.declared.work.Doing.{Doing}
 use Rattle.esm_body.specs.declared.work.Use.{Use}
 use Rattle.esm_body.proofs.Evaluated.{no_end, has_value, has_thrown, has_called, has_stopped, ready_behind, turned_behind}
 use Rattle.esm_body.proofs.Lawful.{begins_some, begins_one, shows_urls}
-use Rattle.esm_body.proofs.OneAct.{BeginsOne}
-use Rattle.esm_body.proofs.SomeAct.{BeginsSome}
+use Rattle.esm_rewriting.proofs.OneAct.{BeginsOne}
+use Rattle.esm_rewriting.proofs.SomeAct.{BeginsSome}
 use Rattle.esm_body.proofs.TurnParts.{keeps_itself, keeps_same, front_waits, threw_turned}
 
 module _ {I S : Type 0} (seen : I → S) (modules : S → Modules ℕ) (linked : S → ℕ → Bool) (fits : Outer ℕ S → Type 0) (begins : Importing ℕ S) where

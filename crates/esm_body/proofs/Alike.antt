@@ -24,8 +24,8 @@ use Rattle.esm_expr_eval.specs.Rewriting.AreValues.{nil, cons}
 use Rattle.esm_expr_eval.specs.Rewriting.Rewrites.{fails, name, or_in, or, and_in, and, equal_in, equal_right, equal, equal_end, sum_in, sum_right, joins, sum_end, not_in, not_of, post_in, member_of, arguments, call_of, post_end, print_in, print, error_in, error, import_in, begins, own_url}
 use Rattle.esm_expr_eval.specs.Rewriting.RewritesIn.{first, later}
 use Rattle.esm_expr_eval.proofs.Unique.{no_step}
-use Rattle.esm_body.specs.declared.log.Stop.{Stop}
-use Rattle.esm_body.specs.declared.log.Stop.TheVariants as stops
+use Rattle.esm_rewriting.specs.declared.stop.Stop.{Stop}
+use Rattle.esm_rewriting.specs.declared.stop.Stop.TheVariants as stops
 
 values_one : {V : Type 0} {es : Terms V} {vs us : List V} → AreValues es vs → AreValues es us → us ≡ vs
 values_one nil nil = refl

@@ -27,10 +27,10 @@ use Rattle.esm_env.specs.Scopes.{Scopes, scope_in, import_of, read_in, read_or}
 use Rattle.esm_env.specs.Faithful.{HasScope, AreScopesOf}
 use Rattle.esm_env.specs.Laws.{ReadsRight}
 use Rattle.esm_env.specs.declared.scope.ModuleScope.{ModuleScope}
-use Rattle.esm_body.specs.Scopes.{Scope, in_scopes}
-use Rattle.esm_body.specs.State.{State, Importing, take_steps, steps_by, add_line, line_by}
-use Rattle.esm_body.specs.Acts.{Inner, Performs, Displays, DisplaysAll, ReadsBy, BeginsBy, read_answer, over_scopes}
-use Rattle.esm_body.specs.Fits.{IsKnown, AreLinked}
+use Rattle.esm_rewriting.specs.Scopes.{Scope, in_scopes}
+use Rattle.esm_rewriting.specs.State.{State, Importing, take_steps, steps_by, add_line, line_by}
+use Rattle.esm_rewriting.specs.Acts.{Inner, Performs, Displays, DisplaysAll, ReadsBy, BeginsBy, read_answer, over_scopes}
+use Rattle.esm_rewriting.specs.Fits.{IsKnown, AreLinked}
 use Rattle.esm_body.specs.Importers.{Begun, MayBegin, ImportsAreLawful, outer_with}
 use Rattle.esm_body.specs.View.{engine_of, state_of}
 use Rattle.esm_body.specs.Inner.Log.{TookSteps, AddedLine}
@@ -39,8 +39,8 @@ use Rattle.esm_body.specs.Inner.Displayed.{bare_state, MemberTold, RefusesTold, 
 use Rattle.esm_body.specs.Inner.World.{Answers, ActsInside}
 use Rattle.esm_body.specs.declared.engine.Engine.{Engine}
 use Rattle.esm_body.specs.declared.log.Log.{Log}
-use Rattle.esm_body.specs.declared.log.Stop.{Stop}
-use Rattle.esm_body.specs.declared.log.Stop.TheVariants as stops
+use Rattle.esm_rewriting.specs.declared.stop.Stop.{Stop}
+use Rattle.esm_rewriting.specs.declared.stop.Stop.TheVariants as stops
 use Rattle.esm_body.specs.declared.inside.Inside.{Inside}
 
 -- ---- tests

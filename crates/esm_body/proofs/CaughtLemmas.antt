@@ -12,22 +12,22 @@ use Rattle.std.specs.Prelude.{Option, None, Result, Ok, Err, OnOk}
 use Rattle.esm_tree.specs.Syntax as x
 use Rattle.esm_tree.specs.Flat.{stmt_part, stmt_parts}
 use Rattle.esm_tree.specs.declared.node.StmtId.{StmtId}
-use Rattle.esm_body.specs.Scopes.{Scope, scope_of, caught_name, handler_scope}
+use Rattle.esm_rewriting.specs.Scopes.{Scope, scope_of, caught_name, handler_scope}
 use Rattle.esm_body.specs.Slots.{scope_of_slots}
 use Rattle.esm_body.specs.declared.work.Slot.{Slot}
 use Rattle.esm_body.specs.declared.work.Kind.TheVariants as k
-use Rattle.esm_body.specs.declared.log.Stop.{Stop}
-use Rattle.esm_body.specs.Rest.{Rest, more, whole}
-use Rattle.esm_body.specs.Rest.Part.{In}
-use Rattle.esm_body.specs.State.{Importing}
-use Rattle.esm_body.specs.BodyRewriting.{RewrittenBody, On}
-use Rattle.esm_body.specs.Contexts.{Context, Block, Trying, scopes_in, placed, surrounded, caught_in}
+use Rattle.esm_base.specs.declared.memory.Memory.{Memory}
+use Rattle.esm_rewriting.specs.Rest.{Rest, more, whole}
+use Rattle.esm_rewriting.specs.Rest.Part.{In}
+use Rattle.esm_rewriting.specs.State.{Importing}
+use Rattle.esm_rewriting.specs.BodyRewriting.{RewrittenBody, On}
+use Rattle.esm_rewriting.specs.Contexts.{Context, Block, Trying, scopes_in, placed, surrounded, caught_in}
 use Rattle.esm_body.specs.Inner.Stack.{handler_of, caught_of, Becomes, IsHandled, IsCaught, IsLeft}
 use Rattle.esm_body.specs.Code.{scope_of_level, contexts_of, context_by, innermost, trying, IsKind, AreLevels}
 use Rattle.esm_body.specs.declared.work.Level.{Level}
 use Rattle.esm_body.proofs.Levels.{contexts_push}
-use Rattle.esm_body.proofs.Moved as moved
-use Rattle.esm_body.proofs.Paths.{same_scopes}
+use Rattle.esm_rewriting.proofs.Moved as moved
+use Rattle.esm_rewriting.proofs.Paths.{same_scopes}
 
 length_push : (ls : List Level) (l : Level) → length (ls ++ l ∷ []) ≡ length ls + 1
 length_push [] l = refl
@@ -75,7 +75,7 @@ trying_as stmts (x.Const bs) scope rest = refl
 trying_as stmts (x.Let bs) scope rest = refl
 trying_as stmts (x.Default e) scope rest = refl
 
-pub handled : (stmts : List Statement) (old new : List Level) (s t : Statement) (ids : List StmtId) (names : List Slot) (name : Option (List ℕ)) (v : CodeValue) (result : Result (Unit {0}) Stop) → s ≡ t → stmt_parts stmts ids ≡ handler_of t → name ≡ caught_of t
+pub handled : (stmts : List Statement) (old new : List Level) (s t : Statement) (ids : List StmtId) (names : List Slot) (name : Option (List ℕ)) (v : CodeValue) (result : Result (Unit {0}) Memory) → s ≡ t → stmt_parts stmts ids ≡ handler_of t → name ≡ caught_of t
     → scope_of_slots names ≡ caught_name name v
     → OnOk result (Becomes stmts old new (placed (context_by stmts k.Block (scope_of_slots names ++ scope_of (stmt_parts stmts ids)) (innermost stmts old)) (whole (stmt_parts stmts ids)))) → IsHandled stmts old s v result new
 handled stmts old new s t ids names name v (Err why) e h n c b = tt
@@ -92,7 +92,7 @@ Caught stmts ls v = caught_in (contexts_of stmts ls) v
 pub block_leads : (stmts : List Statement) (old new : List Level) (kind : BlockKind) (v : CodeValue) → kind ≡ k.Block → IsLeft stmts old kind new → Caught stmts old v ≡ Caught stmts new v
 block_leads stmts old new kind v e h = let h' = subst (λ kind. IsLeft stmts old kind new) e h in ap (λ cs. caught_in {S = Limit} cs v) h'.contexts
 
-pub try_leads : (stmts : List Statement) (first mid new late : List Level) (kind : BlockKind) (id : StmtId) (v : Value') → kind ≡ k.Tries id → IsLeft stmts mid kind new → (result : Result (Unit {0}) Stop) → result ≡ Ok tt → IsHandled stmts new (stmt_part stmts id) (value_of v) result late
+pub try_leads : (stmts : List Statement) (first mid new late : List Level) (kind : BlockKind) (id : StmtId) (v : Value') → kind ≡ k.Tries id → IsLeft stmts mid kind new → (result : Result (Unit {0}) Memory) → result ≡ Ok tt → IsHandled stmts new (stmt_part stmts id) (value_of v) result late
     → Caught stmts first (value_of v) ≡ Caught stmts mid (value_of v) → IsCaught stmts first v (Ok None) late
 try_leads stmts first mid new late kind id v e h result o g l =
     let h' = subst (λ kind. IsLeft stmts mid kind new) e h in

@@ -15,10 +15,10 @@ use Rattle.esm_promise.specs.Code.{Numbered}
 use Rattle.esm_promise.specs.Promises.{Settled}
 use Rattle.esm_promise.specs.Promises.Settled.{Fulfilled, Rejected}
 use Rattle.esm_env.specs.Scopes.{Scopes}
-use Rattle.esm_body.specs.State as state
-use Rattle.esm_body.specs.State.{State, AnswerWith, note, note_by, event_behind, add_line}
-use Rattle.esm_body.specs.Bodies.{await_on, segment_end, settle_done, body_end, ran_by}
-use Rattle.esm_body.specs.Segment.{Ended as ends}
+use Rattle.esm_rewriting.specs.State as state
+use Rattle.esm_rewriting.specs.State.{State, AnswerWith, note, note_by, event_behind, add_line}
+use Rattle.esm_rewriting.specs.Bodies.{await_on, segment_end, settle_done, body_end, ran_by}
+use Rattle.esm_rewriting.specs.Segment.{Ended as ends}
 use Rattle.esm_body.specs.View.{standing_of, engine_of, state_of}
 use Rattle.esm_body.specs.Inner.Going.{EndsSegment, EndsBody}
 use Rattle.esm_body.specs.Inner.Noting.{NotesTo, Notes, NotesRan, SettlesEnd, StandsNow}
@@ -26,8 +26,8 @@ use Rattle.esm_body.specs.Code.{standing_rest}
 use Rattle.esm_body.specs.declared.engine.Engine.{Engine}
 use Rattle.esm_body.specs.declared.engine.Event.{Event}
 use Rattle.esm_body.specs.declared.engine.Event.TheVariants as events
-use Rattle.esm_body.specs.declared.log.Stop.{Stop}
-use Rattle.esm_body.specs.declared.log.Stop.TheVariants as stops
+use Rattle.esm_rewriting.specs.declared.stop.Stop.{Stop}
+use Rattle.esm_rewriting.specs.declared.stop.Stop.TheVariants as stops
 use Rattle.esm_body.specs.declared.ends.Halt.{Halt}
 use Rattle.esm_body.specs.declared.segment.Ended.{Ended}
 use Rattle.esm_body.specs.declared.segment.Ended.TheVariants as e

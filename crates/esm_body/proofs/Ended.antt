@@ -7,13 +7,13 @@ use Rattle.esm_values.specs.Value.{Value}
 use Rattle.esm_values.specs.Code.{CodeValue}
 use Rattle.esm_values.specs.Plans.{Rewritten as comes}
 use Rattle.esm_env.specs.Modules.{Modules}
-use Rattle.esm_body.specs.Scopes.{Scope}
-use Rattle.esm_body.specs.Rest.{Rest, end}
-use Rattle.esm_body.specs.State.{State, Importing}
-use Rattle.esm_body.specs.BodyRewriting.{On}
-use Rattle.esm_body.specs.BodyRewriting.RewritesBody.{inner_end, tries, tries_end}
-use Rattle.esm_body.specs.Inner.Chains.{Turns, only, behind}
-use Rattle.esm_body.specs.Contexts.{Context, Block, Trying, scopes_in, placed, surrounded}
+use Rattle.esm_rewriting.specs.Scopes.{Scope}
+use Rattle.esm_rewriting.specs.Rest.{Rest, end}
+use Rattle.esm_rewriting.specs.State.{State, Importing}
+use Rattle.esm_rewriting.specs.BodyRewriting.{On}
+use Rattle.esm_rewriting.specs.BodyRewriting.RewritesBody.{inner_end, tries, tries_end}
+use Rattle.esm_rewriting.specs.Chains.{Turns, only, behind}
+use Rattle.esm_rewriting.specs.Contexts.{Context, Block, Trying, scopes_in, placed, surrounded}
 use Rattle.esm_body.specs.Inner.Stack.{levels_rest, IsLeft}
 use Rattle.esm_body.specs.Code.{contexts_of, context_by, innermost}
 use Rattle.esm_body.specs.declared.work.Kind.{Kind}
@@ -21,7 +21,7 @@ use Rattle.esm_body.specs.declared.work.Kind.TheVariants as k
 use Rattle.esm_body.specs.declared.work.Level.{Level}
 use Rattle.esm_body.proofs.Levels.{levels_surround}
 use Rattle.esm_body.proofs.CaughtLemmas.{trying_as}
-use Rattle.esm_body.proofs.Paths.{outer_goes}
+use Rattle.esm_rewriting.proofs.Paths.{outer_goes}
 
 abbrev left_rest : {V : Type 0} → Context V → Rest V
 left_rest (Block scope rest) = rest

@@ -12,34 +12,35 @@ use Rattle.esm_expr_eval.specs.Terms.{Term}
 use Rattle.esm_expr_eval.specs.Terms.Term.{Val}
 use Rattle.esm_promise.specs.Outer.{Outer}
 use Rattle.esm_env.specs.Modules.{Modules}
-use Rattle.esm_body.specs.Rest.{Part, Rest, Use, end, more}
-use Rattle.esm_body.specs.Rest.{Part as parts}
-use Rattle.esm_body.specs.State.{State, Importing}
-use Rattle.esm_body.specs.Acts.{Inner}
-use Rattle.esm_body.specs.BodyRewriting.{RewrittenBody, On, RewritesBody}
-use Rattle.esm_body.specs.BodyRewriting.{RewritesBody as rule}
-use Rattle.esm_body.specs.Segment.{RewritesOutermost}
-use Rattle.esm_body.specs.Fits.{Kind}
-use Rattle.esm_body.specs.Inner.Chains.{Comes, here, later, Turns, only, behind}
-use Rattle.esm_body.specs.Contexts.{Context, Block, Trying, scopes_in, surrounded, caught_in}
-use Rattle.esm_body.specs.Sets.{IsNameOf, SetsRest}
+use Rattle.esm_rewriting.specs.Rest.{Part, Rest, Use, end, more}
+use Rattle.esm_rewriting.specs.Rest.{Part as parts}
+use Rattle.esm_rewriting.specs.State.{State, Importing}
+use Rattle.esm_rewriting.specs.Acts.{Inner}
+use Rattle.esm_rewriting.specs.BodyRewriting.{RewrittenBody, On, RewritesBody}
+use Rattle.esm_rewriting.specs.BodyRewriting.{RewritesBody as rule}
+use Rattle.esm_rewriting.specs.Segment.{RewritesOutermost}
+use Rattle.esm_rewriting.specs.Fits.{Kind}
+use Rattle.esm_rewriting.specs.Chains.{Comes, here, later, Turns, only, behind}
+use Rattle.esm_rewriting.specs.Contexts.{Context, Block, Trying, scopes_in, surrounded, caught_in}
+use Rattle.esm_rewriting.specs.Sets.{IsNameOf, SetsRest}
 use Rattle.esm_body.specs.Code.{innermost, in_front_of}
 use Rattle.esm_body.specs.Inner.World.{state_in, inner_of, HasScopes, IsSame, ActsInside, url_inside}
 use Rattle.esm_body.specs.Inner.Turn.{code_contexts, IsReadyFor, Moved, Turned}
-use Rattle.esm_body.specs.declared.log.Stop.{Stop}
-use Rattle.esm_body.specs.declared.log.Stop.TheVariants as stops
+use Rattle.esm_rewriting.specs.declared.stop.Stop.{Stop}
+use Rattle.esm_rewriting.specs.declared.stop.Stop.TheVariants as stops
 use Rattle.esm_body.specs.declared.inside.Inside.{Inside}
 use Rattle.esm_body.specs.declared.turn.Outcome.{Outcome}
 use Rattle.esm_body.specs.declared.turn.Outcome.TheVariants as o
 use Rattle.esm_body.specs.declared.work.Activation.{Activation}
 use Rattle.esm_body.proofs.CaughtLemmas.{thrown_is}
-use Rattle.esm_body.proofs.DeclaredLemmas.{comes_set}
+use Rattle.esm_rewriting.proofs.DeclaredLemmas.{comes_set}
 use Rattle.esm_body.proofs.Led.{Two, value, goes, throws, calls, stopped, Led, led, same_itself}
-use Rattle.esm_body.proofs.OneAct.{BeginsOne}
-use Rattle.esm_body.proofs.Paths.{scopes_are, outer_goes, outer_calls, outer_stops, outer_throws}
-use Rattle.esm_body.proofs.SomeAct.{BeginsSome}
+use Rattle.esm_rewriting.proofs.OneAct.{BeginsOne}
+use Rattle.esm_body.proofs.Paths.{scopes_are}
+use Rattle.esm_rewriting.proofs.Paths.{outer_goes, outer_calls, outer_stops, outer_throws}
+use Rattle.esm_rewriting.proofs.SomeAct.{BeginsSome}
 use Rattle.esm_body.proofs.TurnParts.{keeps_same, keeps_both, part_held, scopes_held}
-use Rattle.esm_body.proofs.Turning.{then_turns, Onward, came_onward}
+use Rattle.esm_rewriting.proofs.Turning.{then_turns, Onward, came_onward}
 
 pub no_end : (cs : List (Context CodeValue)) (p : Part CodeValue) (r : Rest CodeValue) → surrounded cs (more p r) ≡ end → ⊥
 no_end [] p r e = cc

@@ -15,20 +15,20 @@ use Rattle.esm_expr_eval.proofs.Ends.{fill_around}
 use Rattle.esm_expr_eval.proofs.Steps.{rewritten}
 use Rattle.esm_promise.specs.Outer.{Outer}
 use Rattle.esm_env.specs.Modules.{Modules}
-use Rattle.esm_body.specs.Rest.{more}
-use Rattle.esm_body.specs.Rest.{Part as parts}
-use Rattle.esm_body.specs.State.{Importing}
-use Rattle.esm_body.specs.Acts.{Performs}
-use Rattle.esm_body.specs.BodyRewriting.{own_url}
-use Rattle.esm_body.specs.BodyRewriting.{RewritesBody as rule}
-use Rattle.esm_body.specs.Fits.{Kind}
-use Rattle.esm_body.specs.Inner.Chains.{only}
+use Rattle.esm_rewriting.specs.Rest.{more}
+use Rattle.esm_rewriting.specs.Rest.{Part as parts}
+use Rattle.esm_rewriting.specs.State.{Importing}
+use Rattle.esm_rewriting.specs.Acts.{Performs}
+use Rattle.esm_rewriting.specs.BodyRewriting.{own_url}
+use Rattle.esm_rewriting.specs.BodyRewriting.{RewritesBody as rule}
+use Rattle.esm_rewriting.specs.Fits.{Kind}
+use Rattle.esm_rewriting.specs.Chains.{only}
 use Rattle.esm_body.specs.Inner.Running.{doing_filled}
 use Rattle.esm_body.specs.Code.{innermost, awaited_by, use_of}
 use Rattle.esm_body.specs.Inner.Turn.{IsCalling, IsReadyFor, Threw, Turned}
 use Rattle.esm_body.specs.Inner.World.{inner_of}
 use Rattle.esm_body.specs.declared.inside.Inside.{Inside}
-use Rattle.esm_body.specs.declared.log.Stop.{Stop}
+use Rattle.esm_rewriting.specs.declared.stop.Stop.{Stop}
 use Rattle.esm_body.specs.declared.turn.Outcome.{Outcome}
 use Rattle.esm_body.specs.declared.work.Doing.{Doing}
 use Rattle.esm_body.proofs.TurnParts.{keeps_itself, front_throws, threw_turned}

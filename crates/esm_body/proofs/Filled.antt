@@ -16,10 +16,10 @@ use Rattle.esm_expr_eval.specs.declared.frame.Focus.{Focus}
 use Rattle.esm_expr_eval.specs.declared.frame.Focus.TheVariants as focus
 use Rattle.esm_expr_eval.specs.declared.machine.ExprFrame.{ExprFrame}
 use Rattle.esm_expr_eval.proofs.Ends.{fill_around}
-use Rattle.esm_body.specs.Scopes.{Scope}
-use Rattle.esm_body.specs.Rest.{Part, Rest, end, more, fill_part, fill_rest}
-use Rattle.esm_body.specs.Rest.{Part as parts}
-use Rattle.esm_body.specs.Contexts.{Context, Block, Trying, placed, surrounded}
+use Rattle.esm_rewriting.specs.Scopes.{Scope}
+use Rattle.esm_rewriting.specs.Rest.{Part, Rest, end, more, fill_part, fill_rest}
+use Rattle.esm_rewriting.specs.Rest.{Part as parts}
+use Rattle.esm_rewriting.specs.Contexts.{Context, Block, Trying, placed, surrounded}
 use Rattle.esm_body.specs.Code.{in_front, in_front_of, part_of, awaited_by, use_of, contexts_of, context_by, innermost, scope_of_level, AreWork, AreLevels, IsWork, IsCode}
 use Rattle.esm_body.specs.declared.work.Activation.{Activation}
 use Rattle.esm_body.specs.declared.work.Kind.{Kind}

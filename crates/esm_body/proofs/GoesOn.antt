@@ -17,17 +17,17 @@ use Rattle.esm_env.specs.Modules.{Modules}
 use Rattle.esm_env.specs.Calls.{scopes_of}
 use Rattle.esm_env.specs.Scopes.{Scopes}
 use Rattle.esm_body.specs.SameScopes.{HaveSameScopes}
-use Rattle.esm_body.specs.Rest.{Rest, more}
-use Rattle.esm_body.specs.Rest.{Part as parts}
-use Rattle.esm_body.specs.State.{State, Importing}
-use Rattle.esm_body.specs.BodyRewriting.{RewrittenBody, On}
-use Rattle.esm_body.specs.BodyRewriting.{RewritesBody as rule}
-use Rattle.esm_body.specs.Segment.{Segment, next_by}
-use Rattle.esm_body.specs.Segment.{Ended as ends}
+use Rattle.esm_rewriting.specs.Rest.{Rest, more}
+use Rattle.esm_rewriting.specs.Rest.{Part as parts}
+use Rattle.esm_rewriting.specs.State.{State, Importing}
+use Rattle.esm_rewriting.specs.BodyRewriting.{RewrittenBody, On}
+use Rattle.esm_rewriting.specs.BodyRewriting.{RewritesBody as rule}
+use Rattle.esm_rewriting.specs.Segment.{Segment, next_by}
+use Rattle.esm_rewriting.specs.Segment.{Ended as ends}
 use Rattle.esm_body.specs.Importers.{ImportsAreLawful}
-use Rattle.esm_body.specs.Inner.Chains.{Comes, here, only, EndsSo, IsFitNext}
-use Rattle.esm_body.specs.Contexts.{caught_in, surrounded}
-use Rattle.esm_body.specs.Sets.{IsNameOf, SetsMove}
+use Rattle.esm_rewriting.specs.Chains.{Comes, here, only, EndsSo, IsFitNext}
+use Rattle.esm_rewriting.specs.Contexts.{caught_in, surrounded}
+use Rattle.esm_rewriting.specs.Sets.{IsNameOf, SetsMove}
 use Rattle.esm_body.specs.Inner.Going.{FitsBody, MayGoOn, Halts, WentOn, GoesOnWith, GivesUse, GivenBy, CameTo, MovesOn, behind_rest}
 use Rattle.esm_body.specs.Inner.Running.{MayFollow, RanBehind, EndsBehind, ended_of}
 use Rattle.esm_body.specs.Inner.Stack.{IsFront}
@@ -35,8 +35,8 @@ use Rattle.esm_body.specs.Code.{innermost, in_front_of, part_of, use_of, AreLeve
 use Rattle.esm_body.specs.Inner.Turn.{Threw, ThrewTo, code_rest, code_contexts, used}
 use Rattle.esm_body.specs.Inner.World.{state_in, inner_of, with_code}
 use Rattle.esm_body.specs.declared.inside.Inside.{Inside}
-use Rattle.esm_body.specs.declared.log.Stop.{Stop}
-use Rattle.esm_body.specs.declared.log.Stop.TheVariants as stops
+use Rattle.esm_rewriting.specs.declared.stop.Stop.{Stop}
+use Rattle.esm_rewriting.specs.declared.stop.Stop.TheVariants as stops
 use Rattle.esm_body.specs.declared.segment.Ended.{Ended}
 use Rattle.esm_body.specs.declared.turn.Outcome.{Outcome}
 use Rattle.esm_body.specs.declared.turn.Outcome.TheVariants as o
@@ -44,16 +44,16 @@ use Rattle.esm_body.specs.declared.work.Activation.{Activation}
 use Rattle.esm_body.specs.declared.work.Level.{Level}
 use Rattle.esm_body.specs.declared.work.Use.{Use}
 use Rattle.esm_body.specs.declared.work.Work.TheVariants as work
-use Rattle.esm_body.proofs.DeclaredLemmas.{comes_set}
+use Rattle.esm_rewriting.proofs.DeclaredLemmas.{comes_set}
 use Rattle.esm_body.proofs.EndLemmas.{halt}
 use Rattle.esm_body.proofs.Filled.{fill_code}
-use Rattle.esm_body.proofs.Follows.{fits_next, ends_whole}
+use Rattle.esm_rewriting.proofs.Follows.{fits_next, ends_whole}
 use Rattle.esm_body.proofs.Levels.{levels_surround}
 use Rattle.esm_body.proofs.LawfulFits.{lawful_some, lawful_one}
-use Rattle.esm_body.proofs.OneAct.{BeginsOne}
-use Rattle.esm_body.proofs.SomeAct.{BeginsSome}
+use Rattle.esm_rewriting.proofs.OneAct.{BeginsOne}
+use Rattle.esm_rewriting.proofs.SomeAct.{BeginsSome}
 use Rattle.esm_body.proofs.TurnParts.{front_throws}
-use Rattle.esm_body.proofs.Turning.{comes_of}
+use Rattle.esm_rewriting.proofs.Turning.{comes_of}
 
 -- a value stands in front of what remains
 pub gives : {I : Type 0} (w : Inside I) (levels : Vec Level Global) (purpose : Use) (v : Value)
@@ -77,8 +77,8 @@ module _ {I S : Type 0} (seen : I → S) (modules : S → Modules ℕ) (linked :
 
   -- ---- from its start
 
-  pub begins_follow : (w : Inside I) → May w (code_rest w.code.now) → MayFollow seen modules linked fits begins w [] o.On
-  begins_follow w f = (f.0, record { next = f.1.run; made = f.1.made; tree = f.1.belongs.tree; sets = f.1.belongs.sets; before = tt })
+  pub begins_follow : (w : Inside I) → May w (code_rest w.code.now) → MayFollow seen modules linked fits begins w o.On
+  begins_follow w f = (f.0, record { next = f.1.run; known = tt; made = f.1.made; tree = f.1.belongs.tree; sets = f.1.belongs.sets })
 
   pub halts_on : (w y : Inside I) (end : Ended) → Ran w o.On (Ok end) y
       → Halts modules linked begins (state_in seen w) w.code.now (code_rest w.code.now) (halt end y.code.now) (state_in seen y) (scopes_of y.envs.now)
@@ -171,11 +171,11 @@ module _ {I S : Type 0} (seen : I → S) (modules : S → Modules ℕ) (linked :
       sets_next : (move : RewrittenBody CodeValue Limit) → Chain w rest move → SetsMove (IsNameOf (arc_value n.tree).items) move
       sets_next move c = subst (λ (p : Parts). SetsMove (IsNameOf p.items) move) (sym same_parts) (comes_set nat_eq modules begins w.code.now.at.0 (IsNameOf (arc_value w.code.now.tree).items) c f.belongs.sets)
 
-      pub follows_by : (out : Outcome) → MovesOn seen modules begins w rest out n → MayFollow seen modules linked fits begins (With w n) [] out
-      follows_by o.On c = (awaits, record { next = fit_next _ c; made = f.made; tree = tree_next; sets = sets_next _ c; before = tt })
+      pub follows_by : (out : Outcome) → MovesOn seen modules begins w rest out n → MayFollow seen modules linked fits begins (With w n) out
+      follows_by o.On c = (awaits, record { next = fit_next _ c; known = tt; made = f.made; tree = tree_next; sets = sets_next _ c })
       follows_by o.Done c = absurd c
       follows_by (o.Returns v) c = absurd c
-      follows_by (o.Thrown v) c = (awaits, record { next = fit_next _ c; made = f.made; tree = tree_next; sets = sets_next _ c; before = tt })
+      follows_by (o.Thrown v) c = (awaits, record { next = fit_next _ c; known = tt; made = f.made; tree = tree_next; sets = sets_next _ c })
       follows_by (o.Calls g vs d) c = absurd c
       follows_by (o.Waits v p) c = absurd c
 
@@ -197,8 +197,8 @@ module _ {I S : Type 0} (seen : I → S) (modules : S → Modules ℕ) (linked :
     abbrev Came : Inside I → Rest CodeValue → Outcome → Inside I → Type 0
     Came w rest out x = CameTo seen modules begins w rest out x
 
-    pub follows_behind : (w x : Inside I) (rest : Rest CodeValue) (out : Outcome) → May w rest → Came w rest out x → MayFollow seen modules linked fits begins x [] out
-    follows_behind w x rest out f c = subst (λ z. MayFollow seen modules linked fits begins z [] out) (sym c.others) (follows_by w x.code.now rest f.0 f.1 c.same.at c.same.tree out c.moves)
+    pub follows_behind : (w x : Inside I) (rest : Rest CodeValue) (out : Outcome) → May w rest → Came w rest out x → MayFollow seen modules linked fits begins x out
+    follows_behind w x rest out f c = subst (λ z. MayFollow seen modules linked fits begins z out) (sym c.others) (follows_by w x.code.now rest f.0 f.1 c.same.at c.same.tree out c.moves)
 
     pub halts_behind : (w x y : Inside I) (rest : Rest CodeValue) (out : Outcome) (end : Ended) → May w rest → Came w rest out x → Ran x out (Ok end) y
         → Halts modules linked begins (state_in seen w) w.code.now rest (halt end y.code.now) (state_in seen y) (scopes_of y.envs.now)

@@ -4,12 +4,12 @@ use Rattle.esm_resolve.specs.Graph.{Graph}
 use Rattle.esm_resolve.specs.SharedSet.{SharedSetAgrees, SharedSetEnds}
 use Rattle.esm_promise.specs.Outer.{Outer}
 use Rattle.esm_env.specs.Modules.{Modules}
-use Rattle.esm_body.specs.State.{Importing}
-use Rattle.esm_body.specs.Fits.{AreLinked}
+use Rattle.esm_rewriting.specs.State.{Importing}
+use Rattle.esm_rewriting.specs.Fits.{AreLinked}
 use Rattle.esm_body.specs.Importers.{HasLinked, ImportsAreLawful}
-use Rattle.esm_body.proofs.LinkedRead.{linked_read}
-use Rattle.esm_body.proofs.OneAct.{BeginsOne}
-use Rattle.esm_body.proofs.SomeAct.{BeginsSome}
+use Rattle.esm_rewriting.proofs.LinkedRead.{linked_read}
+use Rattle.esm_rewriting.proofs.OneAct.{BeginsOne}
+use Rattle.esm_rewriting.proofs.SomeAct.{BeginsSome}
 
 module _ {I : Type 0} (modules : I → Modules ℕ) (linked : I → ℕ → Bool) (fits : Outer ℕ I → Type 0) (begins : Importing ℕ I) (law : ImportsAreLawful modules linked fits begins) where
   pub begins_some : SharedSetAgrees → SharedSetEnds → BeginsSome modules linked fits begins

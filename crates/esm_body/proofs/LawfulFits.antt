@@ -9,15 +9,15 @@ use Rattle.esm_promise.specs.Promises.{Settled}
 use Rattle.esm_promise.specs.Outer.{Outer}
 use Rattle.esm_env.specs.Modules.{Modules, entries}
 use Rattle.esm_expr_eval.specs.Ready.{Holds}
-use Rattle.esm_body.specs.State.{State, Importing}
-use Rattle.esm_body.specs.Bodies.{StartsBody, RunsBody, ResumesBody, given_by}
-use Rattle.esm_body.specs.Fits.{Knows, FitsState, FitsAfter}
+use Rattle.esm_rewriting.specs.State.{State, Importing}
+use Rattle.esm_rewriting.specs.Bodies.{StartsBody, RunsBody, ResumesBody, given_by}
+use Rattle.esm_rewriting.specs.Fits.{Knows, FitsState, FitsAfter}
 use Rattle.esm_body.specs.Importers.{ImportsAreLawful}
 use Rattle.esm_body.proofs.Lawful.{begins_some, begins_one}
-use Rattle.esm_body.proofs.OneAct.{BeginsOne}
-use Rattle.esm_body.proofs.SomeAct.{BeginsSome}
-use Rattle.esm_body.proofs.SomeBody.{RanKnown}
-use Rattle.esm_body.proofs.FitOutcomes.{start_fits, run_fits, resume_fits}
+use Rattle.esm_rewriting.proofs.OneAct.{BeginsOne}
+use Rattle.esm_rewriting.proofs.SomeAct.{BeginsSome}
+use Rattle.esm_rewriting.proofs.SomeBody.{RanKnown}
+use Rattle.esm_rewriting.proofs.FitOutcomes.{start_fits, run_fits, resume_fits}
 
 module _ {I : Type 0} (modules : I → Modules ℕ) (linked : I → ℕ → Bool) (fits : Outer ℕ I → Type 0) (begins : Importing ℕ I) (agrees : SharedSetAgrees) (ends : SharedSetEnds) (lawful : ImportsAreLawful modules linked fits begins) where
   pub lawful_one : BeginsOne begins

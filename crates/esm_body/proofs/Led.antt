@@ -25,17 +25,17 @@ use Rattle.esm_expr_eval.proofs.Unique.{no_step}
 use Rattle.esm_expr_eval.proofs.Lands as lands
 use Rattle.esm_promise.specs.Outer.{Outer}
 use Rattle.esm_env.specs.Modules.{Modules}
-use Rattle.esm_body.specs.State.{Importing}
-use Rattle.esm_body.specs.Acts.{Inner, Performs}
-use Rattle.esm_body.specs.BodyRewriting.{own_url}
+use Rattle.esm_rewriting.specs.State.{Importing}
+use Rattle.esm_rewriting.specs.Acts.{Inner, Performs}
+use Rattle.esm_rewriting.specs.BodyRewriting.{own_url}
 use Rattle.esm_body.specs.Inner.World.{inner_of, IsSame, AllKnown, KnowsAct, HasScopes, CodeIsWhole, Answers, ActsInside, url_inside}
-use Rattle.esm_body.specs.declared.log.Stop.{Stop}
-use Rattle.esm_body.specs.declared.log.Stop.TheVariants as stops
+use Rattle.esm_rewriting.specs.declared.stop.Stop.{Stop}
+use Rattle.esm_rewriting.specs.declared.stop.Stop.TheVariants as stops
 use Rattle.esm_body.specs.declared.inside.Inside.{Inside}
 use Rattle.esm_body.specs.declared.work.Activation.{Activation}
 use Rattle.esm_body.proofs.Alike.{AlikeActs, Agrees, step_alike}
-use Rattle.esm_body.proofs.OneAct.{BeginsOne, acts_one}
-use Rattle.esm_body.proofs.SomeAct.{BeginsSome, FitsInner, Known, view, lives}
+use Rattle.esm_rewriting.proofs.OneAct.{BeginsOne, acts_one}
+use Rattle.esm_rewriting.proofs.SomeAct.{BeginsSome, FitsInner, Known, view, lives}
 
 -- ---- a world that is told of more calls
 

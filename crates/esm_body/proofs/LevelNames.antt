@@ -7,7 +7,7 @@ use Rattle.std.proofs.Math.Dec.{eqb}
 use Rattle.std.proofs.lemmas.Bool.Decides.{eqb_tells}
 use Rattle.esm_values.specs.Code.{CodeValue}
 use Rattle.esm_env.specs.Cells.{Cell}
-use Rattle.esm_body.specs.Scopes.{Scope, cell_by, in_scope, in_scopes}
+use Rattle.esm_rewriting.specs.Scopes.{Scope, cell_by, in_scope, in_scopes}
 use Rattle.esm_body.specs.Slots.{slot_of}
 use Rattle.esm_body.specs.Inner.Stack.{scopes_round}
 use Rattle.esm_body.specs.Code.{scope_of_level}

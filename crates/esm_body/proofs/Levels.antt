@@ -8,25 +8,25 @@ use Rattle.std.proofs.Math.ListN.{drop_of_length-le}
 use Rattle.esm_tree.specs.Flat.{bindings_of, init_of, init_need, bindings_need}
 use Rattle.esm_tree.specs.declared.node.LexicalBinding.{LexicalBinding}
 use Rattle.esm_values.specs.Code.{numbered}
-use Rattle.esm_body.specs.Rest.{does_bindings, does_init, begin as begin_of}
-use Rattle.esm_body.specs.Rest.{Use as uses}
+use Rattle.esm_rewriting.specs.Rest.{does_bindings, does_init, begin as begin_of}
+use Rattle.esm_rewriting.specs.Rest.{Use as uses}
 use Rattle.esm_tree.specs.Syntax as x
 use Rattle.esm_tree.specs.Syntax.{Stmt as Statement}
 use Rattle.esm_tree.specs.Flat.{stmt_part, stmt_parts, AllStmtsBelow}
 use Rattle.esm_body.proofs.ScopesLemmas.{below_at}
 use Rattle.esm_values.specs.Code.{CodeValue}
-use Rattle.esm_body.specs.Scopes.{Scope, unset, scope_of}
+use Rattle.esm_rewriting.specs.Scopes.{Scope, unset, scope_of}
 use Rattle.std.specs.Prelude.{map, Option, Some, None, Result, Ok, Err, OnOk}
 use Rattle.esm_tree.specs.Syntax.{Stmts}
 use Rattle.esm_env.specs.Declarations.{Declaration, declared_in}
 use Rattle.esm_body.specs.Slots.{slot_of, scope_of_slots, unset_slots}
 use Rattle.esm_body.specs.declared.work.Slot.{Slot}
-use Rattle.esm_body.specs.declared.log.Stop.{Stop}
-use Rattle.esm_body.specs.Rest.{Rest, end, more, whole}
-use Rattle.esm_body.specs.Contexts.{Context, placed, surrounded}
+use Rattle.esm_base.specs.declared.memory.Memory.{Memory}
+use Rattle.esm_rewriting.specs.Rest.{Rest, end, more, whole}
+use Rattle.esm_rewriting.specs.Contexts.{Context, placed, surrounded}
 use Rattle.esm_body.specs.Inner.Stack.{part_by, levels_rest, tries, IsFront, AreNamed, Becomes, IsPopped, IsTaken}
 use Rattle.esm_body.specs.Code.{in_front, scope_of_level, context_by, contexts_of, innermost, trying, part_of, bound_name, name_in, IsWork, AreWork, IsKind, AreLevels}
-use Rattle.esm_body.specs.Rest.{Part as parts}
+use Rattle.esm_rewriting.specs.Rest.{Part as parts}
 use Rattle.esm_body.specs.declared.work.Kind.{Kind}
 use Rattle.esm_body.specs.declared.work.Kind.TheVariants as k
 use Rattle.esm_body.specs.declared.work.Level.{Level}
@@ -206,11 +206,11 @@ pub below_up : (m n : ℕ) (ids : List StmtId) → m < n → AllStmtsBelow m ids
 below_up m n [] h b = tt
 below_up m n (id ∷ ids) h b = (let x = b.0 in omega (arith, h, x), below_up m n ids h b.1)
 
-pub becomes_ok : (stmts : List Statement) (old new : List Level) (r : Rest CodeValue) (result : Result (Unit {0}) Stop) → OnOk result (IsFront stmts old new r) → OnOk result (Becomes stmts old new r)
+pub becomes_ok : (stmts : List Statement) (old new : List Level) (r : Rest CodeValue) (result : Result (Unit {0}) Memory) → OnOk result (IsFront stmts old new r) → OnOk result (Becomes stmts old new r)
 becomes_ok stmts old new r (Ok u) h = becomes stmts old new r h
 becomes_ok stmts old new r (Err e) h = tt
 
-pub sound_ok : (n : ℕ) (stmts : List Statement) (old new : List Level) (r : Rest CodeValue) (result : Result (Unit {0}) Stop) → OnOk result (IsFront stmts old new r) → OnOk result (AreLevels n new) → OnOk result (AreLevels n new × (0 < length new))
+pub sound_ok : (n : ℕ) (stmts : List Statement) (old new : List Level) (r : Rest CodeValue) (result : Result (Unit {0}) Memory) → OnOk result (IsFront stmts old new r) → OnOk result (AreLevels n new) → OnOk result (AreLevels n new × (0 < length new))
 sound_ok n stmts old new r (Ok u) h s = (s, h.2)
 sound_ok n stmts old new r (Err e) h s = tt
 
@@ -255,7 +255,7 @@ module _ (stmts : List Statement) where
 
 -- ---- a statement begins
 
-pub begins_ok : (stmts : List Statement) (old new : List Level) (s t : Statement) (result : Result (Unit {0}) Stop) → s ≡ t → OnOk result (IsFront stmts old new (begin_of numbered t (innermost stmts old))) → OnOk result (Becomes stmts old new (begin_of numbered s (innermost stmts old)))
+pub begins_ok : (stmts : List Statement) (old new : List Level) (s t : Statement) (result : Result (Unit {0}) Memory) → s ≡ t → OnOk result (IsFront stmts old new (begin_of numbered t (innermost stmts old))) → OnOk result (Becomes stmts old new (begin_of numbered s (innermost stmts old)))
 begins_ok stmts old new s t (Ok u) e h = subst (λ s. Becomes stmts old new (begin_of numbered s (innermost stmts old))) (sym e) (becomes stmts old new _ h)
 begins_ok stmts old new s t (Err why) e h = tt
 
@@ -265,24 +265,24 @@ becomes_same stmts old s e = subst (λ s. Becomes stmts old old (begin_of number
 abbrev block_start : List Statement → List Level → Kind → List Slot → List StmtId → Rest CodeValue
 block_start stmts old kind names ids = placed (context_by stmts kind (scope_of_slots names ++ scope_of (stmt_parts stmts ids)) (innermost stmts old)) (whole (stmt_parts stmts ids))
 
-ok_as : (stmts : List Statement) (old new : List Level) (r s : Rest CodeValue) (result : Result (Unit {0}) Stop) → r ≡ s → OnOk result (Becomes stmts old new r) → OnOk result (Becomes stmts old new s)
+ok_as : (stmts : List Statement) (old new : List Level) (r s : Rest CodeValue) (result : Result (Unit {0}) Memory) → r ≡ s → OnOk result (Becomes stmts old new r) → OnOk result (Becomes stmts old new s)
 ok_as stmts old new r s (Ok u) e h = h ∙ ap (surrounded (contexts_of stmts old)) e
 ok_as stmts old new r s (Err why) e h = tt
 
 start_as : (stmts : List Statement) (old : List Level) (kind : Kind) (names : List Slot) (ids slice : List StmtId) → names ≡ [] → slice ≡ ids → block_start stmts old kind names slice ≡ block_start stmts old kind [] ids
 start_as stmts old kind names ids slice n e = λ i. block_start stmts old kind (n i) (e i)
 
-pub block_ok : (stmts : List Statement) (old new : List Level) (s : Statement) (ids slice : List StmtId) (names : List Slot) (result : Result (Unit {0}) Stop) → s ≡ x.Block (stmt_parts stmts ids) → names ≡ [] → slice ≡ ids
+pub block_ok : (stmts : List Statement) (old new : List Level) (s : Statement) (ids slice : List StmtId) (names : List Slot) (result : Result (Unit {0}) Memory) → s ≡ x.Block (stmt_parts stmts ids) → names ≡ [] → slice ≡ ids
     → OnOk result (Becomes stmts old new (block_start stmts old k.Block names slice)) → OnOk result (Becomes stmts old new (begin_of numbered s (innermost stmts old)))
 block_ok stmts old new s ids slice names result e n l h =
     ok_as stmts old new _ _ result (start_as stmts old k.Block names ids slice n l ∙ ap (λ s. begin_of numbered s (innermost stmts old)) (sym e)) h
 
-pub try_ok : (stmts : List Statement) (old new : List Level) (id : StmtId) (ids slice : List StmtId) (names : List Slot) (handler : Stmts) (result : Result (Unit {0}) Stop) → stmt_part stmts id ≡ x.Try (stmt_parts stmts ids) handler → names ≡ [] → slice ≡ ids
+pub try_ok : (stmts : List Statement) (old new : List Level) (id : StmtId) (ids slice : List StmtId) (names : List Slot) (handler : Stmts) (result : Result (Unit {0}) Memory) → stmt_part stmts id ≡ x.Try (stmt_parts stmts ids) handler → names ≡ [] → slice ≡ ids
     → OnOk result (Becomes stmts old new (block_start stmts old (k.Tries id) names slice)) → OnOk result (Becomes stmts old new (begin_of numbered (stmt_part stmts id) (innermost stmts old)))
 try_ok stmts old new id ids slice names handler result e n l h =
     ok_as stmts old new _ _ result (start_as stmts old (k.Tries id) names ids slice n l ∙ rw e refl) h
 
-pub catch_ok : (stmts : List Statement) (old new : List Level) (id : StmtId) (ids slice : List StmtId) (names : List Slot) (name : List ℕ) (handler : Stmts) (result : Result (Unit {0}) Stop) → stmt_part stmts id ≡ x.TryCatch (stmt_parts stmts ids) name handler → names ≡ [] → slice ≡ ids
+pub catch_ok : (stmts : List Statement) (old new : List Level) (id : StmtId) (ids slice : List StmtId) (names : List Slot) (name : List ℕ) (handler : Stmts) (result : Result (Unit {0}) Memory) → stmt_part stmts id ≡ x.TryCatch (stmt_parts stmts ids) name handler → names ≡ [] → slice ≡ ids
     → OnOk result (Becomes stmts old new (block_start stmts old (k.Tries id) names slice)) → OnOk result (Becomes stmts old new (begin_of numbered (stmt_part stmts id) (innermost stmts old)))
 catch_ok stmts old new id ids slice names name handler result e n l h =
     ok_as stmts old new _ _ result (start_as stmts old (k.Tries id) names ids slice n l ∙ rw e refl) h

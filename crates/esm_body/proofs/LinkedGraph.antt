@@ -13,9 +13,9 @@ use Rattle.esm_resolve.specs.Resolution.{module_id, pair_of, IsResolutionOf}
 use Rattle.esm_resolve.specs.declared.graph.Binding.{Binding}
 use Rattle.esm_resolve.specs.declared.graph.Resolution.TheVariants as resolutions
 use Rattle.esm_env.specs.Modules.{Modules, graph, entries}
-use Rattle.esm_body.specs.Fits.{AreLinked}
+use Rattle.esm_rewriting.specs.Fits.{AreLinked}
 use Rattle.esm_body.specs.Importers.{HasLinked}
-use Rattle.esm_body.proofs.Resolved.{good, resolved_good}
+use Rattle.esm_rewriting.proofs.Resolved.{good, resolved_good}
 
 module _ (g : Modules ℕ) (linked : ℕ → Bool) (h : Graph) (urls : ℕ → List ℕ) (l : AreLinked g linked) (has : HasLinked g linked h urls) where
   -- ---- what exports lead to is linked

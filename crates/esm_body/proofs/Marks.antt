@@ -6,7 +6,7 @@ use Rattle.std.proofs.lemmas.Bool.{eqb-true, eq-eqb}
 use Rattle.std.proofs.lemmas.List.{map-append}
 use Rattle.std.proofs.lemmas.List.Folds.{list_any-append}
 use Rattle.esm_base.specs.declared.module_id.ModuleId.{ModuleId}
-use Rattle.esm_body.specs.State.{begins_at}
+use Rattle.esm_rewriting.specs.State.{begins_at}
 use Rattle.esm_body.specs.Noted.{event_of, begun_in, is_marked, AreMarked}
 use Rattle.esm_body.specs.declared.engine.Event.{Event}
 use Rattle.esm_body.specs.declared.engine.Event.TheVariants as events

@@ -31,7 +31,7 @@ use Rattle.esm_env.specs.Reading.IsMemberOf.{member}
 use Rattle.esm_env.specs.Scopes.{Scopes, scope_in, import_of, cells_of, read_end_in, defined}
 use Rattle.esm_env.specs.Faithful.{HasScope, AreScopesOf}
 use Rattle.esm_env.specs.Laws.{EndsRight}
-use Rattle.esm_body.specs.Fits.{AreLinked}
+use Rattle.esm_rewriting.specs.Fits.{AreLinked}
 use Rattle.esm_body.specs.Importers.{HasLinked}
 use Rattle.esm_body.specs.Inner.Displayed.{IsMember, end_reading}
 use Rattle.esm_body.proofs.LinkedGraph.{renumbers, end_linked}

@@ -26,9 +26,9 @@ use Rattle.esm_env.specs.declared.scope.Target.TheVariants as targets
 use Rattle.esm_env.specs.declared.scope.Wrote.{Wrote}
 use Rattle.esm_env.specs.declared.scope.Wrote.TheVariants as wrote
 use Rattle.esm_body.specs.SameScopes.{HaveSameScopes}
-use Rattle.esm_body.specs.Scopes.{Scope, in_scope, in_scopes, set_by, set_in, set_where, set_in_scopes}
-use Rattle.esm_body.specs.State.{Importing}
-use Rattle.esm_body.specs.Acts.{Inner, module_write, scope_write, write_in, set_at}
+use Rattle.esm_rewriting.specs.Scopes.{Scope, in_scope, in_scopes, set_by, set_in, set_where, set_in_scopes}
+use Rattle.esm_rewriting.specs.State.{Importing}
+use Rattle.esm_rewriting.specs.Acts.{Inner, module_write, scope_write, write_in, set_at}
 use Rattle.esm_body.specs.View.{state_of}
 use Rattle.esm_body.specs.Slots.{slot_of, scope_of_slots}
 use Rattle.esm_body.specs.Inner.Stack.{scopes_round}
@@ -386,7 +386,7 @@ same_scope e late m x v result k h n = by (eqb_tells n m)
     by (inl q) = rw q.1 (same_by (scope_in e m) (scope_in late m) x v result k h.0)
     by (inr other) = h.1 n other.1
 
-same_cells : (e late : Scopes) (m : ℕ) (x : List ℕ) (v : Value) (result : Wrote) → Stays result → IsWrittenIn e m x v result late → cells_of late ≡ cells_of e
+pub same_cells : (e late : Scopes) (m : ℕ) (x : List ℕ) (v : Value) (result : Wrote) → Stays result → IsWrittenIn e m x v result late → cells_of late ≡ cells_of e
 same_cells e late m x v result k h = λ j. λ n y. written_by (same_scope e late m x v result k h n j) y
 
 -- ---- over the definitions

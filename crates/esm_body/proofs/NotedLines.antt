@@ -11,9 +11,9 @@ use Rattle.esm_values.specs.Value.{Value}
 use Rattle.esm_promise.specs.Code.{Numbered}
 use Rattle.esm_promise.specs.Promises.{Settled, settle}
 use Rattle.esm_env.specs.Scopes.{Scopes}
-use Rattle.esm_body.specs.State as state
-use Rattle.esm_body.specs.State.{State, AnswerWith, add_line, line_by, event_behind, event_line, note, note_by}
-use Rattle.esm_body.specs.Bodies.{settle_done}
+use Rattle.esm_rewriting.specs.State as state
+use Rattle.esm_rewriting.specs.State.{State, AnswerWith, add_line, line_by, event_behind, event_line, note, note_by}
+use Rattle.esm_rewriting.specs.Bodies.{settle_done}
 use Rattle.esm_body.specs.Noted.{event_of}
 use Rattle.esm_body.specs.View.{engine_of, state_of}
 use Rattle.esm_body.specs.Inner.Log.{AddedLine}
@@ -22,8 +22,8 @@ use Rattle.esm_body.specs.declared.engine.Engine.{Engine}
 use Rattle.esm_body.specs.declared.engine.Event.{Event}
 use Rattle.esm_body.specs.declared.engine.Event.TheVariants as events
 use Rattle.esm_body.specs.declared.log.Log.{Log}
-use Rattle.esm_body.specs.declared.log.Stop.{Stop}
-use Rattle.esm_body.specs.declared.log.Stop.TheVariants as stops
+use Rattle.esm_rewriting.specs.declared.stop.Stop.{Stop}
+use Rattle.esm_rewriting.specs.declared.stop.Stop.TheVariants as stops
 
 not_less : (a b : ℕ) → b ≤ a → nat_lt a b ≡ false
 not_less a b h = by (nat_lt a b) refl

@@ -16,31 +16,31 @@ use Rattle.esm_promise.specs.Promises.{Settled}
 use Rattle.esm_promise.specs.Outer.{Outer}
 use Rattle.esm_env.specs.Modules.{Modules}
 use Rattle.esm_env.specs.Scopes.{Scopes}
-use Rattle.esm_body.specs.Rest.{Rest}
-use Rattle.esm_body.specs.State.{State, Importing}
-use Rattle.esm_body.specs.Bodies.{ResumesBody, Taken, take_standing, given_by, segment_end, url_in, without_standing}
-use Rattle.esm_body.specs.Segment.{Ended, Segment}
-use Rattle.esm_body.specs.Segment.{Ended as over}
+use Rattle.esm_rewriting.specs.Rest.{Rest}
+use Rattle.esm_rewriting.specs.State.{State, Importing}
+use Rattle.esm_rewriting.specs.Bodies.{ResumesBody, Taken, take_standing, given_by, segment_end, url_in, without_standing}
+use Rattle.esm_rewriting.specs.Segment.{Ended, Segment}
+use Rattle.esm_rewriting.specs.Segment.{Ended as over}
 use Rattle.esm_body.specs.Engines.{TakesBodies, AreStanding, IsStanding, Resumed}
-use Rattle.esm_body.specs.Fits.{AreLinked, FitsRun, FitStanding, IsKnown, Knows, of_body}
+use Rattle.esm_rewriting.specs.Fits.{AreLinked, FitsRun, FitStanding, IsKnown, Knows, of_body}
 use Rattle.esm_body.specs.Importers.{HasLinked, ImportsAreLawful}
 use Rattle.esm_body.specs.View.{state_of, standing_of}
-use Rattle.esm_body.specs.Sets.{IsNameOf}
+use Rattle.esm_rewriting.specs.Sets.{IsNameOf}
 use Rattle.esm_body.specs.Inner.Going.{FitsBody, Halts, WentOn, EndsSegment, StandsBehind, behind_rest}
 use Rattle.esm_body.specs.Inner.Noting.{StandsAt}
 use Rattle.esm_body.specs.Inner.Running.{ended_of}
 use Rattle.esm_body.specs.Code.{standing_rest}
 use Rattle.esm_body.specs.declared.ends.Halt.{Halt}
 use Rattle.esm_body.specs.declared.engine.Engine.{Engine}
-use Rattle.esm_body.specs.declared.log.Stop.{Stop}
-use Rattle.esm_body.specs.declared.log.Stop.TheVariants as stops
+use Rattle.esm_rewriting.specs.declared.stop.Stop.{Stop}
+use Rattle.esm_rewriting.specs.declared.stop.Stop.TheVariants as stops
 use Rattle.esm_body.specs.declared.work.Standing.{Standing}
-use Rattle.esm_body.proofs.DeclaredLemmas.{filled_sets}
+use Rattle.esm_rewriting.proofs.DeclaredLemmas.{filled_sets}
 use Rattle.esm_body.proofs.EndLemmas.{end_told}
-use Rattle.esm_body.proofs.Grown.{filled_rest}
+use Rattle.esm_rewriting.proofs.Grown.{filled_rest}
 use Rattle.esm_body.proofs.LawfulFits.{lawful_some, lawful_resume}
-use Rattle.esm_body.proofs.SomeAct.{BeginsSome}
-use Rattle.esm_body.proofs.SomeBody.{TakenFits, taken}
+use Rattle.esm_rewriting.proofs.SomeAct.{BeginsSome}
+use Rattle.esm_rewriting.proofs.SomeBody.{TakenFits, taken}
 use Rattle.esm_body.proofs.StartedLemmas.{url_behind}
 use Rattle.esm_body.proofs.Stay.{stand_at, stand_behind, stand_on, stand_others}
 use Rattle.esm_body.proofs.WaitLemmas.{The}

@@ -11,8 +11,8 @@ use Rattle.esm_env.specs.Calls.{scopes_of}
 use Rattle.esm_env.specs.Scopes.{scope_in}
 use Rattle.esm_env.specs.declared.envs.Envs.{Envs}
 use Rattle.esm_body.specs.SameScopes.{HaveSameScopes}
-use Rattle.esm_body.specs.Rest.{Rest}
-use Rattle.esm_body.specs.State.{State, Importing}
+use Rattle.esm_rewriting.specs.Rest.{Rest}
+use Rattle.esm_rewriting.specs.State.{State, Importing}
 use Rattle.esm_body.specs.Importers.{ImportsAreLawful}
 use Rattle.esm_body.specs.View.{state_of}
 use Rattle.esm_body.specs.Inner.Going.{MayGoOn, Halts, WentOn, CameTo}
@@ -22,8 +22,8 @@ use Rattle.esm_body.specs.Inner.World.{state_in, with_code}
 use Rattle.esm_body.specs.declared.ends.Halt.{Halt}
 use Rattle.esm_body.specs.declared.engine.Engine.{Engine}
 use Rattle.esm_body.specs.declared.inside.Inside.{Inside}
-use Rattle.esm_body.specs.declared.log.Stop.{Stop}
-use Rattle.esm_body.specs.declared.log.Stop.TheVariants as stops
+use Rattle.esm_rewriting.specs.declared.stop.Stop.{Stop}
+use Rattle.esm_rewriting.specs.declared.stop.Stop.TheVariants as stops
 use Rattle.esm_body.specs.declared.segment.Ended.{Ended}
 use Rattle.esm_body.specs.declared.turn.Outcome.{Outcome}
 use Rattle.esm_body.specs.declared.turn.Outcome.TheVariants as o

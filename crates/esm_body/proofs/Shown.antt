@@ -11,10 +11,10 @@ use Rattle.esm_values.specs.Code.{value_of, values_of}
 use Rattle.esm_values.specs.declared.value.Value.{Value}
 use Rattle.esm_env.specs.Modules.{Modules, graph}
 use Rattle.esm_env.specs.Scopes.{Scopes}
-use Rattle.esm_body.specs.Fits.{AreLinked}
+use Rattle.esm_rewriting.specs.Fits.{AreLinked}
 use Rattle.esm_body.specs.Importers.{HasLinked}
 use Rattle.esm_body.specs.Inner.Displayed.{IsShown, AreShown, IsKeys}
-use Rattle.esm_body.proofs.KeysThere.{keys_utf8}
+use Rattle.esm_rewriting.proofs.KeysThere.{keys_utf8}
 use Rattle.esm_body.proofs.LinkedGraph.{renumbers}
 
 module _ (g : Modules ℕ) (linked : ℕ → Bool) (e : Scopes) (errors : Errors) where

@@ -3,9 +3,9 @@ use Rattle.std.proofs.Common.{◌≡◌, ℕ, ◌+◌, ◌<◌, List, [], ◌∷
 use Rattle.esm_tree.specs.Syntax.{Stmt as Statement}
 use Rattle.esm_tree.specs.Flat.{stmt_part}
 use Rattle.esm_values.specs.Code.{CodeValue}
-use Rattle.esm_body.specs.Scopes.{Scope}
-use Rattle.esm_body.specs.Rest.{Rest, end}
-use Rattle.esm_body.specs.Contexts.{Context, surrounded, rescoped, retaken}
+use Rattle.esm_rewriting.specs.Scopes.{Scope}
+use Rattle.esm_rewriting.specs.Rest.{Rest, end}
+use Rattle.esm_rewriting.specs.Contexts.{Context, surrounded, rescoped, retaken}
 use Rattle.esm_body.specs.Inner.Stack.{levels_rest, scopes_round}
 use Rattle.esm_body.specs.Code.{contexts_of, context_by, innermost, in_front, scope_of_level, AreLevels}
 use Rattle.esm_body.specs.Inner.Written.{OnlySlots}

@@ -9,10 +9,12 @@ use Rattle.esm_tree.specs.Flat.{item_of, item_need, items_of, items_need, stmt_p
 use Rattle.esm_tree.specs.declared.node.ItemNode.{ItemNode}
 use Rattle.esm_tree.specs.declared.node.StmtId.{StmtId}
 use Rattle.esm_env.specs.Declarations.{body_of, does, onto}
-use Rattle.esm_body.specs.Rest.{end, more, whole}
-use Rattle.esm_body.specs.Rest.{Part as parts}
-use Rattle.esm_body.specs.Code.{in_front, AreWork}
-use Rattle.esm_body.specs.Inner.Calls.{stmt_told, IsBelowTold, AddsStatement}
+use Rattle.esm_rewriting.specs.Rest.{end, more, whole}
+use Rattle.esm_rewriting.specs.Rest.{Part as parts}
+use Rattle.esm_body.specs.Code.{in_front, AreWork, AreLevels}
+use Rattle.esm_body.specs.Inner.Stack.{levels_rest}
+use Rattle.esm_body.specs.Inner.Calls.{stmt_told, IsBelowTold, AddsStatement, IsOutermost}
+use Rattle.esm_body.specs.declared.work.Level.{Level}
 use Rattle.esm_body.specs.declared.work.Work.{Work}
 use Rattle.esm_body.specs.declared.work.Work.TheVariants as w
 use Rattle.esm_body.proofs.Levels.{front_push, work_push}
@@ -41,3 +43,19 @@ pub need_at : (n : ℕ) (items : List ItemNode) (i : ℕ) (d : ItemNode) → All
 need_at n [] i d a h = absurd (omega (arith, h))
 need_at n (item ∷ items) zero d a h = a.0
 need_at n (item ∷ items) (suc i) d a h = need_at n items i d a.1 (omega (arith, h))
+
+-- ---- the outermost level
+
+pub outer_rest : (stmts : List Statement) (ls : List Level) (work : List Work) → IsOutermost work ls → levels_rest stmts ls ≡ in_front stmts work end
+outer_rest stmts [] work h = absurd h
+outer_rest stmts (l ∷ []) work h = ap (λ ws. in_front stmts ws end) h.0
+outer_rest stmts (l ∷ m ∷ ls) work h = absurd h
+
+pub outer_sound : (n : ℕ) (ls : List Level) (work : List Work) → IsOutermost work ls → AreWork n work → AreLevels n ls
+outer_sound n [] work h w = absurd h
+outer_sound n (l ∷ []) work h w = (rw h.1 tt, subst (AreWork n) (sym h.0) w, tt)
+outer_sound n (l ∷ m ∷ ls) work h w = absurd h
+
+pub outer_some : (ls : List Level) (work : List Work) → IsOutermost work ls → 0 < length ls
+outer_some [] work h = absurd h
+outer_some (l ∷ ls) work h = omega arith

@@ -18,15 +18,15 @@ use Rattle.esm_promise.specs.Outer.{Outer}
 use Rattle.esm_env.specs.Declarations.{body_of}
 use Rattle.esm_env.specs.Modules.{Modules, entries}
 use Rattle.esm_env.specs.Scopes.{Scopes}
-use Rattle.esm_body.specs.Rest.{Rest, whole}
-use Rattle.esm_body.specs.State.{Begins, State, Importing, AnswerWith, note}
-use Rattle.esm_body.specs.Bodies.{StartsBody, RunsBody, url_in, whole_body}
-use Rattle.esm_body.specs.Segment.{Ended, Normal, Thrown, Awaiting, Stopped, Segment}
+use Rattle.esm_rewriting.specs.Rest.{Rest, whole}
+use Rattle.esm_rewriting.specs.State.{Begins, State, Importing, AnswerWith, note}
+use Rattle.esm_rewriting.specs.Bodies.{StartsBody, RunsBody, url_in, whole_body}
+use Rattle.esm_rewriting.specs.Segment.{Ended, Normal, Thrown, Awaiting, Stopped, Segment}
 use Rattle.esm_body.specs.Engines.{TakesBodies, AreStanding, Started, RanBody, KnowsThrown}
-use Rattle.esm_body.specs.Fits.{AreLinked, FitsState, FitsRun, FitsEnd, FitStanding, FitsAfter}
+use Rattle.esm_rewriting.specs.Fits.{AreLinked, FitsState, FitsRun, FitsEnd, FitStanding, FitsAfter}
 use Rattle.esm_body.specs.Importers.{HasLinked, ImportsAreLawful}
 use Rattle.esm_body.specs.View.{state_of, standing_of}
-use Rattle.esm_body.specs.Sets.{IsNameOf, SetsRest}
+use Rattle.esm_rewriting.specs.Sets.{IsNameOf, SetsRest}
 use Rattle.esm_body.specs.Inner.Going.{IsBegun, FitsBody, Halts, WentOn, EndsSegment, EndsBody, IsFinal, StandsBehind}
 use Rattle.esm_body.specs.Inner.Noting.{NotesTo, TracesTo, Notes}
 use Rattle.esm_body.specs.Inner.Running.{ended_of}
@@ -36,21 +36,21 @@ use Rattle.esm_body.specs.Inner.Turn.{code_rest}
 use Rattle.esm_body.specs.declared.ends.Halt.{Halt}
 use Rattle.esm_body.specs.declared.engine.Engine.{Engine}
 use Rattle.esm_body.specs.declared.engine.Event.TheVariants as events
-use Rattle.esm_body.specs.declared.log.Stop.{Stop}
-use Rattle.esm_body.specs.declared.log.Stop.TheVariants as stops
+use Rattle.esm_rewriting.specs.declared.stop.Stop.{Stop}
+use Rattle.esm_rewriting.specs.declared.stop.Stop.TheVariants as stops
 use Rattle.esm_body.specs.declared.segment.Ended as code
 use Rattle.esm_body.specs.declared.segment.Ended.TheVariants as e
 use Rattle.esm_body.specs.declared.work.Activation.{Activation}
 use Rattle.esm_body.specs.declared.work.Standing.{Standing}
-use Rattle.esm_body.proofs.DeclaredLemmas.{body_sets}
+use Rattle.esm_rewriting.proofs.DeclaredLemmas.{body_sets}
 use Rattle.esm_body.proofs.EndLemmas.{end_told, body_told, stays_noted}
-use Rattle.esm_body.proofs.FitOutcomes.{segment_fits}
+use Rattle.esm_rewriting.proofs.FitOutcomes.{segment_fits}
 use Rattle.esm_body.proofs.Lawful.{shows_urls}
 use Rattle.esm_body.proofs.LawfulFits.{lawful_some, lawful_one, lawful_start, lawful_run}
 use Rattle.esm_body.proofs.NotedLines.{notes_ok, notes_stop}
-use Rattle.esm_body.proofs.OneAct.{BeginsOne}
-use Rattle.esm_body.proofs.SomeAct.{BeginsSome}
-use Rattle.esm_body.proofs.SomeBody.{no_await, noted_fits}
+use Rattle.esm_rewriting.proofs.OneAct.{BeginsOne}
+use Rattle.esm_rewriting.proofs.SomeAct.{BeginsSome}
+use Rattle.esm_rewriting.proofs.SomeBody.{no_await, noted_fits}
 use Rattle.esm_body.proofs.Stay.{stand_behind, stand_on}
 use Rattle.esm_body.proofs.UrlStays.{url_stays}
 

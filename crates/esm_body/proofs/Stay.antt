@@ -10,8 +10,8 @@ use Rattle.esm_env.specs.Faithful.{AreScopesOf}
 use Rattle.esm_env.specs.Modules.{Modules}
 use Rattle.esm_env.specs.Scopes.{Scopes}
 use Rattle.esm_body.specs.Engines.{TakesBodies, AreStanding, IsStanding, KeepTrees, StillTakesBodies}
-use Rattle.esm_body.specs.Fits.{FitStanding, FitsState}
-use Rattle.esm_body.specs.State.{Importing}
+use Rattle.esm_rewriting.specs.Fits.{FitStanding, FitsState}
+use Rattle.esm_rewriting.specs.State.{Importing}
 use Rattle.esm_body.specs.View.{standing_of, state_of}
 use Rattle.esm_body.specs.Inner.Going.{StandsBehind}
 use Rattle.esm_body.specs.Inner.Running.{EndBelongs, IsEnded}
@@ -21,7 +21,7 @@ use Rattle.esm_body.specs.declared.segment.Ended.{Ended}
 use Rattle.esm_body.specs.declared.segment.Ended.TheVariants as e
 use Rattle.esm_body.specs.declared.work.Activation.{Activation}
 use Rattle.esm_body.specs.declared.work.Standing.{Standing}
-use Rattle.esm_body.proofs.SomeAct.{held_standing}
+use Rattle.esm_rewriting.proofs.SomeAct.{held_standing}
 
 module _ {S : Type 0} (modules : S → Modules ℕ) (i : S) where
   pub stand_more : (ss : List Standing) (s : Standing) → AreStanding modules i ss → IsStanding modules i s → AreStanding modules i (ss ++ s ∷ [])

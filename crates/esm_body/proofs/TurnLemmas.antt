@@ -14,32 +14,32 @@ use Rattle.esm_values.specs.Plans.{Rewritten as comes}
 use Rattle.esm_expr_eval.specs.Terms.Term.{Val}
 use Rattle.esm_promise.specs.Outer.{Outer}
 use Rattle.esm_env.specs.Modules.{Modules}
-use Rattle.esm_body.specs.Rest.{Part, Rest, more}
-use Rattle.esm_body.specs.Rest.{Part as parts}
-use Rattle.esm_body.specs.Rest.{Use as uses}
-use Rattle.esm_body.specs.State.{Importing}
-use Rattle.esm_body.specs.Acts.{Inner, write_name}
-use Rattle.esm_body.specs.BodyRewriting.{On, RewritesBody, wrote}
-use Rattle.esm_body.specs.BodyRewriting.{RewritesBody as rule}
-use Rattle.esm_body.specs.Segment.{RewritesOutermost}
-use Rattle.esm_body.specs.Fits.{Kind}
+use Rattle.esm_rewriting.specs.Rest.{Part, Rest, more}
+use Rattle.esm_rewriting.specs.Rest.{Part as parts}
+use Rattle.esm_rewriting.specs.Rest.{Use as uses}
+use Rattle.esm_rewriting.specs.State.{Importing}
+use Rattle.esm_rewriting.specs.Acts.{Inner, write_name}
+use Rattle.esm_rewriting.specs.BodyRewriting.{On, RewritesBody, wrote}
+use Rattle.esm_rewriting.specs.BodyRewriting.{RewritesBody as rule}
+use Rattle.esm_rewriting.specs.Segment.{RewritesOutermost}
+use Rattle.esm_rewriting.specs.Fits.{Kind}
 use Rattle.esm_body.specs.Inner.Calls.{begun_branch}
-use Rattle.esm_body.specs.Inner.Chains.{Turns, only}
-use Rattle.esm_body.specs.Contexts.{Context, surrounded, retaken, caught_in}
-use Rattle.esm_body.specs.Sets.{IsNameOf, SetsRest}
+use Rattle.esm_rewriting.specs.Chains.{Turns, only}
+use Rattle.esm_rewriting.specs.Contexts.{Context, surrounded, retaken, caught_in}
+use Rattle.esm_rewriting.specs.Sets.{IsNameOf, SetsRest}
 use Rattle.esm_body.specs.Inner.Stack.{scopes_round, levels_rest}
 use Rattle.esm_body.specs.Code.{contexts_of, innermost, in_front_of, chosen, assigned, use_of, IsCode}
 use Rattle.esm_body.specs.Inner.World.{state_in, inner_of, HasScopes, with_code}
 use Rattle.esm_body.specs.Inner.Written.{IsLike, SetsName, WritesName, thrown}
 use Rattle.esm_body.specs.Inner.Turn.{IsOutcome, code_rest, code_contexts, used, SameCode, IsReadyFor, Came, Turned, Threw}
-use Rattle.esm_body.specs.declared.log.Stop.{Stop}
+use Rattle.esm_rewriting.specs.declared.stop.Stop.{Stop}
 use Rattle.esm_body.specs.declared.inside.Inside.{Inside}
 use Rattle.esm_body.specs.declared.turn.Outcome.{Outcome}
 use Rattle.esm_body.specs.declared.turn.Outcome.TheVariants as o
 use Rattle.esm_body.specs.declared.work.Activation.{Activation}
 use Rattle.esm_body.specs.declared.work.Use.{Use}
 use Rattle.esm_body.specs.declared.work.Use.TheVariants as u
-use Rattle.esm_body.proofs.Moved as moved
+use Rattle.esm_rewriting.proofs.Moved as moved
 use Rattle.esm_body.proofs.Paths.{scopes_are}
 use Rattle.esm_body.proofs.SlotLevels.{rounds_many, slots_many, slots_contexts, slots_rest, slots_levels, slots_some}
 use Rattle.esm_body.proofs.TurnParts.{keeps_itself, keeps_like, keeps_now, declared_cell, Front, front_goes, front_gives, front_throws, rest_is, threw_turned, thrown_retaken}

@@ -22,32 +22,33 @@ use Rattle.esm_env.specs.Scopes.{scope_in, own_cell, cell_by}
 use Rattle.esm_env.specs.declared.envs.Envs.{Envs}
 use Rattle.esm_env.specs.declared.slots.Slot.{Slot}
 use Rattle.esm_body.specs.SameScopes.{HaveSameScopes}
-use Rattle.esm_body.specs.Scopes.{Scope}
-use Rattle.esm_body.specs.Rest.{Part, Rest, more}
-use Rattle.esm_body.specs.State.{State, Importing, steps_by}
-use Rattle.esm_body.specs.Acts.{Inner, over_scopes, Performs}
-use Rattle.esm_body.specs.BodyRewriting.{RewrittenBody, On, Gives, Waits, RewritesBody}
-use Rattle.esm_body.specs.Segment.{RewritesOutermost}
-use Rattle.esm_body.specs.Fits.{Kind, HoldsPart, HoldsRest, HoldScopes, FitsState, Knows}
-use Rattle.esm_body.specs.Inner.Chains.{Turns}
-use Rattle.esm_body.specs.Contexts.{Context, Block, Trying, scopes_in, surrounded, retaken, caught_in}
-use Rattle.esm_body.specs.Sets.{IsNameOf, SetsRest}
+use Rattle.esm_rewriting.specs.Scopes.{Scope}
+use Rattle.esm_rewriting.specs.Rest.{Part, Rest, more}
+use Rattle.esm_rewriting.specs.State.{State, Importing, steps_by}
+use Rattle.esm_rewriting.specs.Acts.{Inner, over_scopes, Performs}
+use Rattle.esm_rewriting.specs.BodyRewriting.{RewrittenBody, On, Gives, Waits, RewritesBody}
+use Rattle.esm_rewriting.specs.Segment.{RewritesOutermost}
+use Rattle.esm_rewriting.specs.Fits.{Kind, HoldsPart, HoldsRest, HoldScopes, FitsState, Knows}
+use Rattle.esm_rewriting.specs.Chains.{Turns}
+use Rattle.esm_rewriting.specs.Contexts.{Context, Block, Trying, scopes_in, surrounded, retaken, caught_in}
+use Rattle.esm_rewriting.specs.Sets.{IsNameOf, SetsRest}
 use Rattle.esm_body.specs.Inner.Stack.{scopes_round}
 use Rattle.esm_body.specs.Code.{innermost, in_front_of}
 use Rattle.esm_body.specs.Inner.World.{state_in, inner_of, HasScopes, IsSame, CodeIsWhole, with_code}
 use Rattle.esm_body.specs.Inner.Written.{IsLike}
 use Rattle.esm_body.specs.Inner.Turn.{code_rest, code_contexts, SameLoans, TreesStay, IsReadyFor, TurnsTo, Moved, move_of, Keeps, Came, Turned, Threw, ThrewTo}
 use Rattle.esm_body.specs.declared.engine.Engine.{Engine}
-use Rattle.esm_body.specs.declared.log.Stop.{Stop}
-use Rattle.esm_body.specs.declared.log.Stop.TheVariants as stops
+use Rattle.esm_rewriting.specs.declared.stop.Stop.{Stop}
+use Rattle.esm_rewriting.specs.declared.stop.Stop.TheVariants as stops
 use Rattle.esm_body.specs.declared.inside.Inside.{Inside}
 use Rattle.esm_body.specs.declared.turn.Outcome.{Outcome}
 use Rattle.esm_body.specs.declared.turn.Outcome.TheVariants as o
 use Rattle.esm_body.specs.declared.work.Activation.{Activation}
 use Rattle.esm_body.proofs.CaughtLemmas.{thrown_is}
 use Rattle.esm_body.proofs.Levels.{levels_surround}
-use Rattle.esm_body.proofs.Moved as moved
-use Rattle.esm_body.proofs.Paths.{scopes_are, held_inside, outer_goes, outer_stops, outer_waits, outer_gives, outer_throws}
+use Rattle.esm_rewriting.proofs.Moved as moved
+use Rattle.esm_body.proofs.Paths.{scopes_are}
+use Rattle.esm_rewriting.proofs.Paths.{held_inside, outer_goes, outer_stops, outer_waits, outer_gives, outer_throws}
 
 apart : {limit : Limit} → ◌≡◌ {A = Result (Unit {0}) Limit} (Ok tt) (Err limit) → ⊥
 apart e = cc
@@ -145,7 +146,7 @@ module _ {I S : Type 0} (seen : I → S) (modules : S → Modules ℕ) (linked :
       let there : scope_in (scopes_of after.envs.now) m ≡ Some s.0 = ap (λ (v : MutBor Envs). scope_in (scopes_of v.now) m) e ∙ s.1 in
       sym (b.trees m s.0 there) ∙ a.trees m s.0 s.1
 
-  scopes_same : (w after : Inside I) → after.envs ≡ w.envs → HaveSameScopes (scopes_of w.envs.now) (scopes_of after.envs.now)
+  pub scopes_same : (w after : Inside I) → after.envs ≡ w.envs → HaveSameScopes (scopes_of w.envs.now) (scopes_of after.envs.now)
   scopes_same w after e m = ap (λ (v : MutBor Envs). is_some (scope_in (scopes_of v.now) m)) e
 
   pub trees_like : (w after : Inside I) → IsLike w after → Trees w after

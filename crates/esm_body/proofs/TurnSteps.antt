@@ -15,23 +15,23 @@ use Rattle.esm_values.specs.Plans.{Follows as follows}
 use Rattle.esm_expr_eval.specs.Terms.Term.{Val}
 use Rattle.esm_promise.specs.Outer.{Outer}
 use Rattle.esm_env.specs.Modules.{Modules}
-use Rattle.esm_body.specs.Rest.{Part, Rest, more, begin}
-use Rattle.esm_body.specs.Rest.{Part as parts}
-use Rattle.esm_body.specs.Rest.{Use as uses}
-use Rattle.esm_body.specs.State.{Importing}
-use Rattle.esm_body.specs.Acts.{Performs}
-use Rattle.esm_body.specs.BodyRewriting.{On}
-use Rattle.esm_body.specs.BodyRewriting.{RewritesBody as rule}
-use Rattle.esm_body.specs.Fits.{Kind, Knows}
-use Rattle.esm_body.specs.Inner.Chains.{Turns, only}
-use Rattle.esm_body.specs.Contexts.{surrounded}
+use Rattle.esm_rewriting.specs.Rest.{Part, Rest, more, begin}
+use Rattle.esm_rewriting.specs.Rest.{Part as parts}
+use Rattle.esm_rewriting.specs.Rest.{Use as uses}
+use Rattle.esm_rewriting.specs.State.{Importing}
+use Rattle.esm_rewriting.specs.Acts.{Performs}
+use Rattle.esm_rewriting.specs.BodyRewriting.{On}
+use Rattle.esm_rewriting.specs.BodyRewriting.{RewritesBody as rule}
+use Rattle.esm_rewriting.specs.Fits.{Kind, Knows}
+use Rattle.esm_rewriting.specs.Chains.{Turns, only}
+use Rattle.esm_rewriting.specs.Contexts.{surrounded}
 use Rattle.esm_body.specs.Inner.Stack.{levels_rest, scopes_round, Becomes, IsNodeOf}
 use Rattle.esm_body.specs.Code.{innermost, AreLevels, IsCode}
 use Rattle.esm_body.specs.Inner.World.{state_in, inner_of, HasScopes, IsSame, CodeIsWhole, Answers, ActsInside, with_code}
 use Rattle.esm_body.specs.Inner.Turn.{code_rest, code_contexts, used, unbegun, IsReadyFor, Came, Halted, Turned}
 use Rattle.esm_body.specs.declared.inside.Inside.{Inside}
-use Rattle.esm_body.specs.declared.log.Stop.{Stop}
-use Rattle.esm_body.specs.declared.log.Stop.TheVariants as stops
+use Rattle.esm_rewriting.specs.declared.stop.Stop.{Stop}
+use Rattle.esm_rewriting.specs.declared.stop.Stop.TheVariants as stops
 use Rattle.esm_body.specs.declared.turn.Outcome.TheVariants as o
 use Rattle.esm_body.specs.declared.work.Activation.{Activation}
 use Rattle.esm_body.specs.declared.work.Use.TheVariants as u

@@ -6,15 +6,15 @@ use Rattle.esm_tree.specs.Syntax.{Stmt as Statement}
 use Rattle.esm_values.specs.Code.{CodeValue}
 use Rattle.esm_promise.specs.Outer.{Outer}
 use Rattle.esm_env.specs.Modules.{Modules}
-use Rattle.esm_body.specs.Rest.{Rest, end, more}
-use Rattle.esm_body.specs.State.{Importing}
-use Rattle.esm_body.specs.Fits.{Kind}
-use Rattle.esm_body.specs.Contexts.{surrounded}
+use Rattle.esm_rewriting.specs.Rest.{Rest, end, more}
+use Rattle.esm_rewriting.specs.State.{Importing}
+use Rattle.esm_rewriting.specs.Fits.{Kind}
+use Rattle.esm_rewriting.specs.Contexts.{surrounded}
 use Rattle.esm_body.specs.Inner.Stack.{levels_rest, IsTaken, IsLeft}
 use Rattle.esm_body.specs.Code.{contexts_of, innermost, in_front_of, part_of, AreLevels, IsWork, IsCode}
 use Rattle.esm_body.specs.Inner.World.{state_in, with_code}
 use Rattle.esm_body.specs.Inner.Turn.{code_rest, IsReadyFor, MayTurn, Came, Turned}
-use Rattle.esm_body.specs.declared.log.Stop.{Stop}
+use Rattle.esm_rewriting.specs.declared.stop.Stop.{Stop}
 use Rattle.esm_body.specs.declared.inside.Inside.{Inside}
 use Rattle.esm_body.specs.declared.turn.Outcome.{Outcome}
 use Rattle.esm_body.specs.declared.turn.Outcome.TheVariants as o

@@ -4,15 +4,15 @@ use Rattle.esm_resolve.specs.SharedSet.{SharedSetAgrees, SharedSetEnds}
 use Rattle.esm_values.specs.Value.{Value, Namespace}
 use Rattle.esm_promise.specs.Outer.{Outer}
 use Rattle.esm_env.specs.Modules.{Modules}
-use Rattle.esm_body.specs.Rest.{Rest}
-use Rattle.esm_body.specs.State.{State, Importing}
-use Rattle.esm_body.specs.Segment.{Ended, Normal, Thrown, Awaiting, Stopped, Segment}
-use Rattle.esm_body.specs.Fits.{FitsRun, FitsEnd}
+use Rattle.esm_rewriting.specs.Rest.{Rest}
+use Rattle.esm_rewriting.specs.State.{State, Importing}
+use Rattle.esm_rewriting.specs.Segment.{Ended, Normal, Thrown, Awaiting, Stopped, Segment}
+use Rattle.esm_rewriting.specs.Fits.{FitsRun, FitsEnd}
 use Rattle.esm_body.specs.Importers.{ImportsAreLawful}
-use Rattle.esm_body.proofs.FitOutcomes.{segment_fits}
+use Rattle.esm_rewriting.proofs.FitOutcomes.{segment_fits}
 use Rattle.esm_body.proofs.Lawful.{begins_one}
-use Rattle.esm_body.proofs.LinkedRead.{linked_read}
-use Rattle.esm_body.proofs.SomeAct.{BeginsSome}
+use Rattle.esm_rewriting.proofs.LinkedRead.{linked_read}
+use Rattle.esm_rewriting.proofs.SomeAct.{BeginsSome}
 
 module _ {S : Type 0} (modules : S → Modules ℕ) (linked : S → ℕ → Bool) (fits : Outer ℕ S → Type 0) (begins : Importing ℕ S) (agrees : SharedSetAgrees) (ends : SharedSetEnds) (lawful : ImportsAreLawful modules linked fits begins) (m : ℕ) (u : List ℕ) where
   -- the module is linked, and has this URL

@@ -3,11 +3,11 @@ use Rattle.std.proofs.Common.{◌≡◌, ℕ, Bool, subst, sym}
 use Rattle.std.specs.Prelude.{Result}
 use Rattle.esm_promise.specs.Outer.{Outer}
 use Rattle.esm_env.specs.Modules.{Modules}
-use Rattle.esm_body.specs.State.{Importing}
+use Rattle.esm_rewriting.specs.State.{Importing}
 use Rattle.esm_body.specs.Code.{IsUse}
 use Rattle.esm_body.specs.Inner.Turn.{used, MayTurn, Turned}
 use Rattle.esm_body.specs.declared.inside.Inside.{Inside}
-use Rattle.esm_body.specs.declared.log.Stop.{Stop}
+use Rattle.esm_rewriting.specs.declared.stop.Stop.{Stop}
 use Rattle.esm_body.specs.declared.turn.Outcome.{Outcome}
 use Rattle.esm_body.specs.declared.work.Use.{Use}
 use Rattle.esm_values.specs.declared.value.Value.{Value}

@@ -9,7 +9,7 @@ use Rattle.esm_values.specs.Code.{CodeValue}
 use Rattle.esm_promise.specs.Code.{Numbered}
 use Rattle.esm_promise.specs.Promises.{register, make_fulfilled, next_promise}
 use Rattle.esm_promise.specs.Reactions.{Await}
-use Rattle.esm_body.specs.Bodies.{Taken, await_on, behind, take_by, take_standing}
+use Rattle.esm_rewriting.specs.Bodies.{Taken, await_on, behind, take_by, take_standing}
 use Rattle.esm_body.specs.View.{standing_of}
 use Rattle.esm_body.specs.Inner.Noting.{StandsNow, StandsAt}
 use Rattle.esm_body.specs.declared.engine.Engine.{Engine}

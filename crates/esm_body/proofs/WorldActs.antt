@@ -17,18 +17,18 @@ use Rattle.esm_promise.specs.Outer.{Outer}
 use Rattle.esm_env.specs.Modules.{Modules}
 use Rattle.esm_env.specs.Calls.{scopes_of}
 use Rattle.esm_env.specs.Laws.{ReadsRight}
-use Rattle.esm_body.specs.State.{Importing}
+use Rattle.esm_rewriting.specs.State.{Importing}
 use Rattle.esm_body.specs.Importers.{ImportsAreLawful, outer_with}
-use Rattle.esm_body.specs.Fits.{AreLinked}
+use Rattle.esm_rewriting.specs.Fits.{AreLinked}
 use Rattle.esm_body.specs.Inner.Stack.{scopes_round}
 use Rattle.esm_body.specs.Inner.Log.{TookSteps, AddedLine}
 use Rattle.esm_body.specs.Inner.Names.{reading_in, Tells}
 use Rattle.esm_body.specs.Inner.Displayed.{IsShown, AreShown, IsSpecifier, MemberTold, RefusesTold, BeginsTold}
-use Rattle.esm_body.specs.Acts.{Inner}
+use Rattle.esm_rewriting.specs.Acts.{Inner}
 use Rattle.esm_body.specs.Inner.World.{state_in, inner_of, IsSame, CodeIsWhole, ActsInside}
 use Rattle.esm_body.specs.declared.log.Log.{Log}
-use Rattle.esm_body.specs.declared.log.Stop.{Stop}
-use Rattle.esm_body.specs.declared.log.Stop.TheVariants as stops
+use Rattle.esm_rewriting.specs.declared.stop.Stop.{Stop}
+use Rattle.esm_rewriting.specs.declared.stop.Stop.TheVariants as stops
 use Rattle.esm_body.specs.declared.inside.Inside.{Inside}
 use Rattle.esm_body.proofs.Asked.{shows_there, show_all_there, read_performs, member_performs, refuse_performs, line_ok, line_stops, step_ok, step_stops, begin_performs, begin_stops, read_acts, member_acts}
 

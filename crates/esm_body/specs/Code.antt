@@ -10,13 +10,13 @@ use Rattle.esm_values.specs.Code.{CodeValue, value_of}
 use Rattle.esm_expr_eval.specs.Terms.Term.{Val}
 use Rattle.esm_expr_eval.specs.Machine.{rest_of, IsSound, IsGiven}
 use Rattle.esm_env.specs.Modules.{Modules}
-use Rattle.esm_body.specs.Scopes.{Scope}
-use Rattle.esm_body.specs.Rest.{Part, Rest, end, more}
-use Rattle.esm_body.specs.Rest.{Use as Purpose}
-use Rattle.esm_body.specs.Rest.{Use as uses}
-use Rattle.esm_body.specs.Rest.{Part as parts}
-use Rattle.esm_body.specs.Contexts.{Context, Block, Trying, surrounded}
-use Rattle.esm_body.specs.Sets.{IsNameOf, SetsRest}
+use Rattle.esm_rewriting.specs.Scopes.{Scope}
+use Rattle.esm_rewriting.specs.Rest.{Part, Rest, end, more}
+use Rattle.esm_rewriting.specs.Rest.{Use as Purpose}
+use Rattle.esm_rewriting.specs.Rest.{Use as uses}
+use Rattle.esm_rewriting.specs.Rest.{Part as parts}
+use Rattle.esm_rewriting.specs.Contexts.{Context, Block, Trying, surrounded}
+use Rattle.esm_rewriting.specs.Sets.{IsNameOf, SetsRest}
 use Rattle.esm_body.specs.Slots.{scope_of_slots}
 use Rattle.esm_body.specs.declared.work.Use.{Use}
 use Rattle.esm_body.specs.declared.work.Use.TheVariants as u

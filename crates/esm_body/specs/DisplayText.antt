@@ -5,9 +5,9 @@ use Rattle.esm_values.specs.Errors.{Errors}
 use Rattle.esm_env.specs.Faithful.{AreScopesOf}
 use Rattle.esm_env.specs.Modules.{Modules}
 use Rattle.esm_env.specs.Scopes.{Scopes}
-use Rattle.esm_body.specs.Acts.{Displays}
-use Rattle.esm_body.specs.Fits.{AreLinked, IsKnown}
-use Rattle.esm_body.specs.State.{State}
+use Rattle.esm_rewriting.specs.Acts.{Displays}
+use Rattle.esm_rewriting.specs.Fits.{AreLinked, IsKnown}
+use Rattle.esm_rewriting.specs.State.{State}
 
 module _ {S : Type 0} (modules : S → Modules ℕ) (linked : S → ℕ → Bool) where
   -- where the value is known over linked modules, whose scopes these are, it is displayed so in each state with these errors and modules

@@ -11,16 +11,16 @@ use Rattle.esm_promise.specs.Promises.{Settled}
 use Rattle.esm_promise.specs.Outer.{Outer}
 use Rattle.esm_env.specs.Modules.{Modules}
 use Rattle.esm_env.specs.Scopes.{Scopes, cells_of}
-use Rattle.esm_body.specs.State.{State, Importing}
-use Rattle.esm_body.specs.Bodies.{StartsBody, RunsBody, ResumesBody}
-use Rattle.esm_body.specs.Fits.{AreKnownCells, FitsState, Knows}
+use Rattle.esm_rewriting.specs.State.{State, Importing}
+use Rattle.esm_rewriting.specs.Bodies.{StartsBody, RunsBody, ResumesBody}
+use Rattle.esm_rewriting.specs.Fits.{AreKnownCells, FitsState, Knows}
 use Rattle.esm_env.specs.Faithful.{AreScopesOf}
 use Rattle.esm_body.specs.Importers.{outer_with}
 use Rattle.esm_body.specs.View.{state_of}
 use Rattle.esm_body.specs.Code.{Belongs, standing_rest, IsUse, IsCode}
 use Rattle.esm_body.specs.declared.engine.Engine.{Engine}
-use Rattle.esm_body.specs.declared.log.Stop.{Stop}
-use Rattle.esm_body.specs.declared.log.Stop.TheVariants as stops
+use Rattle.esm_rewriting.specs.declared.stop.Stop.{Stop}
+use Rattle.esm_rewriting.specs.declared.stop.Stop.TheVariants as stops
 use Rattle.esm_body.specs.declared.work.Standing.{Standing}
 
 module _ {S : Type 0} (modules : S → Modules ℕ) where

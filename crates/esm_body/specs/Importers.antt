@@ -11,11 +11,11 @@ use Rattle.esm_promise.specs.Outer.{Outer}
 use Rattle.esm_env.specs.Modules.{Modules, entries}
 use Rattle.esm_env.specs.Faithful.{AreScopesOf}
 use Rattle.esm_env.specs.Scopes.{Scopes}
-use Rattle.esm_body.specs.State.{Importing}
-use Rattle.esm_body.specs.Bodies.{await_on, given_by}
-use Rattle.esm_body.specs.Fits.{AreLinked, IsKnown}
-use Rattle.esm_body.specs.declared.log.Stop.{Stop}
-use Rattle.esm_body.specs.declared.log.Stop.TheVariants as stops
+use Rattle.esm_rewriting.specs.State.{Importing}
+use Rattle.esm_rewriting.specs.Bodies.{await_on, given_by}
+use Rattle.esm_rewriting.specs.Fits.{AreLinked, IsKnown}
+use Rattle.esm_rewriting.specs.declared.stop.Stop.{Stop}
+use Rattle.esm_rewriting.specs.declared.stop.Stop.TheVariants as stops
 
 abbrev pub outer_with : {I : Type 0} → Numbered → Errors → I → Outer ℕ I
 outer_with promises errors imports = record { promises = promises; errors = errors; imports = imports }

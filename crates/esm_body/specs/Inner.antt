@@ -1,9 +1,9 @@
 pub mod Log
 pub mod Stack
 pub mod World
+pub mod Functions
 pub mod Names
 pub mod Displayed
-pub mod Chains
 pub mod Calls
 pub mod Written
 pub mod Turn

@@ -1,8 +1,8 @@
 -- Events as the code notes them, and the marks of the bodies that have begun.
 use Rattle.std.specs.Prelude.{◌≡◌, ℕ, nat_eq, Bool, false, List, map, slice_get, Option, Some, None}
 use Rattle.std.specs.List.{list_any}
-use Rattle.esm_body.specs.State as state
-use Rattle.esm_body.specs.State.{begins_at}
+use Rattle.esm_rewriting.specs.State as state
+use Rattle.esm_rewriting.specs.State.{begins_at}
 use Rattle.esm_body.specs.declared.engine.Event.{Event}
 use Rattle.esm_body.specs.declared.engine.Event.TheVariants as events
 

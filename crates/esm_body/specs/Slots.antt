@@ -4,7 +4,7 @@ use Rattle.esm_env.specs.Declarations.{Declaration}
 use Rattle.esm_env.specs.Slots.{valued_by}
 use Rattle.esm_values.specs.Code.{CodeValue}
 use Rattle.esm_values.specs.declared.value.Value.{Value}
-use Rattle.esm_body.specs.Scopes.{NamedCell, Scope}
+use Rattle.esm_rewriting.specs.Scopes.{NamedCell, Scope}
 use Rattle.esm_body.specs.declared.work.Slot.{Slot}
 
 abbrev pub slot_with : List ℕ → Bool → Option Value → Slot

@@ -3,8 +3,8 @@ use Rattle.std.specs.Prelude.{ℕ, map, string_bytes}
 use Rattle.esm_values.specs.Errors.{Errors}
 use Rattle.esm_promise.specs.Code.{Numbered}
 use Rattle.esm_env.specs.Scopes.{Scopes, cells_of}
-use Rattle.esm_body.specs.State as state
-use Rattle.esm_body.specs.State.{State}
+use Rattle.esm_rewriting.specs.State as state
+use Rattle.esm_rewriting.specs.State.{State}
 use Rattle.esm_body.specs.Importers.{outer_with}
 use Rattle.esm_body.specs.Code.{standing_rest}
 use Rattle.esm_body.specs.Noted.{event_of}

@@ -4,20 +4,20 @@ ghost use Rattle.std.specs.Arc.{arc_value};
 ghost use Rattle.esm_tree.specs.Syntax.{Stmt};
 ghost use Rattle.esm_tree.specs.Flat as flat;
 ghost use Rattle.esm_tree.specs.Flat.{part, stmt_parts, init_of, init_need, bindings_of, bindings_need};
-ghost use Rattle.esm_body.specs.Scopes.{scope_of};
+ghost use Rattle.esm_rewriting.specs.Scopes.{scope_of};
 ghost use Rattle.esm_values.specs.Code.{numbered};
 ghost use Rattle.esm_expr_eval.specs.Terms.{term};
-ghost use Rattle.esm_body.specs.Rest as rests;
-ghost use Rattle.esm_body.specs.Rest.{more, end, whole};
-ghost use Rattle.esm_body.specs.Rest.Part.{Does};
+ghost use Rattle.esm_rewriting.specs.Rest as rests;
+ghost use Rattle.esm_rewriting.specs.Rest.{more, end, whole};
+ghost use Rattle.esm_rewriting.specs.Rest.Part.{Does};
 ghost use Rattle.esm_body.specs.Slots.{scope_of_slots};
-ghost use Rattle.esm_body.specs.Contexts.{placed};
+ghost use Rattle.esm_rewriting.specs.Contexts.{placed};
 ghost use Rattle.esm_body.specs.Inner.Stack.{IsFront, AreNamed, Becomes, IsNodeOf, IsPopped, IsTaken};
 ghost use Rattle.esm_body.specs.Code.{in_front, innermost, contexts_of, context_by, part_of, awaited_by, use_of, IsUse, IsWork, AreWork, IsKind, AreLevels, name_in, bound_name, assigned};
 
-use crate::log::Stop;
 use crate::scopes::add_block;
 use crate::work::{Doing, Kind, Level, Slot, Use, Work};
+use esm_base::Memory;
 use esm_expr_eval::ExprFrame;
 use esm_tree::{ExprId, Initializer, LexicalBinding, StmtId, StmtNode, Tree};
 use esm_values::Value;
@@ -32,7 +32,7 @@ pub(crate) fn is_pushed(work: &mut Vec<Work>, one: Work) -> bool
 }
 
 /// The work of these statements, the first last.
-fn block_work(alloc: Global, ids: &[StmtId]) -> Result<Vec<Work>, Stop>
+fn block_work(alloc: Global, ids: &[StmtId]) -> Result<Vec<Work>, Memory>
     ensures work { (stmts : List Stmt) → IfOk result (λ work. in_front stmts work.items end
         ≡ whole (stmt_parts stmts ids.now)) }
     ensures sound { (n : ℕ) → flat.AllStmtsBelow n ids.now
@@ -41,7 +41,7 @@ fn block_work(alloc: Global, ids: &[StmtId]) -> Result<Vec<Work>, Stop>
     let mut work = Vec::new(alloc);
     for place in (0..ids.len()).rev() {
         if !is_pushed(&mut work, Work::Whole(ids[place])) {
-            return Err(Stop::Memory);
+            return Err(Memory);
         }
     }
     Ok(work)
@@ -62,7 +62,7 @@ pub(crate) fn begin_block(
     kind: Kind,
     names: Vec<Slot>,
     ids: &[StmtId],
-) -> Result<(), Stop>
+) -> Result<(), Memory>
     requires levels { 0 < length levels.old.items }
     requires ids { flat.AllStmtsBelow (length (arc_value tree.now).stmts) ids.now }
     ensures begun { OnOk result (Becomes (arc_value tree.now).stmts levels.old.items
@@ -79,17 +79,17 @@ pub(crate) fn begin_block(
     let mut slots = names;
     match add_block(alloc, &mut slots, tree, ids) {
         Ok(()) => {}
-        Err(_) => return Err(Stop::Memory),
+        Err(_) => return Err(Memory),
     }
     match block_work(alloc, ids) {
         Ok(work) => {
             if is_begun(levels, Level { kind, slots, work }) {
                 Ok(())
             } else {
-                Err(Stop::Memory)
+                Err(Memory)
             }
         }
-        Err(stop) => Err(stop),
+        Err(Memory) => Err(Memory),
     }
 }
 
@@ -102,7 +102,7 @@ fn is_added(level: &mut Level, work: Work) -> bool
 }
 
 /// Adds work in front of the innermost level.
-pub(crate) fn add(levels: &mut Vec<Level>, work: Work) -> Result<(), Stop>
+pub(crate) fn add(levels: &mut Vec<Level>, work: Work) -> Result<(), Memory>
     requires { 0 < length levels.old.items }
     ensures front { (stmts : List Stmt) → OnOk result (IsFront stmts levels.old.items
         levels.new.items (more (part_of stmts work) (innermost stmts levels.old.items))) }
@@ -113,7 +113,7 @@ pub(crate) fn add(levels: &mut Vec<Level>, work: Work) -> Result<(), Stop>
     if is_added(&mut levels[top], work) {
         Ok(())
     } else {
-        Err(Stop::Memory)
+        Err(Memory)
     }
 }
 
@@ -125,7 +125,7 @@ fn does(
     purpose: Use,
     awaits: bool,
     at: ExprId,
-) -> Result<(), Stop>
+) -> Result<(), Memory>
     requires levels { 0 < length levels.old.items }
     requires at { at.0 < length (arc_value tree.now).exprs }
     ensures front { (stmts : List Stmt) → OnOk result (IsFront stmts levels.old.items
@@ -144,9 +144,9 @@ fn does(
                     frame,
                 }),
             ),
-            Err(_) => Err(Stop::Memory),
+            Err(_) => Err(Memory),
         },
-        Err(_) => Err(Stop::Memory),
+        Err(_) => Err(Memory),
     }
 }
 
@@ -157,7 +157,7 @@ fn does_init(
     levels: &mut Vec<Level>,
     purpose: Use,
     value: Initializer,
-) -> Result<(), Stop>
+) -> Result<(), Memory>
     requires levels { 0 < length levels.old.items }
     requires value { init_need value ≤ length (arc_value tree.now).exprs }
     ensures front { (stmts : List Stmt) → OnOk result (IsFront stmts levels.old.items
@@ -180,7 +180,7 @@ fn does_bindings(
     levels: &mut Vec<Level>,
     id: StmtId,
     bindings: &[LexicalBinding],
-) -> Result<(), Stop>
+) -> Result<(), Memory>
     requires levels { 0 < length levels.old.items }
     requires value { bindings_need bindings.now ≤ length (arc_value tree.now).exprs }
     ensures front { (stmts : List Stmt)
@@ -200,7 +200,7 @@ fn does_bindings(
             bindings[place].value,
         ) {
             Ok(()) => {}
-            Err(stop) => return Err(stop),
+            Err(Memory) => return Err(Memory),
         }
     }
     Ok(())
@@ -213,7 +213,7 @@ pub(crate) fn begin(
     levels: &mut Vec<Level>,
     id: StmtId,
     node: &StmtNode,
-) -> Result<(), Stop>
+) -> Result<(), Memory>
     requires levels { 0 < length levels.old.items }
     requires id { id.0 < length (arc_value tree.now).stmts }
     requires node { IsNodeOf (arc_value tree.now) id node.now }

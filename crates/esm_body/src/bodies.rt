@@ -4,23 +4,24 @@ ghost use Rattle.esm_env.specs.Calls.{scopes_of};
 ghost use Rattle.esm_env.specs.Modules.{entries};
 ghost use Rattle.esm_expr_eval.specs.Ready.{Holds};
 ghost use Rattle.esm_promise.specs.Code.{settled_of};
-ghost use Rattle.esm_body.specs.Bodies.{Taken, take_standing, given_by};
+ghost use Rattle.esm_rewriting.specs.Bodies.{Taken, take_standing, given_by};
 ghost use Rattle.esm_body.specs.Engines.{TakesBodies, Started, RanBody, Resumed, KnowsThrown};
-ghost use Rattle.esm_body.specs.Fits.{IsKnown};
+ghost use Rattle.esm_rewriting.specs.Fits.{IsKnown};
 ghost use Rattle.esm_body.specs.Inner.Noting.{StandsAt};
 ghost use Rattle.esm_body.specs.Noted.{event_of};
 ghost use Rattle.esm_body.specs.SameScopes.{HaveSameScopes};
-ghost use Rattle.esm_body.specs.State.{has_begun, opening_engine};
+ghost use Rattle.esm_rewriting.specs.State.{has_begun, opening_engine};
 ghost use Rattle.esm_body.specs.View.{engine_of, state_of};
 
 use crate::engine::{Engine, Event};
 use crate::events::Events;
 use crate::going::begun;
 use crate::importer::Importer;
-use crate::log::{Log, Stop};
+use crate::log::Log;
 use esm_base::{Memory, ModuleId};
 use esm_env::Envs;
 use esm_promise::{Promises, Settled};
+use esm_rewriting::Stop;
 use esm_values::{Errors, PromiseId, Ran};
 use std::alloc::Global;
 

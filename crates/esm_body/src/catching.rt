@@ -3,16 +3,16 @@ ghost use Rattle.std.specs.Prelude.{◌≡◌, ◌<◌, ℕ, length, List, OnOk,
 ghost use Rattle.std.specs.Arc.{arc_value};
 ghost use Rattle.esm_tree.specs.Syntax.{Stmt};
 ghost use Rattle.esm_tree.specs.Flat.{stmt_part, stmt_parts, stmt_of, IsStmtBelow, AllStmtsBelow};
-ghost use Rattle.esm_body.specs.Scopes as scopes;
+ghost use Rattle.esm_rewriting.specs.Scopes as scopes;
 ghost use Rattle.esm_body.specs.Slots.{scope_of_slots};
 ghost use Rattle.esm_values.specs.Code.{value_of};
 ghost use Rattle.esm_body.specs.Inner.Stack.{handler_of, caught_of, told_name, IsLeft, IsCaught, IsNodeOf, IsHandled};
 ghost use Rattle.esm_body.specs.Code.{AreLevels, IsKind};
 
 use crate::blocks::begin_block;
-use crate::log::Stop;
 use crate::scopes::add_slot;
 use crate::work::{Kind, Level, Slot};
+use esm_base::Memory;
 use esm_tree::{StmtId, StmtNode, Tree};
 use esm_values::Value;
 use std::alloc::Global;
@@ -84,7 +84,7 @@ fn caught_name(node: &StmtNode) -> Option<&str>
 }
 
 /// The names of a handler before its own: the one that it catches.
-fn caught_slots(alloc: Global, name: Option<&str>, thrown: Value) -> Result<Vec<Slot>, Stop>
+fn caught_slots(alloc: Global, name: Option<&str>, thrown: Value) -> Result<Vec<Slot>, Memory>
     ensures { IfOk result (λ slots. scope_of_slots slots.items
         ≡ scopes.caught_name (told_name name.entry) (value_of thrown)) }
 {
@@ -92,7 +92,7 @@ fn caught_slots(alloc: Global, name: Option<&str>, thrown: Value) -> Result<Vec<
     match name {
         Some(name) => match add_slot(alloc, &mut slots, name, false, Some(thrown)) {
             Ok(()) => Ok(slots),
-            Err(_) => Err(Stop::Memory),
+            Err(_) => Err(Memory),
         },
         None => Ok(slots),
     }
@@ -106,7 +106,7 @@ fn handle(
     id: StmtId,
     node: &StmtNode,
     thrown: Value,
-) -> Result<(), Stop>
+) -> Result<(), Memory>
     requires levels { 0 < length levels.old.items }
     requires id { id.0 < length (arc_value tree.now).stmts }
     requires node { IsNodeOf (arc_value tree.now) id node.now }
@@ -118,7 +118,7 @@ fn handle(
 {
     match caught_slots(alloc, caught_name(node), thrown) {
         Ok(slots) => begin_block(alloc, tree, levels, Kind::Block, slots, handler(node)),
-        Err(stop) => Err(stop),
+        Err(Memory) => Err(Memory),
     }
 }
 
@@ -128,7 +128,7 @@ pub(crate) fn catch(
     tree: &Arc<Tree>,
     levels: &mut Vec<Level>,
     thrown: Value,
-) -> Result<Option<Value>, Stop>
+) -> Result<Option<Value>, Memory>
     requires levels { 0 < length levels.old.items }
     requires sound { AreLevels (length (arc_value tree.now).stmts) levels.old.items }
     ensures caught { IsCaught (arc_value tree.now).stmts levels.old.items thrown result
@@ -142,7 +142,7 @@ pub(crate) fn catch(
             Kind::Tries(id) => {
                 return match handle(alloc, tree, levels, id, tree.stmt(id), thrown) {
                     Ok(()) => Ok(None),
-                    Err(stop) => Err(stop),
+                    Err(Memory) => Err(Memory),
                 };
             }
         }

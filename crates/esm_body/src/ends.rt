@@ -10,11 +10,11 @@ ghost use Rattle.esm_body.specs.declared.work.Activation.{Activation};
 
 use crate::engine::{Engine, Event};
 use crate::importer::Importer;
-use crate::log::Stop;
 use crate::segment::Ended;
 use crate::work::{Activation, Standing};
 use esm_base::{Memory, ModuleId};
 use esm_promise::{Promises, Settled};
+use esm_rewriting::Stop;
 use esm_values::{PromiseId, Ran, Value};
 
 /// How a segment ended, and what remains of the body.

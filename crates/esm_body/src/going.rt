@@ -15,7 +15,6 @@ use crate::ends::Halt;
 use crate::engine::Engine;
 use crate::importer::Importer;
 use crate::inside::Inside;
-use crate::log::Stop;
 use crate::segment::segment;
 use crate::starts::body;
 use crate::turn::{Outcome, throw};
@@ -23,6 +22,7 @@ use crate::work::{Activation, Standing, Use, Work};
 use esm_base::{Memory, ModuleId};
 use esm_env::Envs;
 use esm_promise::{Promises, Settled};
+use esm_rewriting::Stop;
 use esm_values::{Errors, Value};
 use std::alloc::Global;
 
@@ -49,7 +49,7 @@ fn give<I: Importer>(
 {
     match add(&mut inside.code.levels, Work::Has(purpose, value)) {
         Ok(()) => Ok(Outcome::On),
-        Err(_) => Err(Stop::Memory),
+        Err(Memory) => Err(Stop::Memory),
     }
 }
 

@@ -1,10 +1,10 @@
 // What lies outside of bodies.
 ghost use Rattle.std.specs.Prelude.{◌≡◌};
 
-use crate::log::Stop;
 use esm_base::ModuleId;
 use esm_promise::Promises;
 use esm_resolve::ExportGraph;
+use esm_rewriting::Stop;
 use esm_values::{Errors, PromiseId};
 use std::alloc::Global;
 
@@ -12,7 +12,7 @@ use std::alloc::Global;
 pub trait Importer: ExportGraph + Drop {
     ghost use Rattle.std.specs.Prelude.{◌≡◌, ℕ, Bool, List};
     ghost use Rattle.esm_env.specs.Modules.{Modules};
-    ghost use Rattle.esm_body.specs.Fits.{AreLinked};
+    ghost use Rattle.esm_rewriting.specs.Fits.{AreLinked};
     ghost use Rattle.esm_resolve.specs.Graph.{AreAllSound};
     ghost use Rattle.esm_promise.specs.Outer.{Outer};
     ghost use Rattle.std.specs.Prelude.{Result};

@@ -3,9 +3,9 @@ ghost use Rattle.esm_body.specs.Importers.{outer_with};
 ghost use Rattle.esm_body.specs.Inner.Displayed.{BeginsTold, RefusesTold};
 
 use crate::importer::Importer;
-use crate::log::Stop;
 use esm_base::{Memory, ModuleId};
 use esm_promise::{Promises, Settled};
+use esm_rewriting::Stop;
 use esm_values::{Errors, FaultKind, Value};
 use std::alloc::Global;
 

@@ -7,7 +7,7 @@ use esm_promise::Promises;
 use esm_values::Errors;
 use std::alloc::Global;
 
-/// A function or body under way, with all that it reads and writes.
+/// A body under way, with all that it reads and writes.
 #[derive(Drop)]
 pub(crate) struct Inside<'a, I: Importer> {
     pub(crate) alloc: Global,

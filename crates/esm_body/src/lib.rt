@@ -3,12 +3,12 @@
 
 mod blocks;
 mod bodies;
-mod calls;
 mod catching;
 mod displays;
 mod ends;
 mod engine;
 mod events;
+mod functions;
 mod going;
 mod importer;
 mod imports;
@@ -18,6 +18,7 @@ mod log;
 mod members;
 mod names;
 mod notes;
+mod outside;
 mod scopes;
 mod segment;
 mod starts;
@@ -30,7 +31,3 @@ mod writes;
 pub use displays::display_text;
 pub use engine::{Engine, Event};
 pub use importer::Importer;
-pub use log::Stop;
-
-#[cfg(test)]
-mod tests;

@@ -2,17 +2,9 @@
 ghost use Rattle.std.specs.Prelude.{◌≡◌, [], string_bytes};
 ghost use Rattle.esm_body.specs.Inner.Log.{TookSteps, AddedLine};
 
-use esm_base::{Limit, MAX_LOG_BYTES, MAX_STEPS, Memory};
+use esm_base::{Limit, MAX_LOG_BYTES, MAX_STEPS};
+use esm_rewriting::Stop;
 use std::alloc::Global;
-
-/// Why a body doesn't go on.
-#[derive(Clone, Copy, Debug, PartialEq, Eq)]
-pub enum Stop {
-    /// A limit was passed.
-    Limit(Limit),
-    /// Memory ran out.
-    Memory,
-}
 
 /// The log, and the steps that were taken.
 #[derive(Drop)]
@@ -73,16 +65,5 @@ impl Log {
             Ok(()) => Ok(()),
             Err(_) => Err(Stop::Memory),
         }
-    }
-}
-
-impl From<Memory> for Stop {
-    ghost use Rattle.std.specs.Prelude.{◌≡◌};
-    ghost use Rattle.esm_body.specs.declared.log.Stop.TheVariants.{Memory};
-
-    ghost from_gives = { λ _ e. e ≡ Memory };
-
-    fn from(_: Memory) -> Self {
-        Stop::Memory
     }
 }

@@ -5,7 +5,7 @@ ghost use Rattle.esm_env.specs.Scopes.{defined};
 ghost use Rattle.esm_values.specs.Code.{value_of};
 ghost use Rattle.esm_values.specs.Errors as spec;
 ghost use Rattle.esm_values.specs.Value as value;
-ghost use Rattle.esm_body.specs.Acts.{error_member};
+ghost use Rattle.esm_rewriting.specs.Acts.{error_member};
 ghost use Rattle.esm_body.specs.Inner.Names.{found_reading};
 ghost use Rattle.esm_body.specs.Inner.Displayed.{IsMember, MemberTold, NoMembers, end_reading};
 
@@ -45,7 +45,7 @@ fn read_resolved(envs: &Envs, resolution: Resolution) -> Result<Found, Memory>
     }
 }
 
-/// Reads a member of the namespace of a module; undefined where there is no such module.
+/// Reads a member of the namespace of a module; undeclared where there is no such module.
 ///
 /// ECMA-262, [[Get]] of a module namespace exotic object.
 fn read_member<I: Importer>(

@@ -3,8 +3,8 @@ ghost use Rattle.std.specs.Prelude.{◌≡◌, ◌++◌, IfOk};
 ghost use Rattle.esm_body.specs.Inner.Noting.{Notes, Traces, word_of};
 
 use crate::engine::{Engine, Event};
-use crate::log::Stop;
 use esm_base::Memory;
+use esm_rewriting::Stop;
 use esm_values::RcText;
 use std::alloc::Global;
 

@@ -4,14 +4,12 @@ ghost use Rattle.std.specs.Arc.{arc_value};
 ghost use Rattle.esm_tree.specs.Syntax.{Stmt};
 ghost use Rattle.esm_tree.specs.Flat.{item_of, item_need, items_of, items_need, stmt_of, stmt_part, AllAtMost, IsStmtBelow};
 ghost use Rattle.esm_env.specs.Declarations.{body_of, does};
-ghost use Rattle.esm_body.specs.Rest.{end, whole};
-ghost use Rattle.esm_body.specs.Inner.Calls.{AddsStatement, AreBelowTold, IsBelowTold, IsBranch, Remains, begun_branch, stmt_told};
+ghost use Rattle.esm_rewriting.specs.Rest.{end, whole};
+ghost use Rattle.esm_body.specs.Inner.Calls.{AddsStatement, AreBelowTold, IsBelowTold, IsBranch, IsOutermost, Remains, begun_branch, stmt_told};
 ghost use Rattle.esm_body.specs.Inner.Stack.{Becomes, IsNodeOf};
 ghost use Rattle.esm_body.specs.Code.{in_front, innermost, AreLevels, AreWork};
 
-use crate::blocks::{begin_block, is_pushed};
-use crate::calls::outermost;
-use crate::log::Stop;
+use crate::blocks::{begin_block, is_begun, is_pushed};
 use crate::work::{Activation, Kind, Level, Work};
 use esm_base::{Memory, ModuleId};
 use esm_env::ModuleScope;
@@ -63,6 +61,23 @@ fn body_work(alloc: Global, items: &[ItemNode]) -> Result<Vec<Work>, Memory>
         }
     }
     Ok(work)
+}
+
+/// The outermost level: without names, and with this work.
+fn outermost(alloc: Global, work: Vec<Work>) -> Result<Vec<Level>, Memory>
+    ensures { IfOk result (λ levels. IsOutermost work.items levels.items) }
+{
+    let mut levels = Vec::new(alloc);
+    let level = Level {
+        kind: Kind::Block,
+        slots: Vec::new(alloc),
+        work,
+    };
+    if is_begun(&mut levels, level) {
+        Ok(levels)
+    } else {
+        Err(Memory)
+    }
 }
 
 /// The body of a module, from its start.
@@ -132,7 +147,7 @@ pub(crate) fn choose(
     id: StmtId,
     node: &StmtNode,
     truth: bool,
-) -> Result<(), Stop>
+) -> Result<(), Memory>
     requires levels { 0 < length levels.old.items }
     requires id { id.0 < length (arc_value tree.now).stmts }
     requires node { IsNodeOf (arc_value tree.now) id node.now }

@@ -2,7 +2,7 @@
 ghost use Rattle.std.specs.Prelude.{◌≡◌, ◌<◌, ◌∷◌, [], length, Result, Ok};
 ghost use Rattle.std.specs.Arc.{arc_value};
 ghost use Rattle.esm_expr_eval.specs.Machine.{IsGiven, IsSound};
-ghost use Rattle.esm_body.specs.Rest.{end};
+ghost use Rattle.esm_rewriting.specs.Rest.{end};
 ghost use Rattle.esm_body.specs.Code.{innermost, IsUse, IsCode};
 ghost use Rattle.esm_values.specs.Acts.{Act as act};
 ghost use Rattle.esm_values.specs.Code.{value_of};
@@ -13,12 +13,12 @@ use crate::blocks::{assigned, begin, bound_name, take_next};
 use crate::catching::{catch, pop_level};
 use crate::importer::Importer;
 use crate::inside::Inside;
-use crate::log::Stop;
 use crate::starts::choose;
 use crate::work::{Doing, Use, Work};
 use crate::writes::{set_name, write_name};
 use esm_base::Memory;
 use esm_expr_eval::{ExprEnd, Move, World};
+use esm_rewriting::Stop;
 use esm_tree::StmtId;
 use esm_values::{FuncId, Value, is_true};
 
@@ -48,7 +48,7 @@ pub(crate) fn throw<I: Importer>(inside: &mut Inside<'_, I>, thrown: Value) -> R
     match catch(inside.alloc, &code.tree, &mut code.levels, thrown) {
         Ok(None) => Ok(Outcome::On),
         Ok(Some(value)) => Ok(Outcome::Thrown(value)),
-        Err(_) => Err(Stop::Memory),
+        Err(Memory) => Err(Stop::Memory),
     }
 }
 
@@ -141,7 +141,7 @@ fn branch<I: Importer>(
     let node = code.tree.stmt(id);
     match choose(inside.alloc, &code.tree, &mut code.levels, id, node, truth) {
         Ok(()) => Ok(Outcome::On),
-        Err(_) => Err(Stop::Memory),
+        Err(Memory) => Err(Stop::Memory),
     }
 }
 
@@ -220,7 +220,7 @@ fn begin_statement<I: Importer>(inside: &mut Inside<'_, I>, id: StmtId) -> Resul
             let node = code.tree.stmt(id);
             match begin(inside.alloc, &code.tree, &mut code.levels, id, node) {
                 Ok(()) => Ok(Outcome::On),
-                Err(_) => Err(Stop::Memory),
+                Err(Memory) => Err(Stop::Memory),
             }
         }
         Err(stop) => Err(stop),

@@ -3,7 +3,7 @@ ghost use Rattle.std.specs.Prelude.{◌≡◌, OnOk};
 ghost use Rattle.esm_promise.specs.Promises.{register};
 ghost use Rattle.esm_promise.specs.Reactions.{Await};
 ghost use Rattle.esm_values.specs.Code.{value_of};
-ghost use Rattle.esm_body.specs.Bodies.{await_on};
+ghost use Rattle.esm_rewriting.specs.Bodies.{await_on};
 ghost use Rattle.esm_body.specs.Inner.Noting.{IsPromise, StandsAt, StandsNow};
 
 use crate::engine::Engine;

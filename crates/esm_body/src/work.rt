@@ -1,4 +1,4 @@
-// What remains of bodies and functions.
+// What remains of bodies.
 use esm_base::{ModuleId, Text};
 use esm_expr_eval::ExprFrame;
 use esm_tree::{StmtId, Tree};
@@ -51,7 +51,7 @@ pub enum Work {
 /// Why a level was begun.
 #[derive(Clone, Copy)]
 pub enum Kind {
-    /// It is a block, a function's body, a handler, or the body of a module.
+    /// It is a block, a handler, or the body of a module.
     Block,
     /// It is the block of this `try`.
     Tries(StmtId),
@@ -79,7 +79,7 @@ pub struct Level {
     pub work: Vec<Work>,
 }
 
-/// A function or body under way: its levels, the outermost first, which has no names.
+/// A body under way: its levels, the outermost first, which has no names.
 #[derive(Drop)]
 pub struct Activation {
     /// The module in which it stands written.
@@ -88,15 +88,6 @@ pub struct Activation {
     pub tree: Arc<Tree>,
     /// The levels.
     pub levels: Vec<Level>,
-}
-
-/// A function or body that has called a function, whose value isn't there yet.
-#[derive(Drop)]
-pub struct Caller {
-    /// What remains behind the expression with the call.
-    pub body: Activation,
-    /// The expression with the call.
-    pub doing: Doing,
 }
 
 /// A body at its await.

@@ -1,14 +1,41 @@
 // Code under way as the world of its expressions.
+ghost use Rattle.esm_values.specs.Acts.{Act as act};
+ghost use Rattle.esm_values.specs.Code.{values_of};
+ghost use Rattle.esm_body.specs.Inner.World.{ActsInside};
+
 use crate::displays::{display_texts, shown_text, specifier_of};
 use crate::importer::Importer;
 use crate::imports::{begin_import, refuse_import};
 use crate::inside::Inside;
-use crate::log::Stop;
 use crate::members::member_of;
 use crate::names::{read_name, tell};
 use esm_base::Memory;
 use esm_expr_eval::{Out, World};
+use esm_rewriting::Stop;
 use esm_values::{FaultKind, RcText, Value, printed_line};
+
+/// Prints values as one line.
+pub(crate) fn print_line<I: Importer>(
+    inside: &mut Inside<'_, I>,
+    values: &[Value],
+) -> Result<(), Stop>
+    ensures { ActsInside I.seen I.modules I.linked I.fits I.begins inside.old
+        (act.Print (values_of values.now)) result inside.new }
+{
+    match display_texts(
+        inside.alloc,
+        inside.errors,
+        inside.envs,
+        inside.imports,
+        values,
+    ) {
+        Ok(texts) => match printed_line(inside.alloc, texts.as_slice()) {
+            Ok(text) => inside.engine.log.line(text.as_str()),
+            Err(Memory) => Err(Stop::Memory),
+        },
+        Err(Memory) => Err(Stop::Memory),
+    }
+}
 
 impl<'a, I: Importer> World for Inside<'a, I> {
     ghost use Rattle.esm_body.specs.Inner.World.{ActsInside, url_inside};
@@ -49,19 +76,7 @@ impl<'a, I: Importer> World for Inside<'a, I> {
     }
 
     fn print(&mut self, values: Vec<Value>) -> Result<(), Stop> {
-        match display_texts(
-            self.alloc,
-            self.errors,
-            self.envs,
-            self.imports,
-            values.as_slice(),
-        ) {
-            Ok(texts) => match printed_line(self.alloc, texts.as_slice()) {
-                Ok(text) => self.engine.log.line(text.as_str()),
-                Err(Memory) => Err(Stop::Memory),
-            },
-            Err(Memory) => Err(Stop::Memory),
-        }
+        print_line(self, values.as_slice())
     }
 
     fn fault(&mut self, kind: FaultKind, message: &str) -> Result<Value, Stop> {

@@ -111,7 +111,7 @@ fn refuse(
 }
 
 /// What is thrown by a write that came to this.
-fn throw_wrote(
+pub(crate) fn throw_wrote(
     alloc: Global,
     errors: &mut Errors,
     name: &str,

@@ -1,10 +1,10 @@
 -- Where the functions of a module stand.
 use Rattle.std.proofs.Common.{◌≡◌, ℕ, zero, suc, ◌+◌, ◌-◌, ◌<◌, ◌≤◌, ◌⊎◌, inl, inr, List, [], ◌∷◌, ◌++◌, length, drop, refl, ap, subst, sym, ◌∙◌, get_or, arith}
-use Rattle.std.proofs.lemmas.List.{drop_more, append-nil, append_assoc}
+use Rattle.std.proofs.lemmas.List.{drop_more, append-nil}
 use Rattle.std.proofs.Math.ListN.{drop_of_length-le}
 use Rattle.std.specs.Prelude.{Option, Some, None, slice_get}
 use Rattle.esm_tree.specs.Syntax.{Stmt, Item, Parts, ImportEffect, ImportFrom, ExportAll, ExportAllAs, ExportFrom, ExportList, ExportStatement, ExportFunction, ExportDefaultFunction, Function, Statement}
-use Rattle.esm_tree.specs.Flat.{item_of, items_of, item_need, items_need, AllAtMost}
+use Rattle.esm_tree.specs.Flat.{item_of, items_of}
 use Rattle.esm_tree.specs.declared.node.ItemNode.{ItemNode}
 use Rattle.esm_env.specs.Declarations.{FunctionCode, functions_by, functions_of, function_at}
 use Rattle.esm_env.specs.FunctionPlaces.{placed, places_from}

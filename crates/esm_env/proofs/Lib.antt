@@ -3,6 +3,7 @@ pub mod Places
 pub mod ScopesLemmas
 pub mod FaithfulLemmas
 pub mod MakesLemmas
+pub mod OwnLemmas
 pub mod MadeLemmas
 pub mod OneRead
 pub mod WrittenLemmas

@@ -1,15 +1,15 @@
 -- A local export is of a name that the module declares, or imports as a whole; so what the code reads there is the member.
-use Rattle.std.proofs.Common.{◌≡◌, ℕ, suc, Bool, true, false, ◌||◌, List, [], ◌∷◌, ◌++◌, map, refl, ap, subst, sym, ◌∙◌}
+use Rattle.std.proofs.Common.{◌≡◌, ℕ, suc, Bool, true, false, List, [], ◌∷◌, ◌++◌, map, refl, ap, subst, sym, ◌∙◌}
 use Rattle.std.specs.Prelude.{Option, Some, None, is_some, ⊤, Contains, codes}
 use Rattle.std.specs.Str.{bytes_eq}
-use Rattle.std.specs.List.{flat_map, AllByRecursion}
+use Rattle.std.specs.List.{AllByRecursion}
 use Rattle.std.proofs.lemmas.Slice.Eq.{bytes_eq-Decides}
 use Rattle.std.proofs.lemmas.List.Elements.{All-contains, All-from_recursion}
 use Rattle.esm_base.specs.DefaultExport.{star_default, or_star_default}
 use Rattle.esm_tree.specs.declared.node.Wanted.{Wanted}
 use Rattle.esm_tree.specs.declared.node.Wanted.TheVariants as wanted
 use Rattle.esm_tree.specs.declared.node.ExportSpecifier.{ExportSpecifier}
-use Rattle.esm_tree.specs.Syntax.{Bindings, no_more, binding, Stmt, Empty, Expression, Assign, Block, If, IfElse, Try, TryCatch, Throw, Return, ReturnValue, Await, PrintAwait, Const, Let, Default, Stmts, nothing, first, Item, ImportEffect, ImportFrom, ExportAll, ExportAllAs, ExportFrom, ExportList, ExportStatement, ExportFunction, ExportDefaultFunction, Function, Statement}
+use Rattle.esm_tree.specs.Syntax.{Bindings, no_more, binding, Stmt, Empty, Expression, Assign, Block, If, IfElse, Try, TryCatch, Throw, Return, ReturnValue, Await, PrintAwait, Const, Let, Default, Item, ImportEffect, ImportFrom, ExportAll, ExportAllAs, ExportFrom, ExportList, ExportStatement, ExportFunction, ExportDefaultFunction, Function, Statement}
 use Rattle.esm_grammar.specs.Names.{names_of, declared_names}
 use Rattle.esm_ast.specs.declared.entries.ImportEntry.{ImportEntry}
 use Rattle.esm_ast.specs.declared.entries.LocalExport.{LocalExport}
@@ -17,13 +17,13 @@ use Rattle.esm_ast.specs.Entries.{Export, Local, Indirect, listed_by, listed_by_
 use Rattle.esm_values.specs.Value.{Namespace, Undefined}
 use Rattle.esm_values.specs.Code.{CodeValue}
 use Rattle.esm_env.specs.Declarations.{FunctionCode, Initial, Declaration, declared_by, declares, declared_in, functions_by, functions_of, onto, does, body_of, initial_by, function_named, declared_named, initial}
-use Rattle.esm_env.specs.Modules.{Modules, entries}
-use Rattle.esm_env.specs.Bindings.{Target as Bound, CellOf, WholeOf, Binds, import_as, whole_only, whole_by, own_by, target_of}
+use Rattle.esm_env.specs.Modules.{Modules}
+use Rattle.esm_env.specs.Bindings.{Target as Bound, WholeOf, Binds, import_as, whole_by, own_by}
 use Rattle.esm_env.specs.Bindings.Binds.{no_import, whole, named}
-use Rattle.esm_env.specs.Cells.{Cell, Reading, read_cell, read_value, cell_at, cell_by}
+use Rattle.esm_env.specs.Cells.{Cell, Reading, read_cell, cell_by}
 use Rattle.esm_env.specs.Cells.{Reading as reading}
-use Rattle.esm_env.specs.Reading.{read_target, read_member}
-use Rattle.esm_env.specs.Scopes.{Scopes, scope_in, own_cell, import_in, import_of, whole_of, read_whole, read_or, read_end_in, defined, cells_of}
+use Rattle.esm_env.specs.Reading.{read_member}
+use Rattle.esm_env.specs.Scopes.{Scopes, scope_in, own_cell, import_in, import_of, read_whole, read_or, defined, cells_of}
 use Rattle.esm_env.specs.Faithful.{target_in, HasScope, IsFaithful}
 use Rattle.esm_env.specs.Laws.{EndsRight}
 use Rattle.esm_env.specs.declared.scope.Target.{Target}

@@ -7,16 +7,15 @@ use Rattle.std.specs.Option.{option_or}
 use Rattle.std.specs.Str.{bytes_eq}
 use Rattle.std.proofs.lemmas.Slice.Eq.{bytes_eq-Decides}
 use Rattle.esm_env.specs.Declarations.{Initial, Unset, FunctionAt, initial}
-use Rattle.esm_values.specs.Value as values
 use Rattle.esm_values.specs.Code.{CodeValue, value_of}
 use Rattle.esm_values.specs.declared.value.Value.{Value}
 use Rattle.esm_env.specs.Modules.{Modules}
-use Rattle.esm_env.specs.Cells.{Cell, Cells, cell_at, write_cell}
-use Rattle.esm_env.specs.Writing.{Writing, write_at, write_by, constant_by, writing_of}
+use Rattle.esm_env.specs.Cells.{Cell, write_cell}
+use Rattle.esm_env.specs.Writing.{write_at, write_by, constant_by, writing_of}
 use Rattle.esm_env.specs.Writing.{Writing as writing}
-use Rattle.esm_env.specs.Slots.{place_in, place_by, slot_in, slot_cell, cell_in, written_in, written_slot, write_slot, valued_by}
+use Rattle.esm_env.specs.Slots.{place_in, place_by, slot_in, cell_in, written_in, written_slot, write_slot, valued_by}
 use Rattle.esm_env.specs.Scopes.{cell_by as scope_cell}
-use Rattle.esm_env.specs.Scopes.{Scopes, scope_in, own_cell, written_by, cells_of, import_in, wrote_set, wrote_none, wrote_by, StaysOrWrites, IsWritten}
+use Rattle.esm_env.specs.Scopes.{Scopes, scope_in, own_cell, written_by, cells_of, import_in, wrote_set, wrote_none, wrote_by, StaysOrWrites}
 use Rattle.esm_env.specs.Calls.{IsWrittenBy, IsWrittenIn, IsSetBy, IsInitialised, told_write}
 use Rattle.esm_env.specs.Faithful.{SlotFits, IsFaithful, IsFaithfulAt, HasImports, IsLikeScope}
 use Rattle.esm_env.specs.Laws.{WritesRight}

@@ -5,9 +5,11 @@ pub mod Bindings
 pub mod Reading
 pub mod Writing
 pub mod NamePlaces
+pub mod OwnNames
 pub mod FunctionPlaces
 pub mod Slots
 pub mod Scopes
+pub mod Placed
 pub mod Calls
 pub mod Makes
 pub mod Faithful

@@ -1,10 +1,11 @@
 // The cells of all modules.
-ghost use Rattle.std.specs.Prelude.{◌≡◌, ◌<◌, ◌^◌, ℕ, [], length, OnOk, OnErr};
+ghost use Rattle.std.specs.Prelude.{◌≡◌, ◌<◌, ◌^◌, ℕ, List, [], length, OnOk, OnErr};
 ghost use Rattle.std.specs.Arc.{arc_value};
 ghost use Rattle.esm_env.specs.Makes.{IsMade, OthersStay};
 ghost use Rattle.esm_env.specs.Scopes.{read_in, read_end_in, whole_of, scope_in};
 ghost use Rattle.esm_env.specs.Calls.{told_read, read_own, IsScope, IsTarget, IsWrittenIn, IsInitialised, scopes_of};
 ghost use Rattle.esm_env.specs.Cells.{read_cell};
+ghost use Rattle.esm_env.specs.Placed.{place_of};
 ghost use Rattle.esm_env.specs.Slots.{slot_in, cell_in};
 
 use crate::makes::slots_of;
@@ -154,6 +155,53 @@ impl Envs {
         if at < self.scopes.len() {
             match &mut self.scopes[at] {
                 Some(scope) => scope.write(name, value),
+                None => Wrote::Undeclared,
+            }
+        } else {
+            Wrote::Undeclared
+        }
+    }
+
+    /// The place of a name among those that the module itself declares, if it does. It doesn't allocate.
+    pub fn place(&self, m: ModuleId, name: &str) -> Option<usize>
+        ensures { result ≡ place_of (scopes_of self.now) m.0 name.now }
+    {
+        match self.scope(m) {
+            Some(scope) => scope.place(name),
+            None => None,
+        }
+    }
+
+    /// Reads the name at a place of the module. It doesn't allocate.
+    pub fn value(&self, m: ModuleId, place: usize) -> Read<'_>
+        ensures { (x : List ℕ) → place_of (scopes_of self.now) m.0 x ≡ Some place
+            → told_read result ≡ read_in (scopes_of self.now) m.0 x }
+    {
+        match self.scope(m) {
+            Some(scope) => scope.read_place(place),
+            None => Read::Undeclared,
+        }
+    }
+
+    /// The name at a place of the module, or an empty text. It doesn't allocate.
+    pub fn name_at(&self, m: ModuleId, place: usize) -> &str
+        ensures { (x : List ℕ) → place_of (scopes_of self.now) m.0 x ≡ Some place → result.now ≡ x }
+    {
+        match self.scope(m) {
+            Some(scope) => scope.name_at(place),
+            None => "",
+        }
+    }
+
+    /// Writes the name at a place of the module. It doesn't allocate.
+    pub fn write_at(&mut self, m: ModuleId, place: usize, value: Value) -> Wrote
+        ensures { (x : List ℕ) → place_of (scopes_of self.old) m.0 x ≡ Some place
+            → IsWrittenIn (scopes_of self.old) m.0 x value result (scopes_of self.new) }
+    {
+        let at = m.0 as usize;
+        if at < self.scopes.len() {
+            match &mut self.scopes[at] {
+                Some(scope) => scope.write_place(place, value),
                 None => Wrote::Undeclared,
             }
         } else {

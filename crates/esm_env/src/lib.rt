@@ -9,8 +9,6 @@ mod lookups;
 mod makes;
 mod scope;
 mod slots;
-#[cfg(test)]
-mod tests;
 
 pub use envs::Envs;
 pub use scope::{ModuleScope, Read, Target, Wrote};

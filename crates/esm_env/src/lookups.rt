@@ -1,13 +1,19 @@
 // Names of a scope, read and written.
-ghost use Rattle.std.specs.Prelude.{◌≡◌, IfOk};
+ghost use Rattle.std.specs.Prelude.{◌≡◌, ◌<◌, ℕ, List, map, length, IfOk};
+ghost use Rattle.std.specs.Arc.{arc_value};
+ghost use Rattle.esm_env.specs.Calls.{told_read};
+ghost use Rattle.esm_env.specs.Cells.{read_cell};
 ghost use Rattle.esm_env.specs.Scopes.{IsImport, IsWritten, StaysOrWrites};
-ghost use Rattle.esm_env.specs.Slots.{IsPlace};
+ghost use Rattle.esm_env.specs.NamePlaces.{found_at};
+ghost use Rattle.esm_env.specs.OwnNames.{own_names};
+ghost use Rattle.esm_env.specs.Placed.{names_of};
+ghost use Rattle.esm_env.specs.Slots.{IsPlace, cell_in, slot_in};
 ghost use Rattle.esm_env.specs.declared.scope.Wrote.TheVariants as wrote;
 
 use crate::functions::function_places;
 use crate::index::{import_places, slot_places};
-use crate::scope::{ModuleScope, Target, Wrote};
-use crate::slots::{Slot, is_set, write_at};
+use crate::scope::{ModuleScope, Read, Target, Wrote};
+use crate::slots::{Slot, is_set, value_at, write_at};
 use esm_base::{Memory, ModuleId, Text};
 use esm_tree::Tree;
 use esm_values::Value;
@@ -23,6 +29,7 @@ impl ModuleScope {
         slots: Vec<Slot>,
         imports: Vec<(Text, Target)>,
     ) -> Result<ModuleScope, Memory>
+        requires { map (λ s. s.name) slots.items ≡ own_names (arc_value tree).items }
         ensures slots { IfOk result (λ s. s.slots.items ≡ slots.items) }
         ensures imports { IfOk result (λ s. s.imports.items ≡ imports.items) }
         ensures tree { IfOk result (λ s. s.tree ≡ tree) }
@@ -43,8 +50,8 @@ impl ModuleScope {
         Ok(scope)
     }
 
-    /// The place of a name that the scope declares.
-    pub(crate) fn place(&self, name: &str) -> Option<usize>
+    /// The place of a name that the module itself declares, if it does. It doesn't allocate.
+    pub fn place(&self, name: &str) -> Option<usize>
         ensures { IsPlace self.now.slots.items name.now result }
     {
         self.slot_places.get(name).copied()
@@ -92,6 +99,52 @@ impl ModuleScope {
                     Wrote::Undeclared
                 }
             }
+        }
+    }
+
+    /// Reads the name at a place.
+    pub(crate) fn read_place(&self, place: usize) -> Read<'_>
+        ensures { (x : List ℕ) → found_at (names_of self.now) x ≡ Some place
+            → told_read result ≡ read_cell (cell_in (slot_in self.now.slots.items x)) }
+    {
+        let slots = self.slots.as_slice();
+        if place < slots.len() {
+            match value_at(slots, place) {
+                Some(value) => Read::Value(value),
+                None => Read::Unset,
+            }
+        } else {
+            Read::Undeclared
+        }
+    }
+
+    /// The name at a place, or an empty text.
+    pub(crate) fn name_at(&self, place: usize) -> &str
+        ensures { (x : List ℕ) → found_at (names_of self.now) x ≡ Some place → result.now ≡ x }
+    {
+        if place < self.slots.len() {
+            self.slots[place].name.as_str()
+        } else {
+            ""
+        }
+    }
+
+    /// Writes the name at a place.
+    pub(crate) fn write_place(&mut self, place: usize, value: Value) -> Wrote
+        ensures { (x : List ℕ) → found_at (names_of self.old) x ≡ Some place
+            → IsWritten self.old x value result self.new }
+    {
+        if place < self.slots.len() {
+            if !is_set(self.slots.as_slice(), place) {
+                Wrote::Unset
+            } else if self.slots[place].constant {
+                Wrote::Constant
+            } else {
+                write_at(&mut self.slots, place, value);
+                Wrote::Done
+            }
+        } else {
+            Wrote::Undeclared
         }
     }
 }

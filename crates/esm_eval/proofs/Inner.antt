@@ -14,4 +14,3 @@ pub mod Gathering
 pub mod Orders
 pub mod LateHost
 pub mod Stacks
-pub mod Scripts

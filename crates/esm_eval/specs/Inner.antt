@@ -4,4 +4,3 @@ pub mod Ready
 pub mod Hosts
 pub mod Orders
 pub mod Stack
-pub mod Scripted

@@ -20,6 +20,3 @@ pub use host::EvalHost;
 pub use laws::AnyWorld;
 pub use nodes::{Nodes, Phase};
 pub use walk::{Cut, Desk, EvalEnd, evaluate};
-
-#[cfg(test)]
-mod tests;

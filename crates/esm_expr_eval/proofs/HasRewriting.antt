@@ -1,5 +1,5 @@
 -- What remains of an expression is a value, or has a rewriting.
-use Rattle.std.proofs.Common.{◌≡◌, ℕ, suc, ◌+◌, ◌<◌, ◌⊎◌, inl, inr, Bool, true, false, List, [], ◌∷◌, refl, subst, sym, arith, length}
+use Rattle.std.proofs.Common.{◌≡◌, ℕ, ◌+◌, ◌<◌, ◌⊎◌, inl, inr, Bool, true, false, List, [], ◌∷◌, refl, subst, sym, arith, length}
 use Rattle.std.specs.Prelude.{⊤, Option, Some, None, codes, if◌then◌else◌, not, nat_lt, ◌/◌}
 use Rattle.esm_values.specs.declared.limits.TheConstants.{BYTES_PER_STEP}
 use Rattle.esm_base.specs.declared.limits.TheConstants.{MAX_TEXT_BYTES}
@@ -18,7 +18,7 @@ use Rattle.esm_expr_eval.specs.Terms.Term.{Val, Waits, Fails, Name, Or, And, Equ
 use Rattle.esm_expr_eval.specs.Terms.Terms.{none, more}
 use Rattle.esm_expr_eval.specs.Terms.Compared.{last, compared}
 use Rattle.esm_expr_eval.specs.Terms.LinkTerms.{ends, member, call}
-use Rattle.esm_expr_eval.specs.Sizes.{size, size_all, size_compared, size_links}
+use Rattle.esm_expr_eval.specs.Sizes.{size, size_all}
 use Rattle.esm_expr_eval.specs.Ready.{Holds, HoldAll, HoldCompared, HoldLinks}
 use Rattle.esm_expr_eval.specs.Rewriting.{AreValues, Rewrites, RewritesIn, enters, called, printed, error_made, import_begun}
 use Rattle.esm_expr_eval.specs.Rewriting.AreValues.{nil, cons}

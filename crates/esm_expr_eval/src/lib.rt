@@ -6,10 +6,9 @@ pub mod laws;
 mod machine;
 mod nodes;
 mod sums;
-#[cfg(test)]
-mod tests;
 mod world;
 
 pub use frame::Frame;
 pub use machine::{ExprFrame, Move};
+pub use sums::{error_from, sum_of};
 pub use world::{ExprEnd, Out, World};

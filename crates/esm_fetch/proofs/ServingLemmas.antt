@@ -13,7 +13,7 @@ use Rattle.esm_module_map.specs.declared.event.MapEvent.{MapEvent}
 use Rattle.esm_module_map.specs.declared.reply.Taken.{Taken}
 use Rattle.esm_module_map.specs.Histories.{Answer, asks_by, takes_by, answers_by, shuts_by}
 use Rattle.esm_module_map.specs.Replies.{Called, TakeReply}
-use Rattle.esm_module_map.specs.Saying.{SaysNothing, Begins, SaysSame, IsOrderIn, TookOne, TakeSays}
+use Rattle.esm_module_map.specs.Saying.{Begins, SaysSame, IsOrderIn, TookOne, TakeSays}
 use Rattle.esm_fetch.specs.declared.posted.Posted.{Posted}
 use Rattle.esm_fetch.specs.Answered.{Contents, kind_of}
 use Rattle.esm_fetch.specs.declared.working.Turned.{Turned}
@@ -125,11 +125,3 @@ module _ {G : Type 0} where
 
   pub shuts_next : (c d : ℕ) (a b e : List (MapEvent Posted G)) → d ≡ c → shuts_by weight c b ≡ shuts_by weight c a → shuts_by weight d e ≡ shuts_by weight d b → shuts_by weight c e ≡ shuts_by weight c a
   shuts_next c d a b e same first more = subst (λ m. shuts_by weight m e ≡ shuts_by weight m b) same more ∙ first
-
-  -- a caller that has just enrolled, and a source that wasn't asked
-  pub serves_new : (holds : Option Contents) (asked : List Asked) (c : ℕ) (h : List (MapEvent Posted G)) → asked ≡ [] → SaysNothing weight c h → Serves holds asked c h
-  serves_new holds asked c h none says = record {
-    answered = subst (All (IsTrueAnswer holds)) (sym says.1) (All-nil (IsTrueAnswer holds));
-    asked_is = none ∙ ap (map ask_for) (sym says.1);
-    takes_is = says.0 ∙ ap (map url_in) (sym says.1);
-  }

@@ -12,6 +12,3 @@ pub use fetch::fetch_outcome;
 pub use pool::{Done, Job, Pool, work_all};
 pub use posted::Posted;
 pub use working::{Turned, WorkerEnd, fetch_one, worker};
-
-#[cfg(test)]
-mod tests;

@@ -1,5 +1,5 @@
 -- What a text says as an import map: a fault, the first that applies, or its two finite maps.
-use Rattle.std.specs.Prelude.{ℕ, List, [], ◌∷◌, codes, length, drop, nat_le, Bool, true, not, ◌&&◌, ◌||◌, ◌==◌, Option, None, Some, is_some, unwrap_or, option_map, option_and_then, Result, Ok, Err, if◌then◌else◌}
+use Rattle.std.specs.Prelude.{ℕ, List, [], codes, length, nat_le, Bool, true, not, ◌&&◌, ◌||◌, ◌==◌, Option, None, Some, is_some, unwrap_or, option_map, option_and_then, Result, Ok, Err, if◌then◌else◌}
 use Rattle.std.specs.Str.{is_utf8}
 use Rattle.serde_json.specs.Data.{Data, Members, no_members, member}
 use Rattle.serde_json.specs.Find.{as_object, as_str, get_member}
@@ -9,7 +9,7 @@ use Rattle.esm_base.specs.declared.limits.TheConstants.{MAX_FILE_BYTES}
 use Rattle.esm_base.specs.Mark.{without_mark}
 use Rattle.esm_base.specs.Urls.{url_of}
 use Rattle.esm_import_map.specs.ImportMap.{SpecifierMap, Maps}
-use Rattle.esm_import_map.specs.Specifier.{url_like, begins_with, ends_in_slash}
+use Rattle.esm_import_map.specs.Specifier.{url_like, ends_in_slash}
 use Rattle.esm_base.specs.TextMap.{TextMapView, with_new}
 use Rattle.esm_import_map.specs.declared.fault.MapFault.{MapFault}
 use Rattle.esm_import_map.specs.declared.fault.MapFault.TheVariants.{M1, M2, M3, M4}

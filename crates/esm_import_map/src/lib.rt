@@ -9,6 +9,3 @@ mod specifier;
 pub use fault::{MapFault, MapReadEnd};
 pub use import_map::{ImportMap, SpecifierMap};
 pub use specifier::{ends_in_slash, is_relative, url_like};
-
-#[cfg(test)]
-mod tests;

@@ -17,7 +17,7 @@ use Rattle.esm_import_map.specs.ImportMap.{Maps}
 use Rattle.esm_values.specs.Errors.{Errors}
 use Rattle.esm_promise.specs.Code.{Numbered}
 use Rattle.esm_loads.specs.UrlTable.{TableEntry, specifier_error}
-use Rattle.esm_loads.specs.Loading.{Root, ForImport}
+use Rattle.esm_loads.specs.Loading.{Root}
 use Rattle.esm_loads.specs.Host.{Host, Answered, reject_new}
 use Rattle.esm_loads.specs.ImportCall as import_call
 use Rattle.esm_loads.specs.ImportCall.Imports.{limit, unresolved, asks, answers}

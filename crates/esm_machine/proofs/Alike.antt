@@ -8,11 +8,11 @@ use Rattle.esm_expr_eval.specs.Terms.Compared.{last, compared}
 use Rattle.esm_expr_eval.specs.Terms.LinkTerms.{ends, member, call}
 use Rattle.esm_expr_eval.specs.Naming.{mapped_term, mapped_terms, mapped_compared, mapped_links}
 use Rattle.esm_expr_eval.specs.Ready.{Holds, HoldAll, HoldCompared, HoldLinks}
-use Rattle.esm_body.specs.Scopes.{Scope, named_cell}
-use Rattle.esm_body.specs.Rest.{Part, Rest, end, more}
-use Rattle.esm_body.specs.Rest.Part.{Whole, Does, Stands, In, Tries}
-use Rattle.esm_body.specs.Fits.{Kind, HoldsValue, HoldsScope, HoldsPart, HoldsRest}
-use Rattle.esm_body.specs.Naming.{mapped_scope, mapped_part, mapped_rest}
+use Rattle.esm_rewriting.specs.Scopes.{Scope, named_cell}
+use Rattle.esm_rewriting.specs.Rest.{Part, Rest, end, more}
+use Rattle.esm_rewriting.specs.Rest.Part.{Whole, Does, Stands, In, Tries}
+use Rattle.esm_rewriting.specs.Fits.{Kind, HoldsValue, HoldsScope, HoldsPart, HoldsRest}
+use Rattle.esm_rewriting.specs.Naming.{mapped_scope, mapped_part, mapped_rest}
 
 module _ {V U : Type 0} (f g : V → U) (Knows : U → Type 0) (waits : Type 0) (same : (v : V) → Knows (f v) → f v ≡ g v) where
   mutual

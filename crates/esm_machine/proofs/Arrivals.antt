@@ -18,8 +18,8 @@ use Rattle.esm_loads.specs.Hosted.{host_of}
 use Rattle.esm_loads.specs.Loading.{Loading}
 use Rattle.esm_loads.specs.LoadsView.{every_form}
 use Rattle.esm_loads.specs.UrlTable.{Found, Nothing, Faulty, Script, found}
-use Rattle.esm_body.specs.Keeps.{started}
-use Rattle.esm_body.specs.Naming.{renamed_engine}
+use Rattle.esm_rewriting.specs.Keeps.{started}
+use Rattle.esm_rewriting.specs.Naming.{renamed_engine}
 use Rattle.esm_env.specs.Naming.{renamed_cells}
 use Rattle.esm_world.specs.World as world
 use Rattle.esm_world.specs.World.{World}

@@ -23,7 +23,7 @@ use Rattle.esm_loads.specs.LoadsAsLoading.{loading_of}
 use Rattle.esm_loads.specs.Whole.{IsWhole}
 use Rattle.esm_loads.specs.declared.loads.Loads.{Loads}
 use Rattle.esm_body.specs.Importers.{Begun, outer_with}
-use Rattle.esm_body.specs.declared.log.Stop.{Stop}
+use Rattle.esm_rewriting.specs.declared.stop.Stop.{Stop}
 use Rattle.esm_machine.specs.Seen.{BeginsById}
 use Rattle.esm_machine.specs.ModuleStore.{imported, seen_of, linked_urls, is_whole, condition_by, stop_by}
 use Rattle.esm_machine.specs.Kept.{Show, GoesOn, IsKept}

@@ -1,9 +1,9 @@
 -- What holds between two calls of evaluation holds of whatever has the same nodes and stamps, and where the same bodies have begun.
-use Rattle.std.proofs.Common.{◌≡◌, ◌≢◌, true, ap, subst, sym, ◌∙◌}
+use Rattle.std.proofs.Common.{◌≡◌, true, ap, subst, sym, ◌∙◌}
 use Rattle.std.specs.Option.{unwrap_or}
 use Rattle.esm_base.specs.Lists.{EachOnce, is_in}
 use Rattle.esm_eval.specs.Begins.{HaveBegunOnce}
-use Rattle.esm_eval.specs.Evaluation.{Evaluation, phase, root_of, waiters, waits}
+use Rattle.esm_eval.specs.Evaluation.{Evaluation, phase, root_of, waits}
 use Rattle.esm_eval.specs.Nodes.{Node}
 use Rattle.esm_eval.specs.Waiting.{HasOpenWait}
 

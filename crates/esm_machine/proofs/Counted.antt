@@ -1,6 +1,6 @@
 -- Counting the starts of bodies.
 use Rattle.std.proofs.Common.{ℕ, List, map, length}
-use Rattle.esm_body.specs.Keeps.{started}
+use Rattle.esm_rewriting.specs.Keeps.{started}
 use Rattle.esm_body.specs.Noted.{event_of}
 use Rattle.esm_body.specs.declared.engine.Event.{Event}
 

@@ -2,7 +2,6 @@
 use Rattle.std.proofs.Common.{◌≡◌, ◌⊎◌, inl, inr, ◌<◌, ◌≤◌, ◌+◌, ℕ, suc, true, false, List, [], ◌∷◌, Option, Some, None, length, nat_eq, eqb-true, arith, refl, subst, sym, ◌∙◌}
 use Rattle.std.specs.Prelude.{Ok, Err, IfSome}
 use Rattle.std.specs.Option.{unwrap_or}
-use Rattle.esm_base.specs.declared.end.End.TheVariants as ends
 use Rattle.esm_base.specs.declared.limits.Limit.{Limit}
 use Rattle.esm_base.specs.Lists.{is_in}
 use Rattle.esm_realm.proofs.Urls.{or_cases}

@@ -18,12 +18,12 @@ use Rattle.esm_eval.specs.Naming.{EvaluationFollows}
 use Rattle.esm_eval.specs.Host as host
 use Rattle.esm_eval.specs.Host.{Outside}
 use Rattle.esm_eval.specs.declared.host.EvalHost.{EvalHost}
-use Rattle.esm_body.specs.State.{Engine}
+use Rattle.esm_rewriting.specs.State.{Engine}
 use Rattle.esm_world.specs.World.{World, stopped}
 use Rattle.esm_world.specs.Layers as layers
 use Rattle.esm_world.specs.Limits.{told_limit}
 use Rattle.esm_world.proofs.EvalKeeps.{Lasts, evaluates_keeps, fulfills_keeps, rejects_keeps}
-use Rattle.esm_body.proofs.BodyKeeps.{starts_body_keeps, runs_body_keeps}
+use Rattle.esm_rewriting.proofs.BodyKeeps.{starts_body_keeps, runs_body_keeps}
 use Rattle.esm_world.proofs.LimitsExact.{limits_are_exact}
 use Rattle.esm_machine.specs.Seen.{Seen, modules, BeginsById}
 use Rattle.esm_machine.specs.Held.{EntryHeld, StandsFor}

@@ -17,7 +17,7 @@ use Rattle.esm_promise.specs.Reactions.{BodyEnd}
 use Rattle.esm_promise.proofs.Renamed.{follows_names}
 use Rattle.esm_env.specs.Cells.{Cells}
 use Rattle.esm_env.specs.Modules.{entries}
-use Rattle.esm_link.specs.Link.{targets, targets_from}
+use Rattle.esm_link.specs.Link.{targets_from}
 use Rattle.esm_eval.specs.Nodes.{Node, Call, CallAnswer, Start, Run, untouched}
 use Rattle.esm_eval.specs.Evaluation.{Evaluation}
 use Rattle.esm_eval.specs.Naming.{named_node, named_call, mapped_result, Matches, WritesStay, CallsFollow}
@@ -28,8 +28,8 @@ use Rattle.esm_eval.specs.Calls.{CodeCalls}
 use Rattle.esm_eval.specs.Host as host
 use Rattle.esm_eval.specs.Host.{Outside}
 use Rattle.esm_eval.specs.declared.host.EvalHost.{EvalHost}
-use Rattle.esm_body.specs.State.{State, Engine, Event, Begins, Ends, Throws, begins_at}
-use Rattle.esm_body.specs.Naming.{renamed_event, renamed_state, mapped_end}
+use Rattle.esm_rewriting.specs.State.{State, Engine, Event, Begins, Ends, Throws, begins_at}
+use Rattle.esm_rewriting.specs.Naming.{renamed_event, renamed_state, mapped_end}
 use Rattle.esm_world.specs.World.{World, modules_in, with_state}
 use Rattle.esm_world.specs.Layers as layers
 use Rattle.esm_machine.specs.Seen.{Seen, names, modules}

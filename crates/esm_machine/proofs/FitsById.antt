@@ -12,9 +12,9 @@ use Rattle.esm_eval.specs.Keeping.{IsNodeOf}
 use Rattle.esm_eval.specs.Naming.{named_node}
 use Rattle.esm_eval.specs.Nodes.{Node, was_entered}
 use Rattle.esm_eval.specs.Table.{node_at}
-use Rattle.esm_body.specs.Fits.{FitStanding, Knows, of_body}
-use Rattle.esm_body.specs.Naming.{renamed_standing}
-use Rattle.esm_body.specs.State.{Standing}
+use Rattle.esm_rewriting.specs.Fits.{FitStanding, Knows, of_body}
+use Rattle.esm_rewriting.specs.Naming.{renamed_standing}
+use Rattle.esm_rewriting.specs.State.{Standing}
 use Rattle.esm_world.specs.World.{World, modules_in}
 use Rattle.esm_world.specs.Layers as layers
 use Rattle.esm_world.specs.Fits.{IsLinkedModule, AreModules, IsKnownValue, FitsWorld, IsFit}

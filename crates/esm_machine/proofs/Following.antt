@@ -11,8 +11,8 @@ use Rattle.esm_env.specs.Naming.{AreNamed}
 use Rattle.esm_env.proofs.Pulled.{pulled_are_named}
 use Rattle.esm_loads.specs.Host.{Host}
 use Rattle.esm_loads.specs.ImportCall.{BeginsImport}
-use Rattle.esm_body.specs.Naming.{renamed_outer, ImportsFollow}
-use Rattle.esm_body.proofs.NamedBodies.{follows_names}
+use Rattle.esm_rewriting.specs.Naming.{renamed_outer, ImportsFollow}
+use Rattle.esm_rewriting.proofs.NamedBodies.{follows_names}
 use Rattle.esm_link.specs.Naming.{named_fault}
 use Rattle.esm_link.proofs.Local.{closing_is_local}
 use Rattle.esm_link.proofs.Named.{linking_follows_names}

@@ -10,10 +10,10 @@ use Rattle.esm_promise.specs.Reactions.{Await, BodyEnd}
 use Rattle.esm_env.specs.Declarations.{function_at}
 use Rattle.esm_loads.specs.Loading.{Loading}
 use Rattle.esm_loads.specs.UrlTable.{body_in}
-use Rattle.esm_body.specs.Bodies.{Taken, behind, given_by, take_by, take_standing}
-use Rattle.esm_body.specs.Fits.{IsKnown}
-use Rattle.esm_body.specs.Naming.{renamed_standing}
-use Rattle.esm_body.specs.State.{Standing}
+use Rattle.esm_rewriting.specs.Bodies.{Taken, behind, given_by, take_by, take_standing}
+use Rattle.esm_rewriting.specs.Fits.{IsKnown}
+use Rattle.esm_rewriting.specs.Naming.{renamed_standing}
+use Rattle.esm_rewriting.specs.State.{Standing}
 use Rattle.esm_world.specs.Fits.{FitSettled, IsKnownValue}
 use Rattle.esm_world.specs.World.{World}
 use Rattle.esm_machine.specs.Inner.Parts.{AreLive, MayDo, seen_in, settled_in, url_in, value_in}

@@ -1,5 +1,5 @@
 -- A record more: what is known keeps its URL, so the world that is stood for is the same.
-use Rattle.std.proofs.Common.{◌≡◌, ◌⊎◌, inl, inr, ℕ, zero, suc, ◌+◌, ◌<◌, ◌≤◌, Bool, true, false, List, [], ◌∷◌, ◌++◌, map, All, Option, Some, None, refl, ap, subst, sym, ◌∙◌, arith, length}
+use Rattle.std.proofs.Common.{◌≡◌, ◌⊎◌, inl, inr, ℕ, zero, suc, ◌<◌, ◌≤◌, Bool, true, false, List, [], ◌∷◌, ◌++◌, map, All, Option, Some, None, refl, ap, subst, sym, ◌∙◌, arith, length}
 use Rattle.std.specs.Prelude.{◌||◌, nat_lt, slice_get, IfSome, ⊤}
 use Rattle.std.specs.List.{AllByRecursion}
 use Rattle.std.specs.Option.{option_map}
@@ -22,9 +22,9 @@ use Rattle.esm_eval.specs.Nodes.{Node}
 use Rattle.esm_eval.specs.Naming.{named_node}
 use Rattle.esm_eval.specs.Table.{Table, node_by, node_at}
 use Rattle.esm_eval.specs.Keeping.{IsNodeOf}
-use Rattle.esm_body.specs.Fits.{FitStanding, Knows, of_body}
-use Rattle.esm_body.specs.State.{Event, Begins, Ends, Throws, Standing}
-use Rattle.esm_body.specs.Naming.{renamed_event, renamed_standing, renamed_engine}
+use Rattle.esm_rewriting.specs.Fits.{FitStanding, Knows, of_body}
+use Rattle.esm_rewriting.specs.State.{Event, Begins, Ends, Throws, Standing}
+use Rattle.esm_rewriting.specs.Naming.{renamed_event, renamed_standing, renamed_engine}
 use Rattle.esm_world.specs.World.{EntryState, modules_in}
 use Rattle.esm_world.specs.Fits.{IsLinkedModule, IsKnownValue, FitReaction, FitSettled, FitPromise, FitPromises, FitEvent, FitEntry, AreModules}
 use Rattle.esm_world.proofs.FitBodies.{known_out}

@@ -10,12 +10,12 @@ use Rattle.esm_values.specs.declared.value.Ran.TheVariants as rans
 use Rattle.esm_eval.specs.Host.{Outside, RunsAs, StartsAs}
 use Rattle.esm_eval.specs.EndSteps.{RanKnown}
 use Rattle.esm_eval.specs.declared.walk.EvalEnd.{EvalEnd}
-use Rattle.esm_body.specs.State.{State}
-use Rattle.esm_body.specs.Bodies.{StartsBody}
-use Rattle.esm_body.specs.Keeps.{ChangedBy}
-use Rattle.esm_body.specs.declared.log.Stop.{Stop}
-use Rattle.esm_body.specs.declared.log.Stop.TheVariants as stops
-use Rattle.esm_body.proofs.BodyKeeps.{bodies_keep, runs_body_keeps, starts_body_keeps}
+use Rattle.esm_rewriting.specs.State.{State}
+use Rattle.esm_rewriting.specs.Bodies.{StartsBody}
+use Rattle.esm_rewriting.specs.Keeps.{ChangedBy}
+use Rattle.esm_rewriting.specs.declared.stop.Stop.{Stop}
+use Rattle.esm_rewriting.specs.declared.stop.Stop.TheVariants as stops
+use Rattle.esm_rewriting.proofs.BodyKeeps.{bodies_keep, runs_body_keeps, starts_body_keeps}
 use Rattle.esm_world.proofs.BodyLives.{LivesOn, limit_at, limit_by, runs_body_lives, starts_body_lives}
 use Rattle.esm_body.specs.Engines.{TakesBodies, KnowsThrown, RanBody, Started}
 use Rattle.esm_machine.specs.Evaluating.{state_in}

@@ -10,13 +10,12 @@ use Rattle.esm_values.specs.Naming.{renamed_value}
 use Rattle.esm_values.specs.declared.value.Value.{Value as CodeValue}
 use Rattle.esm_env.specs.Calls.{scopes_of}
 use Rattle.esm_loads.specs.UrlTable.{Entries}
-use Rattle.esm_body.specs.Acts.{Displays}
-use Rattle.esm_body.specs.Fits.{AreLinked}
+use Rattle.esm_rewriting.specs.Fits.{AreLinked}
 use Rattle.esm_body.specs.DisplayText.{IsDisplayText}
 use Rattle.esm_world.specs.Fits.{FitEntry, IsKnownValue}
 use Rattle.esm_world.specs.World.{World}
 use Rattle.esm_machine.specs.FitsById.{FitsById}
-use Rattle.esm_machine.specs.Held.{Failed, Held, renamed_entry, body_state}
+use Rattle.esm_machine.specs.Held.{Failed, renamed_entry, body_state}
 use Rattle.esm_machine.specs.Represents.{IsLineBy}
 use Rattle.esm_machine.specs.Seen.{linked, modules, names}
 use Rattle.esm_machine.specs.Inner.Lawful.{imports_are_lawful}

@@ -46,7 +46,7 @@ use Rattle.esm_link.proofs.ClosedLinks as closed_links
 use Rattle.esm_link.proofs.Local.{linking_is_local}
 use Rattle.esm_link.proofs.LocalWalks as local
 use Rattle.esm_link.proofs.Marking.{same_length}
-use Rattle.esm_body.specs.Fits.{AreLinked}
+use Rattle.esm_rewriting.specs.Fits.{AreLinked}
 use Rattle.esm_world.specs.World.{modules_in}
 use Rattle.esm_world.proofs.FitLists.{place_names}
 use Rattle.esm_machine.specs.Following.{LinkingIsOfTheWorld}

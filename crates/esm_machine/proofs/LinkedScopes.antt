@@ -23,7 +23,7 @@ use Rattle.esm_link.specs.Parsed.{SpelledIsBound}
 use Rattle.esm_link.specs.Realm.{AreTrees, IsLinkedBy, MakesScopes}
 use Rattle.esm_link.specs.Scopes.{LeavesRecords, LinkKeepsScopes, LinkLeavesRecords, ScopesAreLocal, StaysLinked}
 use Rattle.esm_link.specs.declared.LinkFault.{LinkFault}
-use Rattle.esm_body.specs.Fits.{AreLinked}
+use Rattle.esm_rewriting.specs.Fits.{AreLinked}
 use Rattle.esm_machine.specs.Following.{LinkingIsOfTheWorld}
 use Rattle.esm_machine.specs.Kept.{GoesOn, IsKept}
 use Rattle.esm_machine.specs.Linking.{KeepsScopes, LinksSeen, NamesRecords, SameMembers, condition_linked}

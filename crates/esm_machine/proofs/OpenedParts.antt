@@ -16,8 +16,7 @@ use Rattle.esm_eval.specs.Nodes.{Node, Phase, untouched}
 use Rattle.esm_eval.specs.Table.{no_nodes, node_at, size}
 use Rattle.esm_loads.specs.Arrival.{next}
 use Rattle.esm_loads.specs.LoadsView.{every_form}
-use Rattle.esm_body.specs.State as state
-use Rattle.esm_body.specs.State.{has_begun, opening_engine}
+use Rattle.esm_rewriting.specs.State.{has_begun, opening_engine}
 use Rattle.esm_body.specs.View.{engine_of, standing_of}
 use Rattle.esm_body.specs.declared.work.Standing.{Standing}
 use Rattle.esm_world.specs.Sound.{WorldsStaySound}

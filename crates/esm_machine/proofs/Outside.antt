@@ -6,7 +6,7 @@ use Rattle.esm_values.specs.Errors.{Errors}
 use Rattle.esm_promise.specs.Code.{Numbered}
 use Rattle.esm_env.specs.Faithful.{AreScopesOf}
 use Rattle.esm_env.specs.Scopes.{Scopes}
-use Rattle.esm_body.specs.Fits.{FitStanding}
+use Rattle.esm_rewriting.specs.Fits.{FitStanding}
 use Rattle.esm_body.specs.View.{standing_of}
 use Rattle.esm_body.specs.declared.work.Standing.{Standing}
 use Rattle.esm_world.specs.World.{World}

@@ -2,13 +2,12 @@
 use Rattle.std.proofs.Common.{◌≡◌, ◌<◌, ℕ, true, Option, Some, None, ap, subst, sym, ◌∙◌}
 use Rattle.std.specs.Option.{option_or}
 use Rattle.esm_base.specs.declared.limits.Limit.{Limit}
-use Rattle.esm_base.specs.Urls.{has}
 use Rattle.esm_values.specs.Value.{Value}
 use Rattle.esm_promise.specs.Promises.{Settled}
 use Rattle.esm_promise.specs.Reactions.{Await, BodyEnd}
 use Rattle.esm_eval.specs.Host.{HostFits, outside}
 use Rattle.esm_eval.specs.Table.{size}
-use Rattle.esm_body.specs.Fits.{AreLinked}
+use Rattle.esm_rewriting.specs.Fits.{AreLinked}
 use Rattle.esm_world.specs.World.{World}
 use Rattle.esm_body.specs.Engines.{TakesBodies}
 use Rattle.esm_machine.specs.FitsById.{FitsById}

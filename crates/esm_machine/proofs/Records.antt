@@ -12,7 +12,6 @@ use Rattle.esm_realm.specs.declared.record.ModuleStatus.{ModuleStatus}
 use Rattle.esm_realm.specs.declared.record.ModuleStatus.TheVariants as statuses
 use Rattle.esm_realm.proofs.Urls.{same_text}
 use Rattle.esm_values.proofs.Numbered.{numbers_urls}
-use Rattle.esm_env.specs.Modules.{entries}
 use Rattle.esm_loads.specs.UrlTable.{Module, targets_in, body_in}
 use Rattle.esm_loads.specs.LoadsView.{tree_at, entries_in, entry_at, module_of, is_past_new, url_at}
 use Rattle.esm_loads.specs.LoadsAsLoading.{loading_of, trees_of}
@@ -24,7 +23,7 @@ use Rattle.esm_loads.proofs.PlacesOfUrls.{listed}
 use Rattle.esm_loads.proofs.NextFacts.{entry_of}
 use Rattle.esm_link.specs.Realm.{is_linked}
 use Rattle.esm_machine.specs.ModuleStore.{linked_urls, loaded_or}
-use Rattle.esm_machine.specs.Inner.Numbers.{url, number, number_url}
+use Rattle.esm_machine.specs.Inner.Numbers.{number, number_url}
 use Rattle.esm_machine.specs.Inner.Importing.{or_true, Linked, Named, among, short}
 
 -- ---- numbers

@@ -2,7 +2,6 @@
 use Rattle.std.proofs.Common.{◌≡◌, ℕ, nat_eq, true, length, ap, subst, sym, ◌∙◌}
 use Rattle.std.specs.Prelude.{Ok, Err}
 use Rattle.std.specs.List.{list_any}
-use Rattle.esm_base.specs.declared.end.End.TheVariants as ends
 use Rattle.esm_base.specs.Lists.{EachOnce}
 use Rattle.esm_base.specs.Urls.{same_url}
 use Rattle.esm_values.specs.Value.{Value}
@@ -11,11 +10,11 @@ use Rattle.esm_promise.specs.Promises.{Settled}
 use Rattle.esm_promise.specs.Reactions.{Await}
 use Rattle.esm_eval.specs.Begins.{HaveBegunOnce}
 use Rattle.esm_eval.specs.Host.{outside}
-use Rattle.esm_body.specs.Bodies.{ResumesBody}
-use Rattle.esm_body.specs.State.{has_begun}
-use Rattle.esm_body.specs.declared.log.Stop.{Stop}
-use Rattle.esm_body.specs.declared.log.Stop.TheVariants as stops
-use Rattle.esm_body.proofs.BodyKeeps.{bodies_keep, resumes_body_keeps}
+use Rattle.esm_rewriting.specs.Bodies.{ResumesBody}
+use Rattle.esm_rewriting.specs.State.{has_begun}
+use Rattle.esm_rewriting.specs.declared.stop.Stop.{Stop}
+use Rattle.esm_rewriting.specs.declared.stop.Stop.TheVariants as stops
+use Rattle.esm_rewriting.proofs.BodyKeeps.{bodies_keep, resumes_body_keeps}
 use Rattle.esm_world.proofs.BodyLives.{resumes_body_lives}
 use Rattle.esm_body.specs.Engines.{Resumed}
 use Rattle.esm_machine.specs.Seen.{BeginsById, Fits, linked, modules}

@@ -31,7 +31,7 @@ use Rattle.esm_loads.proofs.Orderly.{only_grows}
 use Rattle.esm_link.specs.Local.{AgreeOn}
 use Rattle.esm_link.specs.Realm.{modules_of}
 use Rattle.esm_link.specs.Scopes.{ScopesAreLocal, linked_in}
-use Rattle.esm_body.specs.Keeps.{ChangedBy}
+use Rattle.esm_rewriting.specs.Keeps.{ChangedBy}
 use Rattle.esm_world.proofs.FitLists.{place_below, place_names}
 use Rattle.esm_world.proofs.UnlinkedGrows.{unlinked_stays}
 use Rattle.esm_machine.specs.Arrivals.{urls_with}

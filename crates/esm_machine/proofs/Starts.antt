@@ -1,10 +1,10 @@
 -- How many bodies have begun: the same by other names of modules.
-use Rattle.std.proofs.Common.{◌≡◌, ℕ, List, [], ◌∷◌, map, length, suc, refl, ap}
+use Rattle.std.proofs.Common.{◌≡◌, List, [], ◌∷◌, map, length, suc, refl, ap}
 use Rattle.esm_base.specs.Urls.{Url}
 use Rattle.esm_values.specs.Naming.{Naming}
-use Rattle.esm_body.specs.State.{Event, Begins, Ends, Throws}
-use Rattle.esm_body.specs.Keeps.{started}
-use Rattle.esm_body.specs.Naming.{renamed_event}
+use Rattle.esm_rewriting.specs.State.{Event, Begins, Ends, Throws}
+use Rattle.esm_rewriting.specs.Keeps.{started}
+use Rattle.esm_rewriting.specs.Naming.{renamed_event}
 use Rattle.esm_machine.specs.Held.{Held, world_of}
 use Rattle.esm_machine.specs.Seen.{names}
 

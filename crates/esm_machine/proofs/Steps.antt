@@ -16,15 +16,15 @@ use Rattle.esm_promise.specs.Renaming.{renamed, renamed_job, renamed_reaction, r
 use Rattle.esm_promise.proofs.Renamed.{follows_names}
 use Rattle.esm_loads.specs.ImportCall.{BeginsImport}
 use Rattle.esm_loads.specs.Loading.{Loading}
-use Rattle.esm_body.specs.Bodies.{ResumesBody}
-use Rattle.esm_body.specs.Naming.{renamed_state}
-use Rattle.esm_body.specs.State.{State}
+use Rattle.esm_rewriting.specs.Bodies.{ResumesBody}
+use Rattle.esm_rewriting.specs.Naming.{renamed_state}
+use Rattle.esm_rewriting.specs.State.{State}
 use Rattle.esm_world.specs.World as world
 use Rattle.esm_world.specs.World.{World, modules_in}
 use Rattle.esm_world.specs.Layers as layers
 use Rattle.esm_world.specs.Jobs as jobs
 use Rattle.esm_world.specs.Jobs.{Reacts, settle_promise, with_reaction, with_error, new_error}
-use Rattle.esm_body.proofs.BodyKeeps.{Imported, resumes_body_keeps}
+use Rattle.esm_rewriting.proofs.BodyKeeps.{Imported, resumes_body_keeps}
 use Rattle.esm_world.proofs.LimitsExact.{limits_are_exact}
 use Rattle.esm_machine.specs.Seen.{Seen, names, modules, BeginsById}
 use Rattle.esm_machine.specs.Following.{seen_loading}

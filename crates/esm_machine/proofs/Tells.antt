@@ -13,9 +13,9 @@ use Rattle.esm_values.specs.Value.{Value, Undefined, Truth, Text, Func, Error, N
 use Rattle.esm_values.specs.Naming.{renamed_value}
 use Rattle.esm_resolve.specs.Keys.{AreNamespaceKeysOf}
 use Rattle.esm_env.specs.Modules.{entries, graph}
-use Rattle.esm_body.specs.Acts.{Displays}
-use Rattle.esm_body.specs.Keeps.{started}
-use Rattle.esm_body.proofs.OneAct.{displays_one}
+use Rattle.esm_rewriting.specs.Acts.{Displays}
+use Rattle.esm_rewriting.specs.Keeps.{started}
+use Rattle.esm_rewriting.proofs.OneAct.{displays_one}
 use Rattle.esm_world.specs.World as world
 use Rattle.esm_world.specs.World.{World, EntryState, modules_in, opening, stopped}
 use Rattle.esm_world.specs.World.{EntryState as entry_state}

@@ -9,14 +9,14 @@ use Rattle.esm_base.specs.Urls.{Text, Url, has}
 use Rattle.esm_ast.specs.Outcome.{OutcomeView}
 use Rattle.esm_loads.specs.Arrival.{open_asks}
 use Rattle.esm_loads.specs.Loading.{Loading}
-use Rattle.esm_body.specs.Keeps.{started}
+use Rattle.esm_rewriting.specs.Keeps.{started}
 use Rattle.esm_world.specs.World.{World, EntryState}
 use Rattle.esm_world.specs.World.{EntryState as entry_state}
 use Rattle.esm_world.specs.LastLine.{Ending, ending_by, exit_status}
 use Rattle.esm_world.specs.Run.{HasModuleTree, IsAllowed}
 use Rattle.esm_world.specs.Turn.{Turn}
 use Rattle.esm_ast.specs.Deliveries.{completed}
-use Rattle.esm_machine.specs.Held.{Held, EntryHeld, Underway, Ended, Failed, renamed_entry}
+use Rattle.esm_machine.specs.Held.{Held, EntryHeld, renamed_entry}
 use Rattle.esm_machine.specs.Represents.{IsEnded, IsEndedBy, IsLineBy, IsLineByStop, IsLineOf, MayTake, MayTakeBy, ShownBy, ShowsBy, Shows, MachineState, StoppedAs, TakesDelivery, TurnEnd, asks_by_stop, asks_of, ending_by_stop, ending_of}
 use Rattle.esm_machine.specs.Machine.{MachineParts, state_of, held_of}
 use Rattle.esm_machine.specs.Inner.Parts.{AreLive, seen_in}

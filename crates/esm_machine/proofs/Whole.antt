@@ -1,5 +1,5 @@
 -- Whether anything was refused shows in what is seen: a limit has stopped loading, and where nothing is known nothing is linked.
-use Rattle.std.proofs.Common.{◌≡◌, true, false, List, Option, Some, None, refl, ◌∙◌}
+use Rattle.std.proofs.Common.{◌≡◌, true, false, List, Option, Some, None, refl}
 use Rattle.esm_base.specs.declared.limits.Limit.{Limit}
 use Rattle.esm_base.specs.Urls.{Url, has}
 use Rattle.esm_loads.specs.Loading.{Loading}

@@ -17,8 +17,8 @@ use Rattle.esm_eval.specs.Naming.{EvaluationFollows}
 use Rattle.esm_eval.specs.Host as host
 use Rattle.esm_eval.specs.Host.{Outside}
 use Rattle.esm_eval.specs.declared.host.EvalHost.{EvalHost}
-use Rattle.esm_body.specs.Bodies.{StartsBody, RunsBody}
-use Rattle.esm_body.specs.State.{State, Engine, has_begun}
+use Rattle.esm_rewriting.specs.Bodies.{StartsBody, RunsBody}
+use Rattle.esm_rewriting.specs.State.{State, Engine, has_begun}
 use Rattle.esm_world.specs.World.{World}
 use Rattle.esm_world.specs.Layers as layers
 use Rattle.esm_machine.specs.Seen.{Seen, modules}

@@ -4,7 +4,7 @@ use Rattle.esm_values.specs.Value.{Value}
 use Rattle.esm_eval.specs.Keeping.{IsNodeOf}
 use Rattle.esm_eval.specs.Nodes.{was_entered}
 use Rattle.esm_eval.specs.Table.{node_at}
-use Rattle.esm_body.specs.Fits.{IsKnown, FitsState}
+use Rattle.esm_rewriting.specs.Fits.{IsKnown, FitsState}
 use Rattle.esm_world.specs.World.{World}
 use Rattle.esm_world.specs.Fits.{IsFit}
 use Rattle.esm_machine.specs.Seen.{Seen, HaveIds, modules, linked, Fits}

@@ -9,7 +9,7 @@ use Rattle.esm_link.specs.Faults.{FaultAt}
 use Rattle.esm_link.specs.Link.{IsLinking}
 use Rattle.esm_link.specs.Local.{AreWhole}
 use Rattle.esm_link.specs.Naming.{named_fault}
-use Rattle.esm_body.specs.Naming.{BodiesFollow}
+use Rattle.esm_rewriting.specs.Naming.{BodiesFollow}
 use Rattle.esm_world.specs.World.{modules_in}
 use Rattle.esm_machine.specs.Seen.{Seen, names, modules, BeginsById}
 

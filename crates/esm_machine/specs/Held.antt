@@ -17,9 +17,9 @@ use Rattle.esm_eval.specs.Table.{Table, node_at, no_nodes}
 use Rattle.esm_loads.specs.Loading.{Loading, opening_loading}
 use Rattle.esm_loads.specs.LoadsView.{every_form}
 use Rattle.esm_loads.specs.Hosted.{host_of}
-use Rattle.esm_body.specs.State.{State, Engine, opening_engine}
-use Rattle.esm_body.specs.Keeps.{started}
-use Rattle.esm_body.specs.Naming.{renamed_engine}
+use Rattle.esm_rewriting.specs.State.{State, Engine, opening_engine}
+use Rattle.esm_rewriting.specs.Keeps.{started}
+use Rattle.esm_rewriting.specs.Naming.{renamed_engine}
 use Rattle.esm_world.specs.World as world
 use Rattle.esm_world.specs.World.{World, EntryState, opening, stopped}
 use Rattle.esm_world.specs.World.{EntryState as entry_state}

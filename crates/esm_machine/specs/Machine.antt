@@ -5,7 +5,7 @@ use Rattle.esm_values.specs.Errors.{Errors}
 use Rattle.esm_env.specs.Calls.{scopes_of}
 use Rattle.esm_env.specs.Cells.{Cells}
 use Rattle.esm_env.specs.Scopes.{Scopes, cells_of}
-use Rattle.esm_body.specs.State.{Engine}
+use Rattle.esm_rewriting.specs.State.{Engine}
 use Rattle.esm_body.specs.View.{engine_of}
 use Rattle.esm_machine.specs.Evaluating.{held_in}
 use Rattle.esm_machine.specs.Held.{EntryHeld, Underway, Ended, Failed, Held}

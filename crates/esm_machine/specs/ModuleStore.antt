@@ -15,10 +15,10 @@ use Rattle.esm_loads.specs.LoadsAsLoading.{loading_of}
 use Rattle.esm_loads.specs.Hosted.{stopped_by}
 use Rattle.esm_loads.specs.declared.loads.Loads.{Loads}
 use Rattle.esm_link.specs.Realm.{is_linked}
-use Rattle.esm_body.specs.Fits.{AreLinked}
+use Rattle.esm_rewriting.specs.Fits.{AreLinked}
 use Rattle.esm_body.specs.Importers.{HasLinked}
-use Rattle.esm_body.specs.declared.log.Stop.{Stop}
-use Rattle.esm_body.specs.declared.log.Stop.TheVariants as stops
+use Rattle.esm_rewriting.specs.declared.stop.Stop.{Stop}
+use Rattle.esm_rewriting.specs.declared.stop.Stop.TheVariants as stops
 use Rattle.esm_machine.specs.Seen.{Seen, names, modules, linked}
 use Rattle.esm_machine.specs.declared.condition.Condition.{Condition}
 use Rattle.esm_machine.specs.declared.condition.Condition.TheVariants as conditions

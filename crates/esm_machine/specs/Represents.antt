@@ -12,8 +12,8 @@ use Rattle.esm_ast.specs.Deliveries.{Delivery, completed}
 use Rattle.esm_loads.specs.Loading.{Loading}
 use Rattle.esm_loads.specs.LoadsView.{every_form}
 use Rattle.esm_loads.specs.Arrival.{open_asks}
-use Rattle.esm_body.specs.Acts.{Displays}
-use Rattle.esm_body.specs.Keeps.{started}
+use Rattle.esm_rewriting.specs.Acts.{Displays}
+use Rattle.esm_rewriting.specs.Keeps.{started}
 use Rattle.esm_world.specs.World.{World, opening, stopped}
 use Rattle.esm_world.specs.LastLine.{Ending, Stopped, ending_by, exit_status}
 use Rattle.esm_world.specs.Turn.{Turn}

@@ -18,7 +18,7 @@ use Rattle.esm_loads.specs.LoadsView.{every_form, is_unlinked}
 use Rattle.esm_loads.specs.UrlTable.{found}
 use Rattle.esm_link.specs.Realm.{modules_of}
 use Rattle.esm_link.specs.Scopes.{linked_in}
-use Rattle.esm_body.specs.Keeps.{ChangedBy}
+use Rattle.esm_rewriting.specs.Keeps.{ChangedBy}
 use Rattle.esm_body.specs.SameScopes.{HaveSameScopes}
 use Rattle.esm_machine.specs.Arrivals.{urls_with}
 use Rattle.esm_machine.specs.Calls.{KeepsRecords}

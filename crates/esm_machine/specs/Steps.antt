@@ -10,8 +10,8 @@ use Rattle.esm_promise.specs.Code.{Numbered}
 use Rattle.esm_promise.specs.Promises.{Settled, Job, settle, settled, register, next_job}
 use Rattle.esm_promise.specs.Reactions.{Reaction, Await}
 use Rattle.esm_promise.specs.Renaming.{renamed, renamed_job, renamed_reaction, renamed_settled}
-use Rattle.esm_body.specs.Bodies.{ResumesBody}
-use Rattle.esm_body.specs.State.{State}
+use Rattle.esm_rewriting.specs.Bodies.{ResumesBody}
+use Rattle.esm_rewriting.specs.State.{State}
 use Rattle.esm_world.specs.World.{World}
 use Rattle.esm_world.specs.Layers as layers
 use Rattle.esm_world.specs.Jobs as jobs

@@ -4,9 +4,9 @@ ghost use Rattle.esm_machine.specs.Linking.{condition_linked};
 ghost use Rattle.esm_machine.specs.ModuleStore.{condition_by, is_whole, stop_by};
 
 use esm_base::Limit;
-use esm_body::Stop;
 use esm_link::LinkEnd;
 use esm_loads::LoadEnd;
+use esm_rewriting::Stop;
 
 /// What is known of what lies outside of bodies.
 #[derive(Clone, Copy, Debug, PartialEq, Eq)]

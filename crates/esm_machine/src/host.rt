@@ -7,10 +7,11 @@ use crate::TurnEnd;
 use crate::laws::scopes_stay;
 use crate::module_store::ModuleStore;
 use esm_base::{Limit, ModuleId};
-use esm_body::{Engine, Stop};
+use esm_body::Engine;
 use esm_env::Envs;
 use esm_eval::{Bodies, EvalEnd};
 use esm_promise::Promises;
+use esm_rewriting::Stop;
 use esm_values::{Errors, PromiseId, Ran};
 
 /// The engine of bodies, with all that bodies read and write beside the promises.

@@ -104,7 +104,7 @@ pub trait ShownBodies {
     ghost use Rattle.esm_base.specs.declared.limits.Limit.{Limit};
     ghost use Rattle.esm_values.specs.Errors.{Errors};
     ghost use Rattle.esm_env.specs.Cells.{Cells};
-    ghost use Rattle.esm_body.specs.State.{Engine};
+    ghost use Rattle.esm_rewriting.specs.State.{Engine};
     ghost use Rattle.esm_eval.specs.Calls.{CodeCalls};
     ghost use Rattle.esm_eval.specs.Host.{Outside};
     ghost use Rattle.esm_machine.specs.Seen.{Seen};

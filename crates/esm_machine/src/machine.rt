@@ -6,7 +6,7 @@ ghost use Rattle.esm_base.specs.declared.end.End.TheVariants as ends;
 ghost use Rattle.esm_base.specs.Limits.{limit_name};
 ghost use Rattle.esm_base.specs.Urls.{is_usable, IsUsable};
 ghost use Rattle.esm_values.specs.Code.{value_of};
-ghost use Rattle.esm_body.specs.Keeps.{started as started_in};
+ghost use Rattle.esm_rewriting.specs.Keeps.{started as started_in};
 ghost use Rattle.esm_body.specs.Noted.{event_of};
 ghost use Rattle.esm_world.specs.LastLine.{exit_status};
 ghost use Rattle.esm_machine.specs.Held.{Failed, Held, opening_held};

@@ -6,7 +6,7 @@ ghost use Rattle.esm_env.specs.Modules.{entries};
 ghost use Rattle.esm_env.specs.Scopes.{cells_of};
 ghost use Rattle.esm_link.specs.Link.{targets};
 ghost use Rattle.esm_machine.specs.ModuleStore.{is_whole, seen_of};
-ghost use Rattle.esm_body.specs.Fits.{AreLinked};
+ghost use Rattle.esm_rewriting.specs.Fits.{AreLinked};
 ghost use Rattle.esm_machine.specs.Linking.{KeepsScopes, LinksSeen, NamesRecords, SameMembers, condition_linked};
 ghost use Rattle.esm_machine.specs.Seen.{linked, modules, names};
 ghost use Rattle.esm_machine.specs.SeenScopes.{AreScopesIn};

@@ -11,7 +11,7 @@ use Rattle.esm_loads.specs.Host.{Host}
 use Rattle.esm_loads.proofs.Places.{index_get}
 use Rattle.esm_loads.proofs.PlacesOfUrls.{listed}
 use Rattle.esm_link.specs.declared.LinkFault.{LinkFault}
-use Rattle.esm_body.specs.Fits.{AreLinked}
+use Rattle.esm_rewriting.specs.Fits.{AreLinked}
 use Rattle.esm_world.specs.Loaded.{LinkedStaysLinked}
 use Rattle.esm_machine.specs.Calls.{AnswersBy, KeepsRecords, UnlessLost, opening_seen}
 use Rattle.esm_machine.specs.Linking.{LinksSeen, SameMembers}

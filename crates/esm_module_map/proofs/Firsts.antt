@@ -1,7 +1,7 @@
 -- Where none of the first numbers is free, the least that is stands behind them.
 use mathlib.Core.Bool.{true≢false}
 use Rattle.std.proofs.Common.{◌≡◌, ◌∙◌, ◌<◌, ◌≤◌, ◌+◌, ◌-◌, ap, sym, subst, refl, ℕ, zero, suc, List, [], ◌∷◌, ◌++◌, length, arith, Bool, true, false, not, cond, drop, take, length-drop}
-use Rattle.std.specs.Prelude.{Option, Some, None, nat_lt, position, ◌||◌, ◌&&◌}
+use Rattle.std.specs.Prelude.{Some, None, nat_lt, position, ◌||◌, ◌&&◌}
 use Rattle.std.specs.List.{list_any, position_or_len}
 use Rattle.std.proofs.lemmas.Grind.{common_steps}
 use Rattle.std.proofs.lemmas.Bool.Decides.{nat_tests}

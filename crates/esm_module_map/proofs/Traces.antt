@@ -1,5 +1,5 @@
 -- Where what a history has comes from: takes were asked for, posts are answers, and what is there stays.
-use Rattle.std.proofs.Common.{◌≡◌, ℕ, zero, suc, ◌+◌, ◌<◌, ◌≤◌, Bool, true, false, cond, nat_lt, List, [], ◌∷◌, ◌++◌, length, sym, refl, ap, ◌∙◌, subst, arith, Option, Some, slice_get, slice_index_or, not, bytes_eq, ◌⊎◌, inl, inr, ◌==◌, Ok}
+use Rattle.std.proofs.Common.{◌≡◌, ℕ, zero, suc, Bool, true, false, cond, nat_lt, List, [], ◌∷◌, sym, refl, ap, ◌∙◌, subst, arith, Some, slice_get, slice_index_or, not, ◌⊎◌, inl, inr, ◌==◌}
 use Rattle.std.specs.Prelude.{Contains}
 use Rattle.std.specs.Arc.{arc_value}
 use Rattle.std.specs.declared.sync.Arc.{Arc}
@@ -11,7 +11,7 @@ use Rattle.esm_base.specs.Urls.{Url}
 use Rattle.esm_module_map.specs.declared.event.Why.{Why}
 use Rattle.esm_module_map.specs.declared.event.MapEvent.{MapEvent}
 use Rattle.esm_module_map.specs.declared.event.MapEvent.TheVariants.{Begin, Enrol, Ask, Take, Post, Shut}
-use Rattle.esm_module_map.specs.Replay.{Replay, opening, asked_by, is_numbered, is_posted, number_for, is_order, next_order, step, replay, replay_from, is_legal, is_legal_from, may_come, maker_of}
+use Rattle.esm_module_map.specs.Replay.{Replay, opening, asked_by, is_numbered, is_order, next_order, step, replay_from, is_legal_from, may_come, maker_of}
 use Rattle.esm_module_map.specs.Histories.{Answer, Posts, url_at, asks_in, takes_in, answers_in, along}
 use Rattle.esm_module_map.specs.Laws.{PostsAreAnswers, TakesWereAsked, TakenOnceByMakers}
 use Rattle.esm_module_map.proofs.Replays.{both_true, eq_true}

@@ -26,6 +26,3 @@ pub use source::{FetchEnd, Source};
 pub use std_sink::StdSink;
 pub use sure_sink::SureSink;
 pub use sure_source::SureSource;
-
-#[cfg(test)]
-mod tests;

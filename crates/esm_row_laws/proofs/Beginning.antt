@@ -1,5 +1,5 @@
 -- Where a statement leads behind its step, and what its step comes to.
-use Rattle.std.proofs.Common.{◌≡◌, ℕ, nat_eq, List, [], ◌∷◌, refl, ap, subst, sym}
+use Rattle.std.proofs.Common.{◌≡◌, ℕ, nat_eq, List, [], refl, ap, subst, sym}
 use Rattle.std.specs.Prelude.{Result, Ok, Err}
 use Rattle.esm_base.specs.declared.limits.Limit.{Limit}
 use Rattle.esm_tree.specs.Syntax as x
@@ -12,16 +12,16 @@ use Rattle.esm_values.specs.Plans.{Rewritten, Follows}
 use Rattle.esm_values.specs.Plans.{Follows as follows}
 use Rattle.esm_values.specs.Plans.Rewritten.{Goes, Stops}
 use Rattle.esm_values.specs.Plans.Plan.{Ends, Asks}
-use Rattle.esm_body.specs.Rest.{Use as Purpose}
-use Rattle.esm_body.specs.Rest.{Rest, begin}
-use Rattle.esm_body.specs.State.{State, Importing, take_steps}
-use Rattle.esm_body.specs.Acts.{Inner as OverScopes, Performs, over_scopes}
-use Rattle.esm_body.specs.BodyRewriting.{On}
-use Rattle.esm_body.specs.BodyRewriting.{RewritesBody as rule}
-use Rattle.esm_body.specs.Segment.{Active, Segment}
-use Rattle.esm_body.specs.Segment.{Ended as ended}
-use Rattle.esm_body.specs.Contexts.{scopes_in, surrounded}
-use Rattle.esm_body.proofs.Paths.{outer_goes, outer_stops}
+use Rattle.esm_rewriting.specs.Rest.{Use as Purpose}
+use Rattle.esm_rewriting.specs.Rest.{Rest, begin}
+use Rattle.esm_rewriting.specs.State.{State, Importing, take_steps}
+use Rattle.esm_rewriting.specs.Acts.{Inner as OverScopes, Performs, over_scopes}
+use Rattle.esm_rewriting.specs.BodyRewriting.{On}
+use Rattle.esm_rewriting.specs.BodyRewriting.{RewritesBody as rule}
+use Rattle.esm_rewriting.specs.Segment.{Active, Segment}
+use Rattle.esm_rewriting.specs.Segment.{Ended as ended}
+use Rattle.esm_rewriting.specs.Contexts.{scopes_in, surrounded}
+use Rattle.esm_rewriting.proofs.Paths.{outer_goes, outer_stops}
 use Rattle.esm_rows.specs.Rows.{init_row, stmt_row}
 use Rattle.esm_row_laws.specs.Spots.{Left, left, Round, names_of, Between, left_row, use_row, spot_row}
 use Rattle.esm_row_laws.specs.Remaining.{left_rest, contexts, rest_at}

@@ -1,40 +1,44 @@
 -- Calls: what is called with which values, and the caller that waits.
-use Rattle.std.proofs.Common.{◌≡◌, ◌<◌, ℕ, zero, suc, ◌+◌, nat_eq, Bool, true, false, List, [], ◌∷◌, ◌++◌, length, Option, Some, refl, ap, subst, sym, ◌∙◌, arith}
+use Rattle.std.proofs.Common.{◌≡◌, ◌<◌, ◌≤◌, ℕ, zero, suc, ◌+◌, nat_eq, Bool, true, false, List, [], ◌∷◌, ◌++◌, length, Some, refl, ap, subst, sym, ◌∙◌, arith}
 use Rattle.std.proofs.lemmas.Bool.Decides.{nat_tests}
-use Rattle.std.specs.Prelude.{Result, Ok, Err, nat_lt}
+use Rattle.std.specs.Prelude.{Result, Ok, Err, nat_lt, codes}
 use Rattle.esm_base.specs.declared.limits.Limit.{Limit}
 use Rattle.esm_base.specs.declared.limits.TheConstants.{MAX_CALL_DEPTH}
 use Rattle.esm_tree.specs.Syntax.{Links}
 use Rattle.esm_env.specs.Modules.{Modules}
 use Rattle.esm_values.specs.Value.{Value}
-use Rattle.esm_values.specs.Operators.{values, look_of}
+use Rattle.esm_values.specs.Errors.{fault}
+use Rattle.esm_values.specs.Operators.{values, look_of, is_func, faults}
 use Rattle.esm_values.specs.Operators.{Look as look}
+use Rattle.esm_values.specs.Operators.{Look}
+use Rattle.esm_values.specs.declared.errors.FaultKind.TheVariants as kinds
 use Rattle.esm_values.specs.Acts.{Act as act}
-use Rattle.esm_values.specs.Plans.{Rewritten, Follows}
+use Rattle.esm_values.specs.Plans.{Rewritten, Plan, Follows}
 use Rattle.esm_values.specs.Plans.{Follows as follows}
-use Rattle.esm_values.specs.Plans.Rewritten.{Calls, Stops}
-use Rattle.esm_expr_eval.specs.Terms.{Term, Terms, links}
-use Rattle.esm_expr_eval.specs.Terms.Term.{Val, Waits, Post}
+use Rattle.esm_values.specs.Plans.Rewritten.{Leaves, Calls, Stops}
+use Rattle.esm_expr_eval.specs.Terms.{Term, Terms, LinkTerms, links}
+use Rattle.esm_expr_eval.specs.Terms.Term.{Val, Waits, Fails, Post}
 use Rattle.esm_expr_eval.specs.Terms.Terms.{none as no_more_terms, more as further}
 use Rattle.esm_expr_eval.specs.Terms.LinkTerms.{call as calling}
 use Rattle.esm_expr_eval.specs.Rewriting.{AreValues, nil, cons, enters}
 use Rattle.esm_expr_eval.specs.Rewriting.{called as called_plan}
 use Rattle.esm_expr_eval.specs.Rewriting.Rewrites.{call_of}
-use Rattle.esm_body.specs.Rest.{Rest}
-use Rattle.esm_body.specs.State.{State, Importing, take_steps}
-use Rattle.esm_body.specs.Acts.{Performs, over_scopes, modules_of}
-use Rattle.esm_body.specs.BodyRewriting.{On}
-use Rattle.esm_body.specs.Segment.{Active, active, Ended, Segment, called, next_by, call_by, RewritesOutermost}
-use Rattle.esm_body.specs.Segment.{Next as nexts}
-use Rattle.esm_body.specs.Segment.{Ended as ended}
-use Rattle.esm_body.specs.Contexts.{surrounded}
-use Rattle.esm_body.proofs.Paths.{outer_calls, outer_stops}
-use Rattle.esm_row_laws.specs.Spots.{Kont, rounds_of, Spot}
+use Rattle.esm_rewriting.specs.Rest.{Rest, fill_rest}
+use Rattle.esm_rewriting.specs.State.{State, Importing, take_steps, new_error, with_error}
+use Rattle.esm_rewriting.specs.Acts.{Performs, over_scopes, modules_of}
+use Rattle.esm_rewriting.specs.BodyRewriting.{On}
+use Rattle.esm_rewriting.specs.Segment.{Active, active, Ended, Segment, called, next_by, call_by, too_deep, RewritesOutermost}
+use Rattle.esm_rewriting.specs.Segment.{Next as nexts}
+use Rattle.esm_rewriting.specs.Segment.{Ended as ended}
+use Rattle.esm_rewriting.specs.Contexts.{surrounded}
+use Rattle.esm_rewriting.proofs.Paths.{outer_calls, outer_stops}
+use Rattle.esm_row_laws.specs.Spots.{Kont, Posts, rounds_of, Spot}
 use Rattle.esm_row_laws.specs.Rooms.{HasRoom}
 use Rattle.esm_row_laws.specs.Remaining.{contexts, passed, under, call_under, plug, rest_of, rest_at}
 use Rattle.esm_row_laws.specs.Operations.{Values}
-use Rattle.esm_row_laws.specs.Landings.{over_names}
+use Rattle.esm_row_laws.specs.Landings.{over_names, ThrowsIn, remains}
 use Rattle.esm_row_laws.specs.Callings.{above, Calling, without, with_last, waiting}
+use Rattle.esm_row_laws.proofs.Filling.{fill_of}
 use Rattle.esm_row_laws.proofs.Plugged as plugged
 
 -- ---- arguments
@@ -71,6 +75,22 @@ less a b h = by (nat_lt a b) refl where
   by : (t : Bool) → nat_lt a b ≡ t → t ≡ true
   by true e = refl
   by false e = absurd (grind (arith, nat_tests))
+
+no_less : (a b : ℕ) → b ≤ a → nat_lt a b ≡ false
+no_less a b h = by (nat_lt a b) refl where
+  by : (t : Bool) → nat_lt a b ≡ t → t ≡ false
+  by true e = absurd (grind (arith, nat_tests))
+  by false e = refl
+
+-- what is no function
+refused_by : (f : Value ℕ) (us : List (Value ℕ)) (ls : LinkTerms (Value ℕ)) (l : Look) → is_func l ≡ false
+    → ◌≡◌ {A = Plan (Value ℕ) Limit (Term (Value ℕ))} (enters (values nat_eq) f us ls l) (faults (values nat_eq) kinds.TypeError (codes "not a function"))
+refused_by f us ls look.Undefined h = refl
+refused_by f us ls (look.Truth b) h = refl
+refused_by f us ls (look.Text t) h = refl
+refused_by f us ls look.Func h = absurd (cc)
+refused_by f us ls look.Error h = refl
+refused_by f us ls look.Other h = refl
 
 -- ---- at a call
 
@@ -123,3 +143,39 @@ module _ {S : Type 0} (modules : S → Modules ℕ) (begins : Importing ℕ S) (
       subst (λ r. Segment nat_eq modules begins w m r callers (ended.Stopped why) late) (sym (at_call us s operands at))
       (Segment.over (On (Stops why)) (outer_stops nat_eq modules begins m (contexts (values nat_eq) (rounds_of k) vss) w (plug (values nat_eq) k vs (with_args us)) why (over_names modules begins (rounds_of k) vss late) refl
       (plugged.stops nat_eq modules begins m k vs why (over_names modules begins (rounds_of k) vss w) (over_names modules begins (rounds_of k) vss late) (with_args us) room (call_of (are_values us) (stops_plan w late us why e)))) refl)
+
+  -- ---- calls that fail
+
+  -- one function too many
+  deep_next : (late : State ℕ S) (us : List (Value ℕ)) (callers : List (Active ℕ)) (r : Rest (Value ℕ)) → MAX_CALL_DEPTH ≤ length callers → next_by nat_eq modules begins m callers (On (Calls f us r)) late ≡ Some (nexts.Goes m (fill_rest (Fails (new_error late)) r) callers (too_deep nat_eq modules begins late))
+  deep_next late us callers r many = λ i. call_by nat_eq modules begins (no_less (length callers) MAX_CALL_DEPTH many i) m r callers late (called (modules_of modules late) f us)
+
+  deep_at : (w late : State ℕ S) (us : List (Value ℕ)) (callers : List (Active ℕ)) (how : Ended ℕ) (after : State ℕ S) → HasRoom k vs → look_of f ≡ look.Func → take_steps w 1 ≡ (Ok tt, late) → MAX_CALL_DEPTH ≤ length callers
+      → Segment nat_eq modules begins (with_error late (fault kinds.RangeError (codes "call depth"))) m (rest_of (values nat_eq) (Posts ls k) vss vs (Fails (new_error late))) callers how after → Segment nat_eq modules begins w m (Whole (with_args us)) callers how after
+  deep_at w late us callers how after room h e many seg =
+      Segment.goes (On (Calls f us (waiting modules begins ls k vss vs))) (whole_calls w late us room h e) (deep_next late us callers (waiting modules begins ls k vss vs) many)
+      (subst (λ r. Segment nat_eq modules begins (with_error late (fault kinds.RangeError (codes "call depth"))) m r callers how after) (sym (fill_of (Fails (new_error late)) (Posts ls k) vss vs Waits)) seg)
+
+  pub deep : (us : List (Value ℕ)) (s : Spot) (operands : List (Value ℕ)) (w late : State ℕ S) (callers : List (Active ℕ)) (how : Ended ℕ) (after : State ℕ S) → HasRoom k vs → Calling ls k f vs us s operands → look_of f ≡ look.Func → take_steps w 1 ≡ (Ok tt, late) → MAX_CALL_DEPTH ≤ length callers
+      → Segment nat_eq modules begins (with_error late (fault kinds.RangeError (codes "call depth"))) m (rest_of (values nat_eq) (Posts ls k) vss vs (Fails (new_error late))) callers how after → Segment nat_eq modules begins w m (rest_at (values nat_eq) s vss operands) callers how after
+  deep us s operands w late callers how after room at h e many seg =
+      subst (λ r. Segment nat_eq modules begins w m r callers how after) (sym (at_call us s operands at)) (deep_at w late us callers how after room h e many seg)
+
+  -- no function
+  fault_plan : (late : State ℕ S) → Follows (Performs nat_eq modules begins m) (over_names modules begins (rounds_of k) vss late) (faults {A = Term (Value ℕ)} (values nat_eq) kinds.TypeError (codes "not a function")) (Leaves (new_error late))
+      (over_names modules begins (rounds_of k) vss (with_error late (fault kinds.TypeError (codes "not a function"))))
+  fault_plan late = follows.asks (new_error late) refl follows.ends
+
+  refused_plan : (w late : State ℕ S) (us : List (Value ℕ)) → is_func (look_of f) ≡ false → take_steps w 1 ≡ (Ok tt, late) → Planned w us (Leaves (new_error late)) (with_error late (fault kinds.TypeError (codes "not a function")))
+  refused_plan w late us h e =
+      follows.asks tt (performs w late (Ok tt) e)
+      (subst (λ (p : Plan (Value ℕ) Limit (Term (Value ℕ))). Follows (Performs nat_eq modules begins m) (over_names modules begins (rounds_of k) vss late) p (Leaves (new_error late)) (over_names modules begins (rounds_of k) vss (with_error late (fault kinds.TypeError (codes "not a function")))))
+      (sym (refused_by f us (links (values nat_eq) ls) (look_of f) h)) (fault_plan late))
+
+  pub refuses : (us : List (Value ℕ)) (s : Spot) (operands : List (Value ℕ)) (w late : State ℕ S) → HasRoom k vs → Calling ls k f vs us s operands → is_func (look_of f) ≡ false → take_steps w 1 ≡ (Ok tt, late)
+      → (r : Rest (Value ℕ)) × (rest_at (values nat_eq) s vss operands ≡ remains modules begins (rounds_of k) vss r) × ThrowsIn modules begins m (rounds_of k) vss w r (new_error late) (with_error late (fault kinds.TypeError (codes "not a function")))
+  refuses us s operands w late room at h e = (
+    plug (values nat_eq) k vs (with_args us),
+    at_call us s operands at,
+    plugged.leaves nat_eq modules begins m k vs (new_error late) (over_names modules begins (rounds_of k) vss w) (over_names modules begins (rounds_of k) vss (with_error late (fault kinds.TypeError (codes "not a function")))) (with_args us) room (call_of (are_values us) (refused_plan w late us h e)),
+  )

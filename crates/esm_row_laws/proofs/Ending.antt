@@ -1,5 +1,5 @@
 -- A row ends with the row behind it, so a jump leads into the same row.
-use Rattle.std.proofs.Common.{◌≡◌, ℕ, List, [], ◌∷◌, ◌++◌, length, Option, Some, None, refl, ap, sym, ◌∙◌}
+use Rattle.std.proofs.Common.{◌≡◌, ℕ, List, [], ◌∷◌, ◌++◌, length, Option, Some, None, refl, ap, ◌∙◌}
 use Rattle.esm_tree.specs.Syntax as x
 use Rattle.esm_tree.specs.Syntax.{Expr, Exprs, none, more, Compared, last, compared, Links, ends, member, call, Init, absent, plain, awaited, Bindings, no_more, binding, Stmt, Stmts, nothing, first}
 use Rattle.esm_base.specs.DefaultExport.{star_default}

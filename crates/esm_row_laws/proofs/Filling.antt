@@ -1,5 +1,5 @@
 -- What stands for the call of a caller stands there alone: what else remains of it holds no call.
-use Rattle.std.proofs.Common.{◌≡◌, ℕ, zero, suc, nat_eq, List, [], ◌∷◌, Option, Some, None, refl, ap, ◌∙◌}
+use Rattle.std.proofs.Common.{◌≡◌, ℕ, zero, suc, nat_eq, List, [], ◌∷◌, refl, ap, ◌∙◌}
 use Rattle.esm_tree.specs.Syntax as ast
 use Rattle.esm_tree.specs.Syntax.{Init, absent, plain, awaited, Bindings, no_more, binding, Stmts, nothing, first, Links}
 use Rattle.esm_values.specs.Value.{Value}
@@ -9,11 +9,11 @@ use Rattle.esm_expr_eval.specs.Terms.Term.{Val, Or, And, Equal, Sum, Not, Post, 
 use Rattle.esm_expr_eval.specs.Terms.Terms.{more as further}
 use Rattle.esm_expr_eval.specs.Terms.Compared.{compared}
 use Rattle.esm_expr_eval.specs.Terms.LinkTerms.{member, call}
-use Rattle.esm_body.specs.Rest.{Use as Purpose}
-use Rattle.esm_body.specs.Rest.{Rest, end, more, whole, does_init, does_bindings, fill_part, fill_rest}
-use Rattle.esm_body.specs.Rest.{Part as parts}
-use Rattle.esm_body.specs.Rest.{Use as purposes}
-use Rattle.esm_body.specs.Contexts.{surrounded}
+use Rattle.esm_rewriting.specs.Rest.{Use as Purpose}
+use Rattle.esm_rewriting.specs.Rest.{Rest, end, more, whole, does_init, does_bindings, fill_part, fill_rest}
+use Rattle.esm_rewriting.specs.Rest.{Part as parts}
+use Rattle.esm_rewriting.specs.Rest.{Use as purposes}
+use Rattle.esm_rewriting.specs.Contexts.{surrounded}
 use Rattle.esm_row_laws.specs.Spots.{Left, Round, Own, Inner, First, Tried, Kont, Uses, Ors, Ands, Equals, Compares, Sums, Adds, Turns, Posts, Passes, Prints, Makes, Imports, rounds_of}
 use Rattle.esm_row_laws.specs.Remaining.{left_rest, scope_by, contexts, under, call_under, print_under, plug, rest_of}
 use Rattle.esm_row_laws.specs.Operations.{Values}

@@ -1,5 +1,5 @@
 -- Where a throw leads in a function, and what a handler and the ends of a function come to.
-use Rattle.std.proofs.Common.{◌≡◌, ℕ, nat_eq, false, List, [], ◌∷◌, ◌++◌, map, Option, Some, None, refl, ap, subst, sym, ◌∙◌}
+use Rattle.std.proofs.Common.{◌≡◌, ℕ, nat_eq, false, List, [], ◌∷◌, ◌++◌, map, Option, Some, None, refl, ap, subst, ◌∙◌}
 use Rattle.esm_base.specs.declared.limits.Limit.{Limit}
 use Rattle.esm_tree.specs.Syntax.{no_more, Stmts, nothing}
 use Rattle.esm_env.specs.Declarations.{Declaration, declared_in}
@@ -8,17 +8,17 @@ use Rattle.esm_values.specs.Value.{Value, Undefined}
 use Rattle.esm_values.specs.Operators.{values}
 use Rattle.esm_values.specs.Plans.Rewritten.{Goes, Leaves}
 use Rattle.esm_expr_eval.specs.Terms.Term.{Val, Fails}
-use Rattle.esm_body.specs.Scopes.{Scope, named_cell, unset, caught_name, handler_scope}
-use Rattle.esm_body.specs.Rest.{Use as purposes}
-use Rattle.esm_body.specs.Rest.{Rest, end, whole, fill_rest}
-use Rattle.esm_body.specs.Rest.{Rest as rests}
-use Rattle.esm_body.specs.Rest.{Part as parts}
-use Rattle.esm_body.specs.State.{State, Importing}
-use Rattle.esm_body.specs.BodyRewriting.{RewrittenBody, On, Gives}
-use Rattle.esm_body.specs.BodyRewriting.{RewritesBody as rule}
-use Rattle.esm_body.specs.Segment.{Active, Ended, Segment, RewritesOutermost}
-use Rattle.esm_body.specs.Contexts.{Context, scopes_in, surrounded, retaken}
-use Rattle.esm_body.proofs.Paths.{same_scopes, thrown_in, outer_throws, outer_gives}
+use Rattle.esm_rewriting.specs.Scopes.{Scope, named_cell, unset, caught_name, handler_scope}
+use Rattle.esm_rewriting.specs.Rest.{Use as purposes}
+use Rattle.esm_rewriting.specs.Rest.{Rest, end, whole, fill_rest}
+use Rattle.esm_rewriting.specs.Rest.{Rest as rests}
+use Rattle.esm_rewriting.specs.Rest.{Part as parts}
+use Rattle.esm_rewriting.specs.State.{State, Importing}
+use Rattle.esm_rewriting.specs.BodyRewriting.{RewrittenBody, On, Gives}
+use Rattle.esm_rewriting.specs.BodyRewriting.{RewritesBody as rule}
+use Rattle.esm_rewriting.specs.Segment.{Active, Ended, Segment, RewritesOutermost}
+use Rattle.esm_rewriting.specs.Contexts.{Context, scopes_in, surrounded, retaken}
+use Rattle.esm_rewriting.proofs.Paths.{same_scopes, thrown_in, outer_throws, outer_gives}
 use Rattle.esm_rows.specs.Rows.{caught_names}
 use Rattle.esm_row_laws.specs.Spots.{Left, left, Round, Own, Inner, First, Tried, Uses, Has, Between, Handles}
 use Rattle.esm_row_laws.specs.Remaining.{left_rest, scope_by, contexts, rest_at}

@@ -9,4 +9,5 @@ pub mod Filling
 pub mod Calling
 pub mod Moves
 pub mod SettingNames
+pub mod Assigning
 pub mod Ending

@@ -1,6 +1,6 @@
 -- What a rewriting of a part comes to, where it asks the world, and what the names of a function read as.
-use Rattle.std.proofs.Common.{◌≡◌, ℕ, nat_eq, Bool, List, [], ◌∷◌, Option, Some, None, refl, ap, subst, sym, ◌∙◌}
-use Rattle.std.specs.Prelude.{slice_get, Result, Ok}
+use Rattle.std.proofs.Common.{◌≡◌, ℕ, nat_eq, Bool, List, Option, Some, None, refl, ap, subst, sym, ◌∙◌}
+use Rattle.std.specs.Prelude.{slice_get}
 use Rattle.esm_base.specs.declared.limits.Limit.{Limit}
 use Rattle.esm_env.specs.Cells.{Cell, Reading}
 use Rattle.esm_env.specs.Cells.{Reading as reading}
@@ -16,14 +16,14 @@ use Rattle.esm_values.specs.declared.errors.FaultKind.TheVariants as kinds
 use Rattle.esm_expr_eval.specs.Terms.{Term}
 use Rattle.esm_expr_eval.specs.Terms.Term.{Val, Name}
 use Rattle.esm_expr_eval.specs.Rewriting.Rewrites.{name as name_rule}
-use Rattle.esm_body.specs.Scopes.{in_scopes}
-use Rattle.esm_body.specs.State.{State, Importing, new_error, with_error}
-use Rattle.esm_body.specs.Acts.{Inner as OverScopes, ReadsBy, ReadsName, modules_of, not_initialized, not_defined}
-use Rattle.esm_body.specs.BodyRewriting.{On}
-use Rattle.esm_body.specs.Segment.{Active, Segment}
-use Rattle.esm_body.specs.Segment.{Ended as ended}
-use Rattle.esm_body.specs.Contexts.{scopes_in}
-use Rattle.esm_body.proofs.Paths.{outer_goes, outer_stops}
+use Rattle.esm_rewriting.specs.Scopes.{in_scopes}
+use Rattle.esm_rewriting.specs.State.{State, Importing, new_error, with_error}
+use Rattle.esm_rewriting.specs.Acts.{Inner as OverScopes, ReadsBy, ReadsName, modules_of, not_initialized, not_defined}
+use Rattle.esm_rewriting.specs.BodyRewriting.{On}
+use Rattle.esm_rewriting.specs.Segment.{Active, Segment}
+use Rattle.esm_rewriting.specs.Segment.{Ended as ended}
+use Rattle.esm_rewriting.specs.Contexts.{scopes_in}
+use Rattle.esm_rewriting.proofs.Paths.{outer_goes, outer_stops}
 use Rattle.esm_rows.specs.Rows.{found_at, found_in}
 use Rattle.esm_row_laws.specs.Spots.{Kont, rounds_of, kont_names}
 use Rattle.esm_row_laws.specs.Rooms.{HasRoom}

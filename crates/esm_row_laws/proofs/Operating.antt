@@ -1,7 +1,6 @@
 -- What operations do with what remains, where they ask nothing of the world.
-use Rattle.std.proofs.Common.{◌≡◌, ℕ, nat_eq, Bool, true, false, List, [], ◌∷◌, map, Option, None, refl, ap, subst, sym}
+use Rattle.std.proofs.Common.{◌≡◌, ℕ, nat_eq, Bool, true, false, List, [], ◌∷◌, map, Option, refl, ap, subst, sym}
 use Rattle.std.specs.Prelude.{if◌then◌else◌, not}
-use Rattle.esm_tree.specs.Syntax as x
 use Rattle.esm_tree.specs.Syntax.{Expr, Exprs, more, Compared, no_more, Stmts, nothing}
 use Rattle.esm_env.specs.Declarations.{Declaration, declared_in}
 use Rattle.esm_env.specs.Modules.{Modules}
@@ -13,18 +12,18 @@ use Rattle.esm_expr_eval.specs.Terms.{Term, term, terms, compared_terms}
 use Rattle.esm_expr_eval.specs.Terms.Term.{Val, Or, And, Equal}
 use Rattle.esm_expr_eval.specs.Terms.Terms.{more as further}
 use Rattle.esm_expr_eval.specs.Rewriting.Rewrites.{or, and, equal, not_of}
-use Rattle.esm_body.specs.Scopes.{Scope, unset}
-use Rattle.esm_body.specs.Rest.{Rest, end, block, branch, whole}
-use Rattle.esm_body.specs.Rest.{Use as purposes}
-use Rattle.esm_body.specs.Rest.{Rest as rests}
-use Rattle.esm_body.specs.Rest.{Part as parts}
-use Rattle.esm_body.specs.State.{State, Importing}
-use Rattle.esm_body.specs.Acts.{Inner as OverScopes}
-use Rattle.esm_body.specs.BodyRewriting.{On, RewritesBody, RewritesTerm}
-use Rattle.esm_body.specs.BodyRewriting.{RewritesBody as rule}
-use Rattle.esm_body.specs.Segment.{Segment}
-use Rattle.esm_body.specs.Contexts.{scopes_in, surrounded}
-use Rattle.esm_body.proofs.Paths.{outer_goes}
+use Rattle.esm_rewriting.specs.Scopes.{Scope, unset}
+use Rattle.esm_rewriting.specs.Rest.{Rest, end, branch, whole}
+use Rattle.esm_rewriting.specs.Rest.{Use as purposes}
+use Rattle.esm_rewriting.specs.Rest.{Rest as rests}
+use Rattle.esm_rewriting.specs.Rest.{Part as parts}
+use Rattle.esm_rewriting.specs.State.{State, Importing}
+use Rattle.esm_rewriting.specs.Acts.{Inner as OverScopes}
+use Rattle.esm_rewriting.specs.BodyRewriting.{On, RewritesBody, RewritesTerm}
+use Rattle.esm_rewriting.specs.BodyRewriting.{RewritesBody as rule}
+use Rattle.esm_rewriting.specs.Segment.{Segment}
+use Rattle.esm_rewriting.specs.Contexts.{scopes_in, surrounded}
+use Rattle.esm_rewriting.proofs.Paths.{outer_goes}
 use Rattle.esm_row_laws.specs.Spots.{Left, left, Round, Inner, First, Tried, Kont, Uses, Ors, Ands, Compares, Turns, rounds_of, Opening, Plainly, Firstly, Trying, opened, Spot, Begins, Has, Between, Opens}
 use Rattle.esm_row_laws.specs.Rooms.{HasRoom}
 use Rattle.esm_row_laws.specs.Remaining.{left_rest, scope_by, contexts, plug, rest_of, rest_at}

@@ -6,8 +6,8 @@ use Rattle.std.specs.Str.{bytes_eq}
 use Rattle.esm_env.specs.Cells.{Cell}
 use Rattle.esm_env.specs.Declarations.{Declaration}
 use Rattle.esm_values.specs.Operators.{Values}
-use Rattle.esm_body.specs.Scopes.{Scope, in_scope, in_scopes, cell_by}
-use Rattle.esm_body.specs.Contexts.{scope_in, scopes_in}
+use Rattle.esm_rewriting.specs.Scopes.{Scope, in_scope, in_scopes, cell_by}
+use Rattle.esm_rewriting.specs.Contexts.{scope_in, scopes_in}
 use Rattle.esm_rows.specs.Rows.{Names, many_names, Found, found_at, found_among, found_in}
 use Rattle.esm_row_laws.specs.Spots.{Round, Own, Inner, First, Tried, round_names, names_of}
 use Rattle.esm_row_laws.specs.Remaining.{scope_by, context, contexts}

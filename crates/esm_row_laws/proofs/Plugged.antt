@@ -1,5 +1,5 @@
 -- A rewriting of a part is one of what it stands in.
-use Rattle.std.proofs.Common.{◌≡◌, ℕ, zero, suc, Bool, List, [], ◌∷◌}
+use Rattle.std.proofs.Common.{ℕ, zero, suc, Bool, List, [], ◌∷◌}
 use Rattle.esm_base.specs.declared.limits.Limit.{Limit}
 use Rattle.esm_tree.specs.Syntax.{Links}
 use Rattle.esm_values.specs.Value.{Value}
@@ -14,11 +14,11 @@ use Rattle.esm_expr_eval.specs.Terms.LinkTerms.{call}
 use Rattle.esm_expr_eval.specs.Rewriting.{RewritesIn}
 use Rattle.esm_expr_eval.specs.Rewriting.Rewrites.{or_in, and_in, equal_in, equal_right, sum_in, sum_right, not_in, post_in, arguments, print_in, error_in, import_in}
 use Rattle.esm_expr_eval.specs.Rewriting.RewritesIn.{first, later}
-use Rattle.esm_body.specs.Rest.{Rest}
-use Rattle.esm_body.specs.State.{Importing}
-use Rattle.esm_body.specs.Acts.{Inner, Performs}
-use Rattle.esm_body.specs.BodyRewriting.{RewrittenBody, On, RewritesBody, RewritesTerm, own_url}
-use Rattle.esm_body.specs.BodyRewriting.RewritesBody.{does}
+use Rattle.esm_rewriting.specs.Rest.{Rest}
+use Rattle.esm_rewriting.specs.State.{Importing}
+use Rattle.esm_rewriting.specs.Acts.{Inner, Performs}
+use Rattle.esm_rewriting.specs.BodyRewriting.{RewrittenBody, On, RewritesBody, RewritesTerm, own_url}
+use Rattle.esm_rewriting.specs.BodyRewriting.RewritesBody.{does}
 use Rattle.esm_row_laws.specs.Spots.{Kont, Uses, Ors, Ands, Equals, Compares, Sums, Adds, Turns, Posts, Passes, Prints, Makes, Imports}
 use Rattle.esm_row_laws.specs.Rooms.{OneMore, SoMany, HasRoom}
 use Rattle.esm_row_laws.specs.Remaining.{plug, under, call_under, print_under}

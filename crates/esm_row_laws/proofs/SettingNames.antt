@@ -11,18 +11,18 @@ use Rattle.esm_values.specs.Operators.{values}
 use Rattle.esm_values.specs.declared.errors.FaultKind.TheVariants as kinds
 use Rattle.esm_values.specs.Plans.Rewritten.{Goes}
 use Rattle.esm_expr_eval.specs.Terms.Term.{Val}
-use Rattle.esm_body.specs.Scopes.{Scope, named_cell, in_scope, set_in, set_where, set_in_scopes}
-use Rattle.esm_body.specs.Scopes.{set_by as scope_set_by}
-use Rattle.esm_body.specs.Rest.{Use as purposes}
-use Rattle.esm_body.specs.Rest.{Rest, more}
-use Rattle.esm_body.specs.Rest.Part.{Does}
-use Rattle.esm_body.specs.State.{State, Importing}
-use Rattle.esm_body.specs.Acts.{Inner as OverScopes, write_in, not_initialized, is_constant}
-use Rattle.esm_body.specs.BodyRewriting.{On, RewritesBody, wrote}
-use Rattle.esm_body.specs.BodyRewriting.{RewritesBody as rule}
-use Rattle.esm_body.specs.Segment.{Segment}
-use Rattle.esm_body.specs.Contexts.{scope_in, scopes_in, surrounded, rescoped, retaken}
-use Rattle.esm_body.proofs.Moved as moved
+use Rattle.esm_rewriting.specs.Scopes.{Scope, named_cell, in_scope, set_in, set_where, set_in_scopes}
+use Rattle.esm_rewriting.specs.Scopes.{set_by as scope_set_by}
+use Rattle.esm_rewriting.specs.Rest.{Use as purposes}
+use Rattle.esm_rewriting.specs.Rest.{Rest, more}
+use Rattle.esm_rewriting.specs.Rest.Part.{Does}
+use Rattle.esm_rewriting.specs.State.{State, Importing}
+use Rattle.esm_rewriting.specs.Acts.{Inner as OverScopes, write_in, not_initialized, is_constant}
+use Rattle.esm_rewriting.specs.BodyRewriting.{On, RewritesBody, wrote}
+use Rattle.esm_rewriting.specs.BodyRewriting.{RewritesBody as rule}
+use Rattle.esm_rewriting.specs.Segment.{Segment}
+use Rattle.esm_rewriting.specs.Contexts.{scope_in, scopes_in, surrounded, rescoped, retaken}
+use Rattle.esm_rewriting.proofs.Moved as moved
 use Rattle.esm_rows.specs.Rows.{many_names, Found, found_at, found_among, found_in, found_here}
 use Rattle.esm_row_laws.specs.Spots.{Left, Round, Own, Inner, First, Tried, round_names, names_of}
 use Rattle.esm_row_laws.specs.Remaining.{left_rest, scope_by, context, contexts}

@@ -1,5 +1,5 @@
 -- A place that is brought to the one whose first operation is its own has the same row, and what remains there leads there.
-use Rattle.std.proofs.Common.{◌≡◌, ℕ, zero, suc, Bool, List, [], ◌∷◌, Option, refl, sym, subst}
+use Rattle.std.proofs.Common.{◌≡◌, zero, suc, Bool, List, [], ◌∷◌, Option, refl}
 use Rattle.esm_tree.specs.Syntax as x
 use Rattle.esm_tree.specs.Syntax.{Expr, none, more, last, compared, ends, member, call, absent, plain, awaited, Bindings, no_more, binding, Stmts}
 use Rattle.esm_values.specs.Value.{Value}
@@ -12,14 +12,14 @@ use Rattle.esm_expr_eval.specs.Terms.Terms.{none as nothing_more}
 use Rattle.esm_expr_eval.specs.Terms.Compared.{last as no_comparison}
 use Rattle.esm_expr_eval.specs.Terms.LinkTerms.{ends as no_links}
 use Rattle.esm_expr_eval.specs.Rewriting.Rewrites.{or, and, equal_end, sum_end, post_end}
-use Rattle.esm_body.specs.Rest.{Rest}
-use Rattle.esm_body.specs.Rest.{Use as purposes}
-use Rattle.esm_body.specs.State.{State, Importing}
-use Rattle.esm_body.specs.Acts.{Inner}
-use Rattle.esm_body.specs.BodyRewriting.{On, RewritesTerm}
-use Rattle.esm_body.specs.Segment.{Segment}
-use Rattle.esm_body.specs.Contexts.{scopes_in}
-use Rattle.esm_body.proofs.Paths.{outer_goes}
+use Rattle.esm_rewriting.specs.Rest.{Rest}
+use Rattle.esm_rewriting.specs.Rest.{Use as purposes}
+use Rattle.esm_rewriting.specs.State.{State, Importing}
+use Rattle.esm_rewriting.specs.Acts.{Inner}
+use Rattle.esm_rewriting.specs.BodyRewriting.{On, RewritesTerm}
+use Rattle.esm_rewriting.specs.Segment.{Segment}
+use Rattle.esm_rewriting.specs.Contexts.{scopes_in}
+use Rattle.esm_rewriting.proofs.Paths.{outer_goes}
 use Rattle.esm_rows.specs.Rows.{Row}
 use Rattle.esm_row_laws.specs.Spots.{left, Round, Kont, Uses, Ors, Ands, Equals, Compares, Sums, Adds, Turns, Posts, Passes, Prints, Makes, Imports, rounds_of, Spot, Begins, Has, Between, Opens, Handles, spot_row}
 use Rattle.esm_row_laws.specs.Rooms.{HasRoom, SpotHasRoom}

@@ -2,8 +2,8 @@
 use Rattle.std.proofs.Common.{◌≡◌, ℕ, zero, suc, List, [], ◌∷◌, Option, Some, None, refl, subst, ap, sym, ◌∙◌}
 use Rattle.esm_tree.specs.Syntax as x
 use Rattle.esm_tree.specs.Syntax.{Expr, none, more, ends, member, call, Bindings, no_more, binding, Stmts, nothing, first}
-use Rattle.esm_body.specs.Rest.{Use as Purpose}
-use Rattle.esm_body.specs.Rest.{Use as purposes}
+use Rattle.esm_rewriting.specs.Rest.{Use as Purpose}
+use Rattle.esm_rewriting.specs.Rest.{Use as purposes}
 use Rattle.esm_rows.specs.Rows.{Row, Found, found_in, found_here, read_by, write_by, set_by}
 use Rattle.esm_rows.specs.Rows.{Operation as o}
 use Rattle.esm_row_laws.specs.Spots.{Left, left, Round, Own, Inner, First, Tried, names_of, Kont, Uses, Ors, Ands, Equals, Compares, Sums, Adds, Turns, Posts, Passes, Prints, Makes, Imports, kont_names, Opening, Plainly, Firstly, Trying, Spot, Begins, Has, Between, Opens, Handles, left_row, kont_row, spot_row}

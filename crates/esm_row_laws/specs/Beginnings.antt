@@ -1,18 +1,18 @@
 -- Where a statement leads behind its step, and what its step comes to.
-use Rattle.std.specs.Prelude.{◌≡◌, ℕ, nat_eq, List, [], ◌∷◌, Option, Some, None, Result, Ok, Err}
+use Rattle.std.specs.Prelude.{◌≡◌, ℕ, nat_eq, List, [], Some, None, Ok, Err}
 use Rattle.esm_base.specs.declared.limits.Limit.{Limit}
 use Rattle.esm_base.specs.DefaultExport.{star_default}
 use Rattle.esm_tree.specs.Syntax as x
 use Rattle.esm_tree.specs.Syntax.{Init, absent, plain, awaited, no_more, Stmt, Stmts, nothing, first}
 use Rattle.esm_env.specs.Modules.{Modules}
 use Rattle.esm_values.specs.Operators.{values}
-use Rattle.esm_body.specs.Rest.{Use as Purpose}
-use Rattle.esm_body.specs.Rest.{Use as purposes}
-use Rattle.esm_body.specs.Rest.{begin}
-use Rattle.esm_body.specs.State.{State, Importing, take_steps}
-use Rattle.esm_body.specs.Segment.{Active, Segment}
-use Rattle.esm_body.specs.Segment.{Ended as ended}
-use Rattle.esm_body.specs.Contexts.{surrounded}
+use Rattle.esm_rewriting.specs.Rest.{Use as Purpose}
+use Rattle.esm_rewriting.specs.Rest.{Use as purposes}
+use Rattle.esm_rewriting.specs.Rest.{begin}
+use Rattle.esm_rewriting.specs.State.{State, Importing, take_steps}
+use Rattle.esm_rewriting.specs.Segment.{Active, Segment}
+use Rattle.esm_rewriting.specs.Segment.{Ended as ended}
+use Rattle.esm_rewriting.specs.Contexts.{surrounded}
 use Rattle.esm_rows.specs.Rows.{stmt_row}
 use Rattle.esm_row_laws.specs.Spots.{Left, left, Round, names_of, Uses, Plainly, Trying, Spot, Begins, Between, Opens, left_row, spot_row}
 use Rattle.esm_row_laws.specs.Remaining.{left_rest, contexts, rest_at}

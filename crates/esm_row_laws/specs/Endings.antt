@@ -1,5 +1,5 @@
 -- A row ends with the row behind it, so a jump leads into the same row.
-use Rattle.std.specs.Prelude.{◌≡◌, ℕ, List, [], ◌∷◌, ◌++◌, Option}
+use Rattle.std.specs.Prelude.{◌≡◌, ℕ, List, ◌∷◌, ◌++◌, Option}
 use Rattle.esm_tree.specs.Syntax.{Expr, Exprs, no_more, Stmt, Stmts, Bindings}
 use Rattle.esm_env.specs.Declarations.{Declaration, declared_in}
 use Rattle.esm_rows.specs.Rows.{Row, Names, expr_row, bindings_row, stmt_row, stmts_row, block_row}

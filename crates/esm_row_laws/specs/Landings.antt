@@ -7,13 +7,13 @@ use Rattle.esm_values.specs.Value.{Value, Undefined}
 use Rattle.esm_values.specs.Operators.{values}
 use Rattle.esm_values.specs.Plans.Rewritten.{Leaves}
 use Rattle.esm_expr_eval.specs.Terms.Term.{Val, Fails}
-use Rattle.esm_body.specs.Rest.{Use as purposes}
-use Rattle.esm_body.specs.Rest.{Rest, fill_rest}
-use Rattle.esm_body.specs.State.{State, Importing}
-use Rattle.esm_body.specs.Acts.{Inner as OverScopes}
-use Rattle.esm_body.specs.BodyRewriting.{On, RewritesBody}
-use Rattle.esm_body.specs.Segment.{Active, Ended, Segment}
-use Rattle.esm_body.specs.Contexts.{scopes_in, surrounded}
+use Rattle.esm_rewriting.specs.Rest.{Use as purposes}
+use Rattle.esm_rewriting.specs.Rest.{Rest, fill_rest}
+use Rattle.esm_rewriting.specs.State.{State, Importing}
+use Rattle.esm_rewriting.specs.Acts.{Inner as OverScopes}
+use Rattle.esm_rewriting.specs.BodyRewriting.{On, RewritesBody}
+use Rattle.esm_rewriting.specs.Segment.{Active, Ended, Segment}
+use Rattle.esm_rewriting.specs.Contexts.{scopes_in, surrounded}
 use Rattle.esm_rows.specs.Rows.{caught_names}
 use Rattle.esm_row_laws.specs.Spots.{Left, left, Round, Own, Inner, First, Tried, Uses, Has, Between, Handles}
 use Rattle.esm_row_laws.specs.Remaining.{contexts, rest_at}

@@ -7,9 +7,9 @@ use Rattle.esm_values.specs.Plans.{Rewritten}
 use Rattle.esm_values.specs.Plans.Rewritten.{Goes, Leaves, Calls, Stops}
 use Rattle.esm_env.specs.Modules.{Modules}
 use Rattle.esm_expr_eval.specs.Terms.{Term}
-use Rattle.esm_body.specs.State.{State, Importing}
-use Rattle.esm_body.specs.Acts.{Inner}
-use Rattle.esm_body.specs.BodyRewriting.{RewrittenBody, On, RewritesBody, RewritesTerm}
+use Rattle.esm_rewriting.specs.State.{State, Importing}
+use Rattle.esm_rewriting.specs.Acts.{Inner}
+use Rattle.esm_rewriting.specs.BodyRewriting.{RewrittenBody, On, RewritesBody, RewritesTerm}
 use Rattle.esm_row_laws.specs.Spots.{Kont, Spot, spot_row}
 use Rattle.esm_row_laws.specs.Rooms.{HasRoom, SpotHasRoom}
 use Rattle.esm_row_laws.specs.Remaining.{plug, rest_at}

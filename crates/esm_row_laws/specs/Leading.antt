@@ -2,9 +2,9 @@
 use Rattle.std.specs.Prelude.{Bool, List}
 use Rattle.esm_values.specs.Value.{Value}
 use Rattle.esm_env.specs.Modules.{Modules}
-use Rattle.esm_body.specs.Rest.{Rest}
-use Rattle.esm_body.specs.State.{State, Importing}
-use Rattle.esm_body.specs.Segment.{Active, Ended, Segment}
+use Rattle.esm_rewriting.specs.Rest.{Rest}
+use Rattle.esm_rewriting.specs.State.{State, Importing}
+use Rattle.esm_rewriting.specs.Segment.{Active, Ended, Segment}
 
 module _ {N I : Type 0} (same : N → N → Bool) (modules : I → Modules N) (begins : Importing N I) (m : N) where
   -- in the same function or body, with the same callers

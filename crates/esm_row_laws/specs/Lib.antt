@@ -12,4 +12,5 @@ pub mod Landings
 pub mod Callings
 pub mod Moving
 pub mod Setting
+pub mod Writing
 pub mod Endings

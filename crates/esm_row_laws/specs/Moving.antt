@@ -14,11 +14,11 @@ use Rattle.esm_values.specs.Errors.{fault}
 use Rattle.esm_values.specs.declared.errors.FaultKind.TheVariants as kinds
 use Rattle.esm_expr_eval.specs.Terms.{Term}
 use Rattle.esm_expr_eval.specs.Terms.Term.{Name}
-use Rattle.esm_body.specs.State.{State, Importing, new_error, with_error}
-use Rattle.esm_body.specs.Acts.{modules_of, not_initialized, not_defined}
-use Rattle.esm_body.specs.BodyRewriting.{RewritesTerm}
-use Rattle.esm_body.specs.Segment.{Active, Segment}
-use Rattle.esm_body.specs.Segment.{Ended as ended}
+use Rattle.esm_rewriting.specs.State.{State, Importing, new_error, with_error}
+use Rattle.esm_rewriting.specs.Acts.{modules_of, not_initialized, not_defined}
+use Rattle.esm_rewriting.specs.BodyRewriting.{RewritesTerm}
+use Rattle.esm_rewriting.specs.Segment.{Active, Segment}
+use Rattle.esm_rewriting.specs.Segment.{Ended as ended}
 use Rattle.esm_rows.specs.Rows.{found_at, found_in}
 use Rattle.esm_row_laws.specs.Spots.{Kont, rounds_of, kont_names, Begins, Has}
 use Rattle.esm_row_laws.specs.Rooms.{HasRoom}

@@ -1,5 +1,5 @@
 -- What operations do with what remains, where they ask nothing of the world.
-use Rattle.std.specs.Prelude.{◌≡◌, ℕ, nat_eq, Bool, true, false, not, List, [], ◌∷◌, ◌++◌, length, replicate, Option, Some, None}
+use Rattle.std.specs.Prelude.{◌≡◌, ℕ, nat_eq, Bool, true, false, not, List, [], ◌∷◌, Option, None}
 use Rattle.esm_tree.specs.Syntax as x
 use Rattle.esm_tree.specs.Syntax.{Expr, Exprs, more, Compared, no_more, Stmts, nothing}
 use Rattle.esm_env.specs.Declarations.{Declaration, declared_in}
@@ -7,8 +7,8 @@ use Rattle.esm_env.specs.Modules.{Modules}
 use Rattle.esm_values.specs.Value.{Value, same_value}
 use Rattle.esm_values.specs.Value as value
 use Rattle.esm_values.specs.Operators.{values, look_of, is_true, compare}
-use Rattle.esm_body.specs.Rest.{Use as purposes}
-use Rattle.esm_body.specs.State.{State, Importing}
+use Rattle.esm_rewriting.specs.Rest.{Use as purposes}
+use Rattle.esm_rewriting.specs.State.{State, Importing}
 use Rattle.esm_row_laws.specs.Spots.{Left, left, Round, Inner, First, Tried, Kont, Uses, Ors, Ands, Equals, Compares, Turns, Opening, Plainly, Firstly, opened, Spot, Begins, Has, Between, Opens}
 use Rattle.esm_row_laws.specs.Rooms.{HasRoom}
 use Rattle.esm_row_laws.specs.Remaining.{rest_at}

@@ -2,8 +2,8 @@
 use Rattle.std.specs.Prelude.{◌≡◌, ℕ, Bool, List, [], ◌∷◌, ◌++◌, length, slice_get, Option, Some, None}
 use Rattle.esm_env.specs.Cells.{Cell}
 use Rattle.esm_values.specs.Operators.{Values}
-use Rattle.esm_body.specs.Scopes.{in_scopes}
-use Rattle.esm_body.specs.Contexts.{scopes_in}
+use Rattle.esm_rewriting.specs.Scopes.{in_scopes}
+use Rattle.esm_rewriting.specs.Contexts.{scopes_in}
 use Rattle.esm_rows.specs.Rows.{Names, found_in}
 use Rattle.esm_row_laws.specs.Spots.{Round, names_of}
 use Rattle.esm_row_laws.specs.Remaining.{contexts}

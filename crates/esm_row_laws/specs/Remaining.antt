@@ -8,11 +8,11 @@ use Rattle.esm_expr_eval.specs.Terms.{Term as t}
 use Rattle.esm_expr_eval.specs.Terms.Terms.{more as further}
 use Rattle.esm_expr_eval.specs.Terms.Compared.{compared}
 use Rattle.esm_expr_eval.specs.Terms.LinkTerms.{call}
-use Rattle.esm_body.specs.Scopes.{Scope, named_cell, unset, handler_scope}
-use Rattle.esm_body.specs.Rest.{Rest, end, more, whole, block, does_bindings}
-use Rattle.esm_body.specs.Rest.Part.{Does, In, Tries}
-use Rattle.esm_body.specs.Contexts.{Context, Block, surrounded}
-use Rattle.esm_body.specs.Contexts.{Context as contexts_by}
+use Rattle.esm_rewriting.specs.Scopes.{Scope, named_cell, unset, handler_scope}
+use Rattle.esm_rewriting.specs.Rest.{Rest, end, more, whole, block, does_bindings}
+use Rattle.esm_rewriting.specs.Rest.Part.{Does, In, Tries}
+use Rattle.esm_rewriting.specs.Contexts.{Context, Block, surrounded}
+use Rattle.esm_rewriting.specs.Contexts.{Context as contexts_by}
 use Rattle.esm_row_laws.specs.Spots.{Left, Round, Own, Inner, First, Tried, round_names, Kont, Uses, Ors, Ands, Equals, Compares, Sums, Adds, Turns, Posts, Passes, Prints, Makes, Imports, rounds_of, Opening, Plainly, Firstly, Trying, Spot, Begins, Has, Between, Opens, Handles}
 
 -- a callee, or none, its arguments, and the operands below

@@ -9,11 +9,11 @@ use Rattle.esm_values.specs.Errors.{fault}
 use Rattle.esm_values.specs.declared.errors.FaultKind.{FaultKind}
 use Rattle.esm_values.specs.declared.errors.FaultKind.TheVariants as kinds
 use Rattle.esm_expr_eval.specs.Terms.Term.{Val}
-use Rattle.esm_body.specs.Rest.{Use as purposes}
-use Rattle.esm_body.specs.Rest.{more}
-use Rattle.esm_body.specs.Rest.Part.{Does}
-use Rattle.esm_body.specs.State.{State, Importing, new_error, with_error}
-use Rattle.esm_body.specs.Acts.{not_initialized, is_constant}
+use Rattle.esm_rewriting.specs.Rest.{Use as purposes}
+use Rattle.esm_rewriting.specs.Rest.{more}
+use Rattle.esm_rewriting.specs.Rest.Part.{Does}
+use Rattle.esm_rewriting.specs.State.{State, Importing, new_error, with_error}
+use Rattle.esm_rewriting.specs.Acts.{not_initialized, is_constant}
 use Rattle.esm_rows.specs.Rows.{Names, many_names, Found, found_at, found_among, found_in, found_here}
 use Rattle.esm_row_laws.specs.Spots.{Left, Round, names_of, Uses, Has, Between}
 use Rattle.esm_row_laws.specs.Remaining.{left_rest, rest_at}

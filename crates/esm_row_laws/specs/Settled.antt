@@ -1,8 +1,8 @@
 -- A place whose first operation isn't its own, brought to the one whose it is.
-use Rattle.std.specs.Prelude.{ℕ, zero, suc, List, [], ◌∷◌}
+use Rattle.std.specs.Prelude.{zero, suc, List, [], ◌∷◌}
 use Rattle.esm_tree.specs.Syntax as x
 use Rattle.esm_tree.specs.Syntax.{Expr, none, more, last, compared, ends, member, call, absent, plain, awaited, Bindings, no_more, binding, Stmts}
-use Rattle.esm_body.specs.Rest.{Use as purposes}
+use Rattle.esm_rewriting.specs.Rest.{Use as purposes}
 use Rattle.esm_row_laws.specs.Spots.{left, Round, Kont, Uses, Ors, Ands, Equals, Compares, Sums, Adds, Turns, Posts, Passes, Prints, Makes, Imports, Spot, Begins, Has, Between, Opens, Handles}
 
 -- a place and the operands there

@@ -1,9 +1,9 @@
 -- Places in the row of a function: where its code is, and which operations are left there.
-use Rattle.std.specs.Prelude.{ℕ, suc, Bool, List, [], ◌∷◌, ◌++◌, length, map, Option, Some, None}
+use Rattle.std.specs.Prelude.{ℕ, suc, Bool, List, [], ◌∷◌, ◌++◌, length, map, Option}
 use Rattle.esm_tree.specs.Syntax.{Expr, Exprs, Compared, Links, Bindings, no_more, Stmts, nothing}
 use Rattle.esm_env.specs.Declarations.{Declaration, FunctionCode, declared_in}
-use Rattle.esm_body.specs.Rest.{Use as Purpose}
-use Rattle.esm_body.specs.Rest.{Use as purposes}
+use Rattle.esm_rewriting.specs.Rest.{Use as Purpose}
+use Rattle.esm_rewriting.specs.Rest.{Use as purposes}
 use Rattle.esm_rows.specs.Rows.{Row, Names, among, found_here, found_in, write_by, set_by, expr_row, exprs_row, ors_row, ands_row, compared_row, sums_row, links_row, bindings_row, stmts_row, block_row, chosen_row, handler_row, try_row, caught_names, call_names}
 use Rattle.esm_rows.specs.Rows.{Operation as o}
 

@@ -1,10 +1,10 @@
 -- Which place it is, told by its first operation and those behind it.
-use Rattle.std.specs.Prelude.{◌≡◌, ℕ, zero, suc, Bool, List, [], ◌∷◌, ◌++◌, length, Option, Some, None}
+use Rattle.std.specs.Prelude.{◌≡◌, ℕ, zero, suc, List, [], ◌∷◌, length, Option, Some, None}
 use Rattle.esm_tree.specs.Syntax as x
 use Rattle.esm_tree.specs.Syntax.{Expr, Exprs, none, more, Compared, last, Links, ends, member, call, Bindings, no_more, binding, Stmt, Stmts, nothing, first}
 use Rattle.esm_env.specs.Declarations.{Declaration, declared_in}
-use Rattle.esm_body.specs.Rest.{Use as Purpose}
-use Rattle.esm_body.specs.Rest.{Use as purposes}
+use Rattle.esm_rewriting.specs.Rest.{Use as Purpose}
+use Rattle.esm_rewriting.specs.Rest.{Use as purposes}
 use Rattle.esm_rows.specs.Rows.{Row, Found, found_in, found_here, expr_row, stmt_row, stmts_row, block_row}
 use Rattle.esm_rows.specs.Rows.{Operation as o}
 use Rattle.esm_row_laws.specs.Spots.{Left, left, Round, Own, Inner, First, Tried, names_of, Kont, Uses, Ors, Ands, Equals, Compares, Sums, Adds, Turns, Posts, Passes, Prints, Makes, Imports, kont_names, Opening, Plainly, Firstly, Trying, opened, Spot, Begins, Has, Between, Opens, Handles, whole_row, handled_row, left_row, kont_row}

@@ -53,7 +53,7 @@ const STATEMENTS: [(&str, &str); 5] = [
     ),
     (
         "function f() { try { let a; } catch { return; } f(); }",
-        "0 0: step; try 1 10; step; undefined; set 0; endtry 1 5; unnamed 0; step; undefined; return; leave 0 5; step; name f; call 0; drop; end; ",
+        "0 0: step; try 1 10; step; undefined; set 0; endtry 1 5; unnamed 0; step; undefined; return; leave 0 5; step; own 0; call 0; drop; end; ",
     ),
     (
         "function f(a) { let b = a; { let a = b; b = a; } if (a) { } }",
@@ -62,6 +62,26 @@ const STATEMENTS: [(&str, &str); 5] = [
     (
         "function f() { const c = \"x\", d = c; c = d; }",
         "0 2: step; text x; set 0; local 0 c; set 1; step; local 1 d; constant 0 c; end; ",
+    ),
+];
+
+// The names of a module are those of its statements, then its functions.
+const OWN_NAMES: [(&str, &str); 4] = [
+    (
+        "let a = \"1\"; const b = a, c = a; function f(d) { return b + d + f + g; }",
+        "1 0: step; own 1; local 0 d; add; own 3; add; name g; add; return; end; ",
+    ),
+    (
+        "export function f(a) { const f = a; return f; } let a;",
+        "1 1: step; local 0 a; set 1; step; local 1 f; return; end; ",
+    ),
+    (
+        "import { i as j } from \"m\"; function f() { return j; } let i;",
+        "0 0: step; name j; return; end; ",
+    ),
+    (
+        "function f() { a = a; return g().a; } let a; function g() { }",
+        "0 0: step; own 0; write a; step; own 2; call 0; member a; return; end; ",
     ),
 ];
 
@@ -117,6 +137,16 @@ fn expressions_are_rows(rt: HostRuntime) -> Result<(), Fail> {
 fn statements_are_rows(rt: HostRuntime) -> Result<(), Fail> {
     let alloc = rt.alloc();
     for (text, expected) in STATEMENTS {
+        let row = row_told(alloc, text, 0)?;
+        assert_eq!(rt; row.as_str(), expected);
+    }
+    Ok(())
+}
+
+#[test]
+fn own_names_are_read_by_places(rt: HostRuntime) -> Result<(), Fail> {
+    let alloc = rt.alloc();
+    for (text, expected) in OWN_NAMES {
         let row = row_told(alloc, text, 0)?;
         assert_eq!(rt; row.as_str(), expected);
     }

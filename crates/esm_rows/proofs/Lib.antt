@@ -6,3 +6,4 @@ pub mod Linked
 pub mod Worked
 pub mod Entered
 pub mod Lowered
+pub mod Owned

@@ -3,4 +3,5 @@ pub mod Making
 pub mod Locals
 pub mod Drafts
 pub mod Working
+pub mod Owning
 pub mod Functions

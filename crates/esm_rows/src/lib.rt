@@ -10,6 +10,7 @@ mod maker;
 mod names;
 mod nodes;
 mod op;
+mod owns;
 mod row;
 mod simple;
 mod tasks;

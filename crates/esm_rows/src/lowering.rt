@@ -3,6 +3,7 @@ ghost use Rattle.std.specs.Prelude.{◌∷◌, [], List, ℕ, IfOk};
 ghost use Rattle.std.specs.Arc.{arc_value};
 ghost use Rattle.esm_tree.specs.Flat.{item_of, stmt_parts};
 ghost use Rattle.esm_env.specs.Declarations.{function_code, functions_by};
+ghost use Rattle.esm_env.specs.OwnNames.{own_names};
 ghost use Rattle.esm_rows.specs.Rows.{stmts_row};
 ghost use Rattle.esm_rows.specs.Rows.{Operation as o};
 ghost use Rattle.esm_rows.specs.Locals.{declared};
@@ -13,6 +14,7 @@ use crate::blocks::{add_names, add_parameters, beside, many_in};
 use crate::draft::Draft;
 use crate::maker::Maker;
 use crate::names::{Block, count};
+use crate::owns::own_first;
 use crate::row::Row;
 use esm_base::{Memory, Text};
 use esm_env::ModuleScope;
@@ -91,10 +93,14 @@ fn item_row(alloc: Global, tree: &Tree, item: &ItemNode) -> Result<Option<Row>, 
 /// The row of the function with this number of a module, if it has one. It answers `Memory` where memory runs out, or
 /// where the row would have 2^32 operations, texts or names.
 pub fn lower(alloc: Global, scope: &ModuleScope, index: u32) -> Result<Option<Row>, Memory>
-    ensures { IfOk result (IsRowOf [] (arc_value scope.now.tree) index) }
+    ensures { IfOk result (IsRowOf (own_names (arc_value scope.now.tree).items)
+        (arc_value scope.now.tree) index) }
 {
     match scope.function(index) {
-        Some(item) => item_row(alloc, &scope.tree, item),
+        Some(item) => {
+            let row = item_row(alloc, &scope.tree, item)?;
+            Ok(own_first(scope, row))
+        }
         None => Ok(None),
     }
 }

@@ -1,5 +1,5 @@
 -- A run over generated input.
-use Rattle.std.proofs.Common.{◌≡◌, ◌≢◌, ◌∙◌, ◌+◌, ap, sym, subst, refl, ℕ, zero, suc, List, [], ◌∷◌, length, map, arith, inl, false}
+use Rattle.std.proofs.Common.{◌≡◌, ◌≢◌, ◌∙◌, ap, sym, subst, refl, ℕ, zero, suc, List, [], ◌∷◌, length, map, arith, inl, false}
 use Rattle.std.specs.Prelude.{Option, Some, None, IsSomeAnd, All, Contains, take}
 use Rattle.std.proofs.lemmas.List.Elements.{All-nil, All-cons, All-map, All-weaker}
 use Rattle.esm_base.specs.declared.limits.TheConstants.{MAX_BODY_BYTES}
@@ -15,24 +15,23 @@ use Rattle.esm_ast.specs.Outcome.{OutcomeView, Script, Broken, Absent, Failed}
 use Rattle.esm_base.specs.Urls.{Url}
 use Rattle.esm_import_map.specs.ImportMap.{Maps, no_maps}
 use Rattle.esm_loads.specs.LoadsView.{every_form}
-use Rattle.esm_body.specs.Keeps.{started}
+use Rattle.esm_rewriting.specs.Keeps.{started}
 use Rattle.esm_world.specs.World.{opening}
-use Rattle.esm_world.specs.Run.{Shown, StandardRun}
+use Rattle.esm_world.specs.Run.{Shown}
 use Rattle.esm_world.specs.Laws.{HasStandardRun}
 use Rattle.esm_fetch.specs.Answered.{Contents, IsRead, IsToldOutcome, kind_of}
-use Rattle.esm_machine.specs.Machine.{MachineParts, state_of}
-use Rattle.esm_machine.specs.Represents.{ShownBy}
+use Rattle.esm_machine.specs.Machine.{MachineParts}
 use Rattle.esm_arguments.specs.declared.command.Generation.{Generation}
 use Rattle.esm_gen.specs.Generated.{generated_at, module_url}
 use Rattle.esm_gen.specs.declared.summary.Summary.{Summary}
-use Rattle.esm_run.specs.Taken.{ask_of, IsTold, WasDelivered, IsTrueRecord}
+use Rattle.esm_run.specs.Taken.{ask_of, WasDelivered}
 use Rattle.esm_run.specs.Written.{SinkChange, IsUnwritten}
-use Rattle.esm_run.specs.Summed.{line_count, line_feeds, summary_of}
-use Rattle.esm_run.specs.Generated.{EndsSummed, IsGenerated, IsOfFile, RunsGenerated}
+use Rattle.esm_run.specs.Summed.{line_count, summary_of}
+use Rattle.esm_run.specs.Generated.{IsGenerated, IsOfFile, RunsGenerated}
 use Rattle.esm_run.specs.Inner.Generating.{EndsGenerated, HoldsGenerated}
 use Rattle.esm_run.specs.Inner.Leading.{EndsDriven}
 use Rattle.esm_run.specs.Report.{IsGraphRun}
-use Rattle.esm_run.proofs.ReportLemmas.{delivered_in, pairs_nil}
+use Rattle.esm_run.proofs.ReportLemmas.{pairs_nil}
 
 -- ---- the summary
 

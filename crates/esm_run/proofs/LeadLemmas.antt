@@ -1,35 +1,33 @@
 -- What was posted stays so, and what one delivery more leads to.
 use Rattle.std.proofs.lemmas.Bool.Decides.{nat_tests}
 use Rattle.std.specs.List.{list_any, position_or_len}
-use Rattle.std.proofs.Common.{Bool, false, cond, not, nat_lt, position, ◌||◌, ◌≡◌, ℕ, zero, suc, ◌+◌, ◌<◌, ◌≤◌, List, [], ◌∷◌, ◌++◌, map, sym, refl, ap, ◌∙◌, subst, append_assoc, append-nil, Option, Some, None, slice_get, arith, get_or, length, true, Ok, Err, inl, eqb-true}
+use Rattle.std.proofs.Common.{Bool, false, cond, not, nat_lt, position, ◌||◌, ◌≡◌, ℕ, zero, suc, ◌+◌, ◌<◌, ◌≤◌, List, [], ◌∷◌, ◌++◌, sym, refl, ap, ◌∙◌, subst, append_assoc, append-nil, Option, Some, None, slice_get, arith, get_or, length, true, Ok, Err, inl, eqb-true}
 use Rattle.std.specs.Prelude.{All, Contains, OnOk, Result, remove, take, drop}
 use mathlib.Core.Bool.{true≢false}
 use Rattle.std.proofs.lemmas.List.Quantifiers.{position-Some}
 use Rattle.std.proofs.lemmas.List.Elements.{All-nil, All-cons, All-append, All-take, All-drop, All-contains, All-contains_itself, All-weaker}
-use Rattle.std.proofs.lemmas.List.{map-append}
 use Rattle.esm_base.specs.declared.memory.Memory.{Memory}
 use Rattle.esm_base.specs.Urls.{Url, has, same_url}
 use Rattle.esm_realm.proofs.Urls.{or_left, or_true, own_text}
 use Rattle.esm_ast.specs.Outcome.{OutcomeView, outcome_view}
 use Rattle.esm_import_map.specs.ImportMap.{Maps}
-use Rattle.esm_world.specs.Run.{shown, Shown, StandardRun}
 use Rattle.esm_ast.specs.Deliveries.{Delivery, completed}
 use Rattle.esm_world.specs.World.{opening}
 use Rattle.esm_loads.specs.LoadsView.{every_form}
 use Rattle.esm_world.specs.Laws.{AsksStay, HasStandardRun, OpenAsks}
 use Rattle.esm_machine.specs.Machine.{MachineParts, state_of}
-use Rattle.esm_machine.specs.Represents.{Represents, RepresentsOn, ShownBy, asks_of}
+use Rattle.esm_machine.specs.Represents.{Represents, RepresentsOn, ShownBy}
 use Rattle.esm_module_map.specs.declared.event.MapEvent.{MapEvent}
 use Rattle.esm_module_map.specs.Replay.{replay}
 use Rattle.esm_module_map.specs.Laws.{UrlsStay, PostsStay}
-use Rattle.esm_module_map.specs.Histories.{IsPostIn, asks_by, takes_by, answers_by}
+use Rattle.esm_module_map.specs.Histories.{IsPostIn, asks_by}
 use Rattle.esm_module_map.specs.Saying.{Begins, Stays}
 use Rattle.esm_fetch.specs.declared.posted.Posted.{Posted}
 use Rattle.esm_fetch.specs.Serving.{weight, Served, Serves, ServedBy}
 use Rattle.esm_ports.specs.declared.asked.Asked.{Asked}
 use Rattle.esm_fetch.specs.Answered.{Contents}
 use Rattle.esm_run.specs.declared.tickets.Ticket.{Ticket}
-use Rattle.esm_run.specs.Inner.Leading.{has_ticket, is_for, IsFirstPosted, HasTicket, WasPosted, IsDriven, IsCutShort, IsLed, IsLedShort, IsOpenAsk, IsStandardAsk, AsksStandard, AsksOn, KeepsServing, LeadsOn}
+use Rattle.esm_run.specs.Inner.Leading.{has_ticket, is_for, IsFirstPosted, HasTicket, WasPosted, IsLed, IsLedShort, IsOpenAsk, IsStandardAsk, AsksOn, KeepsServing, LeadsOn}
 use Rattle.esm_run.proofs.SharedLemmas.{all_posted, cut_of}
 
 module _ {G : Type 0} where
@@ -206,8 +204,3 @@ module _ (tickets t2 t3 : List Ticket) (posted p1 : List ℕ) (at number : ℕ) 
       let p = (position-Some (is_for number) tickets place ticket (subst (λ t. position (is_for number) t ≡ Some place) t3_is there)).1 in
       let same : ticket.number ≡ number = eqb-true ticket.number number (subst (λ (t : Ticket). is_for number t ≡ true) (sym ticket_is) p) in
       (at, first_found, get_there posted at number at_within ∙ ap Some (sym is ∙ sym same), rest)
-
--- ---- what was heard
-
-pub one_more : (xs init more ys : List ℕ) (v : ℕ) → ys ≡ xs ++ v ∷ [] → xs ≡ init ++ more → (m : List ℕ) × (ys ≡ init ++ m)
-one_more xs init more ys v grew before = (more ++ v ∷ [], grew ∙ ap (λ l. l ++ v ∷ []) before ∙ append_assoc init more (v ∷ []))

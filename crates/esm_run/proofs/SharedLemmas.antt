@@ -1,33 +1,30 @@
 -- Sources and their callers: what holds of them as the history grows, and what the whole history says of them.
-use Rattle.std.proofs.Common.{◌≡◌, ◌≢◌, ◌⊎◌, inl, inr, ℕ, zero, suc, ◌+◌, ◌<◌, ◌≤◌, ◌==◌, cond, bytes_eq, Bool, true, false, List, [], ◌∷◌, ◌++◌, map, sym, refl, ap, ◌∙◌, subst, arith, Option, Some, None, length, slice_index_or, slice_get, slice_set, eq-eqb, eqb-true, Ok, Err}
-use Rattle.std.specs.Prelude.{All, AllPairs, Any, Contains, flat_map, IfSome, Result}
+use Rattle.std.proofs.Common.{◌≡◌, ◌≢◌, ◌⊎◌, inl, inr, ℕ, zero, suc, ◌+◌, ◌<◌, ◌≤◌, ◌==◌, cond, bytes_eq, Bool, true, false, List, [], ◌∷◌, ◌++◌, map, sym, refl, ap, ◌∙◌, subst, arith, Option, Some, None, length, slice_index_or, slice_set, eq-eqb, eqb-true, Ok, Err}
+use Rattle.std.specs.Prelude.{All, AllPairs, Contains, flat_map, IfSome, Result}
 use Rattle.std.specs.Result.{result_ok}
 use Rattle.std.proofs.lemmas.List.{map-append}
 use Rattle.std.proofs.lemmas.Slice.Eq.{bytes_eq-Decides}
-use Rattle.std.proofs.lemmas.List.Elements.{All-nil, All-cons, All-append, All-contains, All-weaker, Contains-append_left, Contains-get_or}
-use Rattle.esm_hlock.specs.Makers.{times, names, Continues}
+use Rattle.std.proofs.lemmas.List.Elements.{All-nil, All-append, All-contains, All-weaker, Contains-append_left, Contains-get_or}
+use Rattle.esm_hlock.specs.Makers.{times, names}
 use Rattle.esm_hlock.specs.declared.view.View.{View}
-use Rattle.esm_hlock.specs.Views.{HasAllMakers}
 use Rattle.esm_base.specs.declared.memory.Memory.{Memory}
 use Rattle.esm_base.specs.Urls.{Url}
 use Rattle.esm_ports.specs.declared.asked.Asked.{Asked}
 use Rattle.esm_ports.specs.declared.asked.AskKind.{AskKind}
 use Rattle.esm_ports.specs.Asks.{asks_with}
-use Rattle.esm_ast.specs.Outcome.{OutcomeView, outcome_view}
+use Rattle.esm_ast.specs.Outcome.{OutcomeView}
 use Rattle.esm_import_map.specs.ImportMap.{Maps}
 use Rattle.esm_module_map.specs.declared.event.MapEvent.{MapEvent}
-use Rattle.esm_module_map.specs.Replay.{replay, is_legal, maker_of}
-use Rattle.esm_module_map.specs.Histories.{Answer, IsPostIn, asks_by, takes_by, answers_by}
+use Rattle.esm_module_map.specs.Replay.{is_legal, maker_of}
+use Rattle.esm_module_map.specs.Histories.{Answer, asks_by, takes_by, answers_by}
 use Rattle.esm_module_map.specs.Counts.{count, total, AreTakenOnce}
 use Rattle.esm_module_map.specs.Saying.{Begins, Stays, ShutSays}
-use Rattle.esm_module_map.specs.Laws.{UrlsStay, PostsStay, PostsAreAnswers, TakesWereAsked, TakenOnceByMakers}
+use Rattle.esm_module_map.specs.Laws.{UrlsStay, PostsStay, PostsAreAnswers, TakesWereAsked}
 use Rattle.esm_fetch.specs.declared.posted.Posted.{Posted}
 use Rattle.esm_fetch.specs.Answered.{Contents, kind_of, IsRead, IsToldOutcome}
-use Rattle.esm_fetch.specs.Serving.{weight, url_in, outcome_in, ask_for, IsTrueAnswer, IsServed, IsCut, Serves, Served, ServedIf}
-use Rattle.esm_world.specs.Run.{Shown, shown, StandardRun}
+use Rattle.esm_fetch.specs.Serving.{weight, url_in, ask_for, IsTrueAnswer, IsServed, IsCut, Serves, Served, ServedIf}
 use Rattle.esm_ast.specs.Deliveries.{Delivery}
-use Rattle.esm_machine.specs.Machine.{MachineParts, state_of}
-use Rattle.esm_machine.specs.Represents.{Represents}
+use Rattle.esm_machine.specs.Machine.{MachineParts}
 use Rattle.esm_run.specs.Taken.{ask_of, IsTold, WasDelivered}
 use Rattle.esm_run.specs.Inner.Leading.{WasPosted, IsDriven, IsCutShort, EndsDriven, IsStandardAsk, AreServed, IsShared, IsNew, Leads}
 

@@ -1,7 +1,7 @@
 -- What a summary says of a run over generated input. own
 use Rattle.std.specs.Prelude.{ℕ, ◌+◌, nat_eq, List, [], ◌∷◌, length, if◌then◌else◌}
 use Rattle.esm_base.specs.declared.status.Status.{Status}
-use Rattle.esm_body.specs.Keeps.{started}
+use Rattle.esm_rewriting.specs.Keeps.{started}
 use Rattle.esm_world.specs.Run.{Shown}
 use Rattle.esm_gen.specs.declared.summary.Summary.{Summary}
 

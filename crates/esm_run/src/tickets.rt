@@ -1,5 +1,5 @@
 // What the calling thread has asked of the module map and not delivered.
-ghost use Rattle.std.specs.Prelude.{◌≡◌, ◌≤◌, [], ◌+◌, ◌++◌, ℕ, List, length, All, IfOk, IfSome, OnErr, OnOk, Contains, position, true, Bool};
+ghost use Rattle.std.specs.Prelude.{◌≡◌, ◌≤◌, [], ◌+◌, ℕ, List, length, All, IfOk, IfSome, None, OnErr, OnOk, Contains, position, slice_get, true, Bool};
 ghost use Rattle.esm_base.specs.Urls.{IsUsable, is_usable};
 ghost use Rattle.esm_machine.specs.Machine.{state_of};
 ghost use Rattle.esm_machine.specs.Represents.{Represents};
@@ -7,11 +7,12 @@ ghost use Rattle.esm_import_map.specs.ImportMap.{Maps};
 ghost use Rattle.esm_module_map.specs.Views.{view_in, table_of, Same};
 ghost use Rattle.esm_module_map.specs.Saying.{Begins, Stays};
 ghost use Rattle.esm_module_map.specs.Histories.{takes_by, answers_by};
+ghost use Rattle.esm_module_map.specs.Replay.{replay};
 ghost use Rattle.esm_module_map.specs.Replies.{number_in};
 ghost use Rattle.esm_fetch.specs.Serving.{weight};
 ghost use Rattle.esm_ast.specs.Deliveries.{Delivery};
 ghost use Rattle.esm_run.specs.Inner.Leading as spec;
-ghost use Rattle.esm_run.specs.Inner.Leading.{AsksOn, HasTicket, IsFirstPosted, IsOpenAsk, IsStandardAsk, KeepsServing};
+ghost use Rattle.esm_run.specs.Inner.Leading.{AsksOn, HasTicket, HearsMore, IsFirstPosted, IsOpenAsk, IsStandardAsk, KeepsServing};
 
 use esm_base::{Memory, Text};
 use esm_fetch::{Bell, Posted};
@@ -43,7 +44,7 @@ pub(crate) struct Queue {
 impl Queue {
     /// A queue of nothing.
     pub(crate) fn new(alloc: Global) -> Queue
-        ensures { result.tickets.items ≡ [] }
+        ensures { (result.tickets.items ≡ []) × (result.posted.items ≡ []) × (result.known ≡ 0) }
     {
         Queue {
             tickets: Vec::new(alloc),
@@ -242,7 +243,8 @@ pub(crate) fn choose(queue: &mut Queue) -> Option<Ticket>
     Some(queue.tickets.remove(place))
 }
 
-/// Puts what was posted since into the queue.
+/// Puts what was posted behind the posts that are known into the queue, in order. Where memory runs out it may be a part
+/// of that.
 pub(crate) fn hear<R: Wait>(
     rt: &R,
     modules: &ModuleMap<Posted>,
@@ -258,16 +260,22 @@ pub(crate) fn hear<R: Wait>(
     ensures says { Stays weight caller.old.number (view_in caller.old.pass).seen
         (view_in caller.new.pass).seen }
     ensures tickets { queue.new.tickets ≡ queue.old.tickets }
-    ensures order { (more : List ℕ) × (queue.new.posted.items ≡ queue.old.posted.items ++ more) }
+    ensures order { HearsMore (view_in caller.new.pass).seen queue.old.known queue.old.posted.items
+        queue.new.known queue.new.posted.items }
+    ensures all { OnOk result (slice_get (replay weight (view_in caller.new.pass).seen).posts
+        queue.new.known ≡ None) }
 {
     for _ in rt.forever() {
         let Some(number) = modules.post_at(rt, caller, queue.known) else {
             return Ok(());
         };
+        let Some(known) = queue.known.checked_add(1) else {
+            return Err(Memory);
+        };
         let Ok(()) = queue.posted.push(number) else {
             return Err(Memory);
         };
-        queue.known = queue.known.saturating_add(1);
+        queue.known = known;
     }
     unreachable!()
 }

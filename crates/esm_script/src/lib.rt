@@ -11,8 +11,6 @@ mod listing;
 mod read;
 mod requests;
 mod stars;
-#[cfg(test)]
-mod tests;
 
 pub use entries::entries_of;
 pub use read::read_script;

@@ -8,6 +8,3 @@ mod resolving;
 
 pub use fault::{SpecEnd, SpecFault};
 pub use resolving::{resolve, resolve_against};
-
-#[cfg(test)]
-mod tests;

@@ -6,8 +6,8 @@ use Rattle.esm_realm.proofs.Urls.{same_text}
 use Rattle.esm_values.specs.Value.{Value}
 use Rattle.esm_promise.specs.Promises.{Promise, Pending, Done, Promises, Settled, Fulfilled, Job, job, settle, settled, settled_by, triggered, register, register_by, make, make_fulfilled, next_job, first_job}
 use Rattle.esm_promise.specs.Reactions.{Reaction}
-use Rattle.esm_body.specs.State.{Standing}
-use Rattle.esm_body.specs.Bodies.{Taken, take_by, take_standing}
+use Rattle.esm_rewriting.specs.State.{Standing}
+use Rattle.esm_rewriting.specs.Bodies.{Taken, take_by, take_standing}
 use Rattle.esm_world.specs.Awaits.{is_await, awaits_among, awaits_on, awaits_pending, awaits_in_jobs, awaits_of, standing_count, AreSettled}
 use Rattle.esm_world.proofs.Each.{joined}
 

@@ -21,17 +21,17 @@ use Rattle.esm_env.specs.Cells.{Cell, Reading}
 use Rattle.esm_env.specs.Cells.{Reading as reading}
 use Rattle.esm_env.specs.Writing.{Writing, writing_of}
 use Rattle.esm_env.specs.Writing.{Writing as writing}
-use Rattle.esm_body.specs.Scopes.{Scope, in_scopes}
-use Rattle.esm_body.specs.Rest.{Part, Rest, stmt_count, end, more, whole, branch, fill_rest, fill_part}
-use Rattle.esm_body.specs.Rest.{Part as part}
-use Rattle.esm_body.specs.Rest.{Use as use_of}
-use Rattle.esm_body.specs.State.{State, Standing, Importing, AnswerWith, steps_by, line_by}
-use Rattle.esm_body.specs.Acts.{Inner, Performs, AnswersAct, ReadsMemberOf, BeginsBy, read_answer, over_scopes, set_at, write_in, scope_write, module_write, modules_of}
-use Rattle.esm_body.specs.BodyRewriting.{RewrittenBody, On, Gives, Waits, RewritesBody, own_url, within, caught, wrote}
-use Rattle.esm_body.specs.BodyRewriting.RewritesBody.{begins_at, does, drops, sets, writes, throws, returns, prints, chooses, awaits, inner, inner_end, tries, tries_end}
-use Rattle.esm_body.specs.Segment.{Active, Ended, Normal, Thrown, Awaiting, Stopped, Next, Goes, Over, Segment, next_by, call_by, called}
-use Rattle.esm_body.specs.Segment.{Segment as segment}
-use Rattle.esm_body.proofs.Grown.{same_rest}
+use Rattle.esm_rewriting.specs.Scopes.{Scope, in_scopes}
+use Rattle.esm_rewriting.specs.Rest.{Part, Rest, stmt_count, end, more, whole, branch, fill_rest, fill_part}
+use Rattle.esm_rewriting.specs.Rest.{Part as part}
+use Rattle.esm_rewriting.specs.Rest.{Use as use_of}
+use Rattle.esm_rewriting.specs.State.{State, Standing, Importing, AnswerWith, steps_by, line_by}
+use Rattle.esm_rewriting.specs.Acts.{Inner, Performs, AnswersAct, ReadsMemberOf, BeginsBy, read_answer, over_scopes, set_at, write_in, scope_write, module_write, modules_of}
+use Rattle.esm_rewriting.specs.BodyRewriting.{RewrittenBody, On, Gives, Waits, RewritesBody, own_url, within, caught, wrote}
+use Rattle.esm_rewriting.specs.BodyRewriting.RewritesBody.{begins_at, does, drops, sets, writes, throws, returns, prints, chooses, awaits, inner, inner_end, tries, tries_end}
+use Rattle.esm_rewriting.specs.Segment.{Active, Ended, Normal, Thrown, Awaiting, Stopped, Next, Goes, Over, Segment, next_by, call_by, called}
+use Rattle.esm_rewriting.specs.Segment.{Segment as segment}
+use Rattle.esm_rewriting.proofs.Grown.{same_rest}
 use Rattle.esm_world.specs.Measure.{weight_part, weight_rest, weight_use}
 use Rattle.esm_world.proofs.ExprFalls.{Counts, Calm, Falls, IsOther, Light, follows_falls, inside_falls, rewrites_falls}
 

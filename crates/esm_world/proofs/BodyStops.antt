@@ -16,15 +16,15 @@ use Rattle.esm_promise.specs.Outer.{Outer}
 use Rattle.esm_env.specs.Modules.{Modules}
 use Rattle.esm_env.specs.Cells.{Reading}
 use Rattle.esm_env.specs.Cells.{Reading as reading}
-use Rattle.esm_body.specs.Rest.{Rest}
+use Rattle.esm_rewriting.specs.Rest.{Rest}
 use Rattle.esm_tree.specs.Syntax.{Stmts}
-use Rattle.esm_body.specs.State.{Event, Begins, Ends, Throws, State, Importing, AnswerWith, stop, steps_by, add_line, line_by, note, note_by, event_behind, event_line}
-use Rattle.esm_body.specs.Acts.{Inner, Performs, AnswersAct, ReadsMemberOf, BeginsBy, read_answer, import_answer, with_outer, with_promise, modules_of}
-use Rattle.esm_body.specs.BodyRewriting.{RewrittenBody, On, Gives, Waits, RewritesBody, own_url, within, caught, wrote}
-use Rattle.esm_body.specs.BodyRewriting.RewritesBody.{begins_at, does, drops, sets, writes, throws, returns, prints, chooses, awaits, inner, inner_end, tries, tries_end}
-use Rattle.esm_body.specs.Segment.{Active, Ended, Normal, Thrown, Awaiting, Stopped, Next, Goes, Over, Segment, next_by, call_by, called}
-use Rattle.esm_body.specs.Segment.{Segment as segment}
-use Rattle.esm_body.specs.Bodies.{StartsBody, RunsBody, ResumesBody, segment_end, settle_done, body_end, ran_by, url_in}
+use Rattle.esm_rewriting.specs.State.{Event, Begins, Ends, Throws, State, Importing, AnswerWith, stop, steps_by, add_line, line_by, note, note_by, event_behind, event_line}
+use Rattle.esm_rewriting.specs.Acts.{Inner, Performs, AnswersAct, ReadsMemberOf, BeginsBy, read_answer, import_answer, with_outer, with_promise, modules_of}
+use Rattle.esm_rewriting.specs.BodyRewriting.{RewrittenBody, On, Gives, Waits, RewritesBody, own_url, within, caught, wrote}
+use Rattle.esm_rewriting.specs.BodyRewriting.RewritesBody.{begins_at, does, drops, sets, writes, throws, returns, prints, chooses, awaits, inner, inner_end, tries, tries_end}
+use Rattle.esm_rewriting.specs.Segment.{Active, Ended, Normal, Thrown, Awaiting, Stopped, Next, Goes, Over, Segment, next_by, call_by, called}
+use Rattle.esm_rewriting.specs.Segment.{Segment as segment}
+use Rattle.esm_rewriting.specs.Bodies.{StartsBody, RunsBody, ResumesBody, segment_end, settle_done, body_end, ran_by, url_in}
 use Rattle.esm_world.proofs.ExprStops.{Never, StopsAs, StopsBy, inside_stop, follows_stop, rewrites_stop}
 
 -- what follows a stop, of imports and of the engine

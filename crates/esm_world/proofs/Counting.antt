@@ -5,8 +5,8 @@ use Rattle.esm_base.specs.Urls.{Url, same_url}
 use Rattle.esm_values.specs.Value.{Value}
 use Rattle.esm_promise.specs.Promises.{Promise, Pending, Done, Settled, Job, job, settle, triggered, register, register_by, make, make_fulfilled, next_job, first_job}
 use Rattle.esm_promise.specs.Reactions.{Reaction}
-use Rattle.esm_body.specs.State.{Standing}
-use Rattle.esm_body.specs.Bodies.{Taken, take_by, take_standing}
+use Rattle.esm_rewriting.specs.State.{Standing}
+use Rattle.esm_rewriting.specs.Bodies.{Taken, take_by, take_standing}
 use Rattle.esm_world.specs.Measure.{Queue, of_all, of_jobs, of_promise, queue, reactions, standing_weight, weight_of, weight_rest}
 
 reactions_on : (rs ss : List (Reaction Url)) → reactions (rs ++ ss) ≡ reactions rs + reactions ss

@@ -17,7 +17,7 @@ use Rattle.esm_loads.specs.Arrival.{AnswersNext, count, bytes_of}
 use Rattle.esm_loads.specs.ImportCall.{Imports, BeginsImport}
 use Rattle.esm_loads.specs.ImportCall.Imports.{limit, unresolved, asks, answers}
 use Rattle.esm_eval.specs.Nodes.{Call, CallAnswer}
-use Rattle.esm_body.specs.Bodies.{await_on}
+use Rattle.esm_rewriting.specs.Bodies.{await_on}
 use Rattle.esm_world.specs.World.{World, modules_in, host_of, with_host}
 use Rattle.esm_world.specs.Layers.{CallsForBody, evaluation, with_linked}
 use Rattle.esm_world.specs.Jobs.{EvaluatesLoad, Reacts, when_evaluated}

@@ -18,16 +18,16 @@ use Rattle.esm_env.specs.Cells.{Cell, Reading}
 use Rattle.esm_env.specs.Cells.{Reading as reading}
 use Rattle.esm_env.specs.Writing.{Writing, writing_of}
 use Rattle.esm_env.specs.Writing.{Writing as writing}
-use Rattle.esm_body.specs.Scopes.{Scope, in_scopes}
-use Rattle.esm_body.specs.Rest.{Rest}
-use Rattle.esm_body.specs.State.{Event, Begins, Ends, Throws, State, Importing, AnswerWith, take_steps, steps_by, add_line, line_by, note, note_by, event_behind, event_line}
-use Rattle.esm_body.specs.Acts.{Inner, Performs, AnswersAct, ReadsMemberOf, BeginsBy, read_answer, set_at, write_in, scope_write, module_write, modules_of}
-use Rattle.esm_body.specs.BodyRewriting.{RewrittenBody, On, Gives, Waits, RewritesBody, own_url}
-use Rattle.esm_body.specs.BodyRewriting.RewritesBody.{begins_at, does, drops, sets, writes, throws, returns, prints, chooses, awaits, inner, inner_end, tries, tries_end}
-use Rattle.esm_body.specs.Segment.{Active, Ended, Normal, Thrown, Awaiting, Stopped, Next, Goes, Over, Segment, next_by, call_by, called}
-use Rattle.esm_body.specs.Segment.{Segment as segment}
-use Rattle.esm_body.specs.Bodies.{StartsBody, RunsBody, ResumesBody, segment_end, settle_done, body_end, ran_by, url_in}
-use Rattle.esm_body.proofs.ExprKeeps.{Stays, follows_keeps, step_keeps}
+use Rattle.esm_rewriting.specs.Scopes.{Scope, in_scopes}
+use Rattle.esm_rewriting.specs.Rest.{Rest}
+use Rattle.esm_rewriting.specs.State.{Event, Begins, Ends, Throws, State, Importing, AnswerWith, take_steps, steps_by, add_line, line_by, note, note_by, event_behind, event_line}
+use Rattle.esm_rewriting.specs.Acts.{Inner, Performs, AnswersAct, ReadsMemberOf, BeginsBy, read_answer, set_at, write_in, scope_write, module_write, modules_of}
+use Rattle.esm_rewriting.specs.BodyRewriting.{RewrittenBody, On, Gives, Waits, RewritesBody, own_url}
+use Rattle.esm_rewriting.specs.BodyRewriting.RewritesBody.{begins_at, does, drops, sets, writes, throws, returns, prints, chooses, awaits, inner, inner_end, tries, tries_end}
+use Rattle.esm_rewriting.specs.Segment.{Active, Ended, Normal, Thrown, Awaiting, Stopped, Next, Goes, Over, Segment, next_by, call_by, called}
+use Rattle.esm_rewriting.specs.Segment.{Segment as segment}
+use Rattle.esm_rewriting.specs.Bodies.{StartsBody, RunsBody, ResumesBody, segment_end, settle_done, body_end, ran_by, url_in}
+use Rattle.esm_rewriting.proofs.ExprKeeps.{Stays, follows_keeps, step_keeps}
 use Rattle.esm_world.proofs.Each.{pushed}
 
 abbrev Events : Type 0 → Type 0

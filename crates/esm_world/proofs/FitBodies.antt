@@ -21,10 +21,10 @@ use Rattle.esm_loads.specs.ImportCall.Imports.{limit, unresolved, asks, answers}
 use Rattle.esm_loads.specs.Laws.{IsOrderly}
 use Rattle.esm_loads.proofs.HasLoad.{has_load}
 use Rattle.esm_loads.proofs.Orderly.{stays_orderly, only_grows}
-use Rattle.esm_body.specs.Bodies.{given_by}
-use Rattle.esm_body.specs.Fits.{AreLinked, Knows}
-use Rattle.esm_body.proofs.SomeAct.{BeginsSome}
-use Rattle.esm_body.proofs.LinkedRead.{linked_read}
+use Rattle.esm_rewriting.specs.Bodies.{given_by}
+use Rattle.esm_rewriting.specs.Fits.{AreLinked, Knows}
+use Rattle.esm_rewriting.proofs.SomeAct.{BeginsSome}
+use Rattle.esm_rewriting.proofs.LinkedRead.{linked_read}
 use Rattle.esm_world.specs.World.{modules_in}
 use Rattle.esm_loads.specs.LoadsView.{url_at}
 use Rattle.esm_world.specs.Fits.{IsLinkedModule, AreModules, IsKnownValue, FitSettled, FitPromises, FitsHost}

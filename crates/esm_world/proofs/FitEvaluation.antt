@@ -23,10 +23,10 @@ use Rattle.esm_eval.specs.Evaluation.{phase, IsLawful}
 use Rattle.esm_eval.specs.Keeping.{IsNodeOf, CanEvaluate, HasOutcomes, throws_known}
 use Rattle.esm_eval.proofs.HasEvaluation.{has_evaluation}
 use Rattle.std.specs.List.{AllByRecursion}
-use Rattle.esm_body.specs.State.{State, Event, Begins, Ends, Throws}
-use Rattle.esm_body.specs.Bodies.{Taken, take_standing, given_by, ResumesBody}
-use Rattle.esm_body.specs.Fits.{FitsState, FitsAfter}
-use Rattle.esm_body.proofs.SomeBody.{some_start, some_run, some_resume, RanKnown}
+use Rattle.esm_rewriting.specs.State.{State, Event, Begins, Ends, Throws}
+use Rattle.esm_rewriting.specs.Bodies.{Taken, take_standing, given_by, ResumesBody}
+use Rattle.esm_rewriting.specs.Fits.{FitsState, FitsAfter}
+use Rattle.esm_rewriting.proofs.SomeBody.{some_start, some_run, some_resume, RanKnown}
 use Rattle.esm_world.specs.World.{World, modules_in, body_state, with_state}
 use Rattle.esm_world.specs.Layers.{CallsForBody, evaluation, with_promises}
 use Rattle.esm_world.specs.Fits.{IsLinkedModule, AreModules, IsKnownValue, FitSettled, FitPromises, FitsHost, FitEvent, FitsWorld}
@@ -199,7 +199,7 @@ module _ (linked : List Url) (entries : Entries) (h : AreModules linked entries)
       let s = some_resume same_url modules_in (IsIn linked entries h) (FitsHost linked entries) BeginsImport (bodies linked entries h agrees ends) (body_state w) m t how f.state k e (given w.loading f.state.whole.entries_are how q) in
       (s.0, (s.1.0, (s.1.1.0, with_fit_state w s.1.0 f s.1.1.1.fits (out_events s.1.0.engine.events (resumes_events same_url modules_in BeginsImport IsModule s.1.1.0 k (in_events w.engine.events f.events))))))
     where
-      given : (l : Loading) → l.entries ≡ entries → (how : Settled (Value Url)) → FitSettled linked entries how → Rattle.esm_expr_eval.specs.Ready.Holds (Rattle.esm_body.specs.Fits.Knows modules_in (IsIn linked entries h) l) ⊥ (given_by how)
+      given : (l : Loading) → l.entries ≡ entries → (how : Settled (Value Url)) → FitSettled linked entries how → Rattle.esm_expr_eval.specs.Ready.Holds (Rattle.esm_rewriting.specs.Fits.Knows modules_in (IsIn linked entries h) l) ⊥ (given_by how)
       given l e (Fulfilled v) k = known_in linked entries h l e v k
       given l e (Rejected v) k = known_in linked entries h l e v k
 

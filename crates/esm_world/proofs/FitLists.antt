@@ -10,7 +10,7 @@ use Rattle.esm_promise.specs.Promises as p
 use Rattle.esm_promise.specs.Promises.{Settled, Fulfilled, Rejected, Pending, Done, Promises, Job, job, make, make_fulfilled, settle, triggered, register, register_by, next_promise}
 use Rattle.esm_promise.specs.Reactions.{Reaction, Await}
 use Rattle.esm_loads.specs.UrlTable.{Entries}
-use Rattle.esm_body.specs.Bodies.{await_on}
+use Rattle.esm_rewriting.specs.Bodies.{await_on}
 use Rattle.esm_loads.specs.LoadsView.{url_at}
 use Rattle.esm_world.specs.Fits.{IsLinkedModule, IsKnownValue, FitReaction, FitSettled, FitPromise, FitPromises}
 use Rattle.esm_world.proofs.Each.{pushed, joined, put}

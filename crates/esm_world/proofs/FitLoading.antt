@@ -25,9 +25,9 @@ use Rattle.esm_loads.specs.Laws.{IsOrderly}
 use Rattle.esm_loads.proofs.Orderly.{stays_orderly, only_grows, put_other}
 use Rattle.esm_eval.specs.Nodes.{Node}
 use Rattle.esm_eval.specs.Keeping.{IsNodeOf}
-use Rattle.esm_body.specs.State.{Standing, Event, Begins, Ends, Throws}
-use Rattle.esm_body.specs.Fits.{FitStanding, Knows, of_body}
-use Rattle.esm_body.proofs.Grown.{held_rest}
+use Rattle.esm_rewriting.specs.State.{Standing, Event, Begins, Ends, Throws}
+use Rattle.esm_rewriting.specs.Fits.{FitStanding, Knows, of_body}
+use Rattle.esm_rewriting.proofs.Grown.{held_rest}
 use Rattle.esm_world.specs.World.{World, EntryState, Underway, Ended, Failed, modules_in, host_of, with_host, opening}
 use Rattle.esm_loads.specs.LoadsView.{url_at}
 use Rattle.esm_world.specs.Layers.{with_linked}

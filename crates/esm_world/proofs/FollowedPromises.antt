@@ -8,7 +8,7 @@ use Rattle.esm_promise.specs.Promises.{Promise, Settled, Fulfilled, Pending, Don
 use Rattle.esm_promise.specs.Reactions.{Reaction, Await}
 use Rattle.esm_loads.proofs.Requests.{contains_here, contains_there, contains_cases, contains_more, contains_last, contains_none, set_other, equal_cases}
 use Rattle.esm_loads.proofs.Limits.{get_set}
-use Rattle.esm_body.specs.Bodies.{await_on}
+use Rattle.esm_rewriting.specs.Bodies.{await_on}
 use Rattle.esm_world.specs.Followed.{IsSettled}
 use Rattle.esm_world.proofs.ToldPromises.{Ps}
 

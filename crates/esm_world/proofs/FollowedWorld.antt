@@ -21,7 +21,7 @@ use Rattle.esm_loads.specs.ImportCall.{BeginsImport, add_load, counted}
 use Rattle.esm_loads.specs.Whole.{HasEnded}
 use Rattle.esm_loads.proofs.Requests.{contains_none, contains_cases, equal_cases}
 use Rattle.esm_eval.specs.Nodes.{Call, CallAnswer}
-use Rattle.esm_body.specs.State.{Standing}
+use Rattle.esm_rewriting.specs.State.{Standing}
 use Rattle.esm_world.specs.World.{World, opening, stopped, host_of, modules_in}
 use Rattle.esm_world.specs.Layers.{CallsForBody, evaluation, with_linked}
 use Rattle.esm_world.specs.Jobs.{EvaluatesLoad, Reacts, Jobs, when_evaluated}

@@ -21,8 +21,8 @@ use Rattle.esm_link.specs.Faults.{FaultAt}
 use Rattle.esm_link.specs.Link.{LinksMarks}
 use Rattle.esm_link.specs.Link.LinksMarks.{done, enters, passes, fails, stays, component}
 use Rattle.esm_eval.specs.Nodes.{Call, CallAnswer}
-use Rattle.esm_body.specs.Acts.{Displays}
-use Rattle.esm_body.proofs.LinkedRead.{linked_read}
+use Rattle.esm_rewriting.specs.Acts.{Displays}
+use Rattle.esm_rewriting.proofs.LinkedRead.{linked_read}
 use Rattle.esm_world.specs.World.{World, EntryState, Underway, Ended, Failed, stopped, modules_in, body_state}
 use Rattle.esm_world.specs.Layers.{CallsForBody, evaluation}
 use Rattle.esm_world.specs.Jobs.{EvaluatesLoad, Reacts, when_evaluated}

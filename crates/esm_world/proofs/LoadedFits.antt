@@ -28,8 +28,8 @@ use Rattle.esm_link.specs.Link as link
 use Rattle.esm_link.specs.Link.{IsLinking, targets_from}
 use Rattle.esm_link.proofs.HasLinking.{has_linking}
 use Rattle.esm_link.proofs.ClosedLinks.{closes_whole}
-use Rattle.esm_body.specs.Fits.{AreLinked}
-use Rattle.esm_body.proofs.Resolved.{good, resolved}
+use Rattle.esm_rewriting.specs.Fits.{AreLinked}
+use Rattle.esm_rewriting.proofs.Resolved.{good, resolved}
 use Rattle.esm_world.specs.World.{modules_in}
 use Rattle.esm_world.specs.Run.{HasModuleTree}
 use Rattle.esm_world.specs.Loaded.{HasTree, FitsLoading, LoadingStaysFit, LoadedAreLinked, HasLink, LinkedStaysLinked}

@@ -15,7 +15,7 @@ use Rattle.esm_world.specs.Jobs.{EvaluatesLoad, Reacts, when_evaluated}
 use Rattle.esm_world.specs.Jobs.Reacts.{entry_linked, entry_fault, entry_refused, entry_ended, entry_threw, linked, fault, refused, evaluated, threw, body_ended, body_threw, resumes}
 use Rattle.esm_world.specs.Loaded.{FitsLoading}
 use Rattle.esm_world.proofs.EvalKeeps.{Lasts, evaluates_keeps, fulfills_keeps, rejects_keeps}
-use Rattle.esm_body.proofs.BodyKeeps.{Imported, starts_body_keeps, runs_body_keeps, resumes_body_keeps}
+use Rattle.esm_rewriting.proofs.BodyKeeps.{Imported, starts_body_keeps, runs_body_keeps, resumes_body_keeps}
 use Rattle.esm_world.proofs.LoadedFits.{loading_stays_fit}
 use Rattle.esm_world.proofs.UnlinkedGrows.{StaysUnlinked, imports_stay}
 

@@ -18,8 +18,8 @@ use Rattle.esm_eval.specs.Nodes.{Call, CallAnswer}
 use Rattle.esm_eval.specs.Evaluation.{HasOneOutcome}
 use Rattle.esm_eval.specs.Evaluate.{Evaluates}
 use Rattle.esm_eval.proofs.OneEvaluation.{evaluates_one, rejects_one, fulfills_one}
-use Rattle.esm_body.proofs.OneAct.{BeginsOne, displays_one}
-use Rattle.esm_body.proofs.OneSegment.{starts_body_one, runs_body_one, resumes_body_one}
+use Rattle.esm_rewriting.proofs.OneAct.{BeginsOne, displays_one}
+use Rattle.esm_rewriting.proofs.OneSegment.{starts_body_one, runs_body_one, resumes_body_one}
 use Rattle.esm_world.specs.World.{World, Failed, modules_in, body_state, with_state, with_host}
 use Rattle.esm_world.specs.Layers.{CallsForBody, evaluation, LinksTo, with_linked, with_promises}
 use Rattle.esm_world.specs.Jobs.{LinksLoad, EvaluatesLoad, Reacts, Jobs, when_evaluated, with_entry_state, link_failed, new_error, settle_promise}

@@ -15,7 +15,7 @@ use Rattle.esm_eval.specs.Nodes.{Phase, NotEntered, Evaluating, EvaluatingAsync,
 use Rattle.esm_eval.specs.Evaluation.{error_of, wait_on, wait_by, add_wait, root_of, is_stamped}
 use Rattle.esm_eval.specs.Evaluate.{WalkEnd, Ends, Marks, Leaves, enter, close, fail, closed_phase}
 use Rattle.esm_eval.specs.Evaluate.{Executes as executes}
-use Rattle.esm_body.specs.State.{State}
+use Rattle.esm_rewriting.specs.State.{State}
 use Rattle.esm_world.specs.World.{World, body_state, with_state}
 use Rattle.esm_world.specs.Layers.{CallsForBody, evaluation}
 use Rattle.esm_world.specs.Plain.{RunInOrder, IsPlain, HaveTargets, LeadsTo}

@@ -15,11 +15,11 @@ use Rattle.esm_loads.specs.Loading.{Loading, body}
 use Rattle.esm_loads.specs.ImportCall.{BeginsImport}
 use Rattle.esm_eval.specs.Nodes.{Call, CallAnswer, Start, Run, module_of}
 use Rattle.esm_eval.specs.BodyEnd.{Fulfills}
-use Rattle.esm_body.specs.Acts.{modules_of}
-use Rattle.esm_body.specs.Rest.{fill_rest}
-use Rattle.esm_body.specs.State.{State, AnswerWith, Event, Begins, Ends, Throws, note, note_by, line_by, add_line, event_behind, event_line}
-use Rattle.esm_body.specs.Segment.{Ended, Normal, Thrown, Awaiting, Stopped}
-use Rattle.esm_body.specs.Bodies.{StartsBody, RunsBody, ResumesBody, segment_end, settle_done, body_end, ran_by, await_on, without_standing, given_by, url_in, whole_body}
+use Rattle.esm_rewriting.specs.Acts.{modules_of}
+use Rattle.esm_rewriting.specs.Rest.{fill_rest}
+use Rattle.esm_rewriting.specs.State.{State, AnswerWith, Event, Begins, Ends, Throws, note, note_by, line_by, add_line, event_behind, event_line}
+use Rattle.esm_rewriting.specs.Segment.{Ended, Normal, Thrown, Awaiting, Stopped}
+use Rattle.esm_rewriting.specs.Bodies.{StartsBody, RunsBody, ResumesBody, segment_end, settle_done, body_end, ran_by, await_on, without_standing, given_by, url_in, whole_body}
 use Rattle.esm_world.specs.World.{World, modules_in, body_state, with_state, stopped}
 use Rattle.esm_world.specs.Layers.{CallsForBody, evaluation, with_linked, with_promises}
 use Rattle.esm_world.specs.Jobs.{EvaluatesLoad, Reacts, when_evaluated}

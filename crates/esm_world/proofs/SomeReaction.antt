@@ -14,8 +14,8 @@ use Rattle.esm_env.specs.Modules as mods
 use Rattle.esm_link.specs.Faults.{FaultAt}
 use Rattle.esm_loads.specs.UrlTable.{Entries, body_in}
 use Rattle.esm_loads.specs.Loading.{Loading, root_of_load, import_promise}
-use Rattle.esm_body.specs.Bodies.{Taken, take_standing}
-use Rattle.esm_body.specs.Fits.{AreLinked}
+use Rattle.esm_rewriting.specs.Bodies.{Taken, take_standing}
+use Rattle.esm_rewriting.specs.Fits.{AreLinked}
 use Rattle.esm_world.specs.World.{World, EntryState, modules_in, with_state}
 use Rattle.esm_world.specs.Layers.{LinksTo, with_linked}
 use Rattle.esm_world.specs.Jobs.{Reacts, when_evaluated}

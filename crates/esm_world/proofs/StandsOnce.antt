@@ -13,9 +13,9 @@ use Rattle.esm_loads.specs.Arrival.{open_asks}
 use Rattle.esm_loads.specs.ImportCall.{BeginsImport}
 use Rattle.esm_eval.specs.Nodes.{Call, CallAnswer, Start, module_of}
 use Rattle.esm_eval.specs.Begins.{First, HaveBegunOnce}
-use Rattle.esm_body.specs.State.{State, Event, Standing, AnswerWith, has_begun, Begins, Ends, Throws, note}
-use Rattle.esm_body.specs.Segment.{Ended, Normal, Thrown, Awaiting, Stopped}
-use Rattle.esm_body.specs.Bodies.{StartsBody, ResumesBody, segment_end, settle_done, url_in}
+use Rattle.esm_rewriting.specs.State.{State, Event, Standing, AnswerWith, has_begun, Begins, Ends, Throws, note}
+use Rattle.esm_rewriting.specs.Segment.{Ended, Normal, Thrown, Awaiting, Stopped}
+use Rattle.esm_rewriting.specs.Bodies.{StartsBody, ResumesBody, segment_end, settle_done, url_in}
 use Rattle.esm_world.specs.World.{World, modules_in, body_state, with_state, with_host, opening, stopped}
 use Rattle.esm_world.specs.Layers.{CallsForBody, evaluation, with_linked, with_promises}
 use Rattle.esm_world.specs.Jobs.{EvaluatesLoad, Reacts, Jobs, when_evaluated}
@@ -27,7 +27,7 @@ use Rattle.esm_world.proofs.AwaitCounts.{standing_more, take_count, taken_is}
 use Rattle.esm_world.proofs.AwaitsKept.{awaits_keep_bodies}
 use Rattle.esm_world.proofs.OuterKeeps.{LastsOuter, noted, segment_around, runs_around}
 use Rattle.esm_world.proofs.EvalKeeps.{Lasts, evaluates_keeps, fulfills_keeps, rejects_keeps}
-use Rattle.esm_body.proofs.BodyKeeps.{resumes_body_keeps}
+use Rattle.esm_rewriting.proofs.BodyKeeps.{resumes_body_keeps}
 use Rattle.esm_world.proofs.Grows.{Progress}
 use Rattle.esm_world.proofs.WorldGrows.{imported}
 use Rattle.esm_world.proofs.StartsOnce.{Once, begun_alike, call_begins, begun_keeps, steady, makes_first_calls, calm_same, reacts_once, once_same, opening_once, live_by}

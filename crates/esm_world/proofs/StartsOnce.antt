@@ -27,7 +27,7 @@ use Rattle.esm_eval.specs.Begins.{First, BeginsOne, HaveBegunOnce}
 use Rattle.esm_eval.specs.Waiting.{IsBetweenCalls, HasOpenWait}
 use Rattle.esm_eval.specs.Laws.{MakesFirstCalls}
 use Rattle.esm_eval.proofs.OnceEnds.{begins_once}
-use Rattle.esm_body.specs.State.{State, Event, Begins, Ends, Throws, begins_at}
+use Rattle.esm_rewriting.specs.State.{State, Event, Begins, Ends, Throws, begins_at}
 use Rattle.esm_world.specs.World.{World, modules_in, body_state, with_host, opening, stopped}
 use Rattle.esm_world.specs.Layers.{CallsForBody, evaluation, with_linked, with_promises}
 use Rattle.esm_world.specs.Jobs.{EvaluatesLoad, Reacts, Jobs, when_evaluated}
@@ -35,14 +35,14 @@ use Rattle.esm_world.specs.Jobs.Reacts.{entry_linked, entry_fault, entry_refused
 use Rattle.esm_world.specs.Turn.{Tasks, Turn, fetched}
 use Rattle.esm_world.specs.Run.{Runs, Shown, StandardRun}
 use Rattle.esm_ast.specs.Deliveries.{Delivery, asks_by}
-use Rattle.esm_body.specs.Keeps.{started}
+use Rattle.esm_rewriting.specs.Keeps.{started}
 use Rattle.esm_world.specs.Laws.{StopsAreTold}
 use Rattle.esm_world.proofs.Distinct.{Adds, same, add, adds_on, adds_same, adds_distinct}
 use Rattle.esm_world.proofs.Grows.{Progress}
 use Rattle.esm_world.proofs.WorldGrows.{imported, executes_progress}
 use Rattle.esm_world.proofs.EvalKeeps.{Lasts, evaluates_keeps, fulfills_keeps, rejects_keeps}
 use Rattle.esm_world.proofs.EvalStops.{StopsCall, evaluates_stop, fulfills_stop}
-use Rattle.esm_body.proofs.BodyKeeps.{starts_body_keeps, runs_body_keeps, resumes_body_keeps, starts_body_begins, runs_body_begins}
+use Rattle.esm_rewriting.proofs.BodyKeeps.{starts_body_keeps, runs_body_keeps, resumes_body_keeps, starts_body_begins, runs_body_begins}
 use Rattle.esm_world.proofs.BodyStops.{StopsState, StopsTold, starts_body_stop, runs_body_stop, resumes_body_stop}
 
 -- ---- a stop leaves a world that is stopped

@@ -10,14 +10,14 @@ use Rattle.esm_values.specs.Plans.{Rewritten as comes}
 use Rattle.esm_values.specs.Plans.{Follows as follow}
 use Rattle.esm_env.specs.Modules.{Modules}
 use Rattle.esm_env.specs.Declarations.{body_of, onto}
-use Rattle.esm_body.specs.Rest.{Rest, more, whole}
-use Rattle.esm_body.specs.Rest.{Part as part}
-use Rattle.esm_body.specs.State.{State, Importing}
-use Rattle.esm_body.specs.Acts.{Inner}
-use Rattle.esm_body.specs.BodyRewriting.{RewrittenBody, On, Gives, Waits, RewritesBody}
-use Rattle.esm_body.specs.BodyRewriting.RewritesBody.{begins_at}
-use Rattle.esm_body.specs.Segment.{Ended, Normal, Thrown, Awaiting, Stopped, Next, Goes, Over, Segment, next_by}
-use Rattle.esm_body.specs.Segment.{Segment as segment}
+use Rattle.esm_rewriting.specs.Rest.{Rest, more, whole}
+use Rattle.esm_rewriting.specs.Rest.{Part as part}
+use Rattle.esm_rewriting.specs.State.{State, Importing}
+use Rattle.esm_rewriting.specs.Acts.{Inner}
+use Rattle.esm_rewriting.specs.BodyRewriting.{RewrittenBody, On, Gives, Waits, RewritesBody}
+use Rattle.esm_rewriting.specs.BodyRewriting.RewritesBody.{begins_at}
+use Rattle.esm_rewriting.specs.Segment.{Ended, Normal, Thrown, Awaiting, Stopped, Next, Goes, Over, Segment, next_by}
+use Rattle.esm_rewriting.specs.Segment.{Segment as segment}
 use Rattle.esm_world.proofs.BodyFalls.{FallsEnd, segment_falls, counts, steps_of}
 
 -- ---- what awaits has a statement

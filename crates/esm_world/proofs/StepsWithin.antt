@@ -9,15 +9,15 @@ use Rattle.esm_values.specs.Acts.{Act as act}
 use Rattle.esm_values.specs.Plans.{Rewritten as comes}
 use Rattle.esm_values.specs.Operators.{values, text_of}
 use Rattle.esm_env.specs.Modules.{Modules}
-use Rattle.esm_body.specs.Scopes.{in_scopes}
-use Rattle.esm_body.specs.Rest.{Rest}
-use Rattle.esm_body.specs.State.{State, Importing, AnswerWith, steps_by}
-use Rattle.esm_body.specs.Acts.{Inner, Performs, AnswersAct, over_scopes, modules_of}
-use Rattle.esm_body.specs.BodyRewriting.{RewrittenBody, On, Gives, Waits, RewritesBody, own_url}
-use Rattle.esm_body.specs.BodyRewriting.RewritesBody.{begins_at, does, drops, sets, writes, throws, returns, prints, chooses, awaits, inner, inner_end, tries, tries_end}
-use Rattle.esm_body.specs.Segment.{Active, Ended, Next, Goes, Over, Segment, next_by, call_by, called}
-use Rattle.esm_body.specs.Segment.{Segment as segment}
-use Rattle.esm_body.proofs.ExprKeeps.{Stays, follows_keeps, step_keeps}
+use Rattle.esm_rewriting.specs.Scopes.{in_scopes}
+use Rattle.esm_rewriting.specs.Rest.{Rest}
+use Rattle.esm_rewriting.specs.State.{State, Importing, AnswerWith, steps_by}
+use Rattle.esm_rewriting.specs.Acts.{Inner, Performs, AnswersAct, over_scopes, modules_of}
+use Rattle.esm_rewriting.specs.BodyRewriting.{RewrittenBody, On, Gives, Waits, RewritesBody, own_url}
+use Rattle.esm_rewriting.specs.BodyRewriting.RewritesBody.{begins_at, does, drops, sets, writes, throws, returns, prints, chooses, awaits, inner, inner_end, tries, tries_end}
+use Rattle.esm_rewriting.specs.Segment.{Active, Ended, Next, Goes, Over, Segment, next_by, call_by, called}
+use Rattle.esm_rewriting.specs.Segment.{Segment as segment}
+use Rattle.esm_rewriting.proofs.ExprKeeps.{Stays, follows_keeps, step_keeps}
 use Rattle.esm_world.proofs.BodyFalls.{steps_of, act_counted, import_counted, set_counted, by_write}
 
 lt_no : (a b : ℕ) → nat_lt a b ≡ false → b ≤ a

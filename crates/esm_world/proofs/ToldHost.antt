@@ -17,7 +17,7 @@ use Rattle.esm_loads.specs.Owed.{owes, owed, owed_by, OwesPromises}
 use Rattle.esm_loads.proofs.Orderly.{stays_orderly}
 use Rattle.esm_loads.proofs.Owed.{keeps_promises, push_own}
 use Rattle.esm_loads.proofs.Requests.{set_other, equal_cases, length_set}
-use Rattle.esm_body.specs.Bodies.{await_on}
+use Rattle.esm_rewriting.specs.Bodies.{await_on}
 use Rattle.esm_world.specs.Told.{Whose, OfImport, Own, own_promise_in, load_promise, IsFree, HasSettled, MayStandOn, AreToldOf, IsHostTold}
 use Rattle.esm_world.proofs.OuterKeeps.{LastsOuter, with_errors, makes, settles}
 use Rattle.esm_world.proofs.ToldPromises.{Ps, Continues, continues_same, continues_on, below_not, length_push, register_told, await_told}

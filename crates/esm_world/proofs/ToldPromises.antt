@@ -9,7 +9,7 @@ use Rattle.esm_promise.specs.Promises.{Promise, Settled, Fulfilled, Rejected, Pe
 use Rattle.esm_promise.specs.Reactions.{Reaction, Await, BodyEnd, Loaded, Evaluated, EntryLoaded, EntryDone}
 use Rattle.esm_loads.specs.Loading.{Loading, LoadState, Asked, Open, LoadComplete, Thrown, Purpose, ForEntry, ForImport, root_in, import_promise_in}
 use Rattle.esm_loads.proofs.Requests.{set_own, set_other, length_set, equal_cases, push_cases}
-use Rattle.esm_body.specs.Bodies.{await_on}
+use Rattle.esm_rewriting.specs.Bodies.{await_on}
 use Rattle.esm_world.specs.Told.{Own, own_promise_in, load_promise, HasSettled, HasLoaded, MayStandOn, AreToldOf, IsTold}
 use Rattle.esm_world.proofs.Each.{pushed, joined}
 

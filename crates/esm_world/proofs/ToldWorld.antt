@@ -21,8 +21,8 @@ use Rattle.esm_loads.specs.ImportCall.{BeginsImport}
 use Rattle.esm_loads.proofs.Orderly.{stays_orderly}
 use Rattle.esm_loads.proofs.Owed.{keeps_promises}
 use Rattle.esm_eval.specs.Nodes.{Node, Call, CallAnswer}
-use Rattle.esm_body.specs.State.{State, Standing}
-use Rattle.esm_body.specs.Bodies.{Taken, take_standing, take_by, await_on}
+use Rattle.esm_rewriting.specs.State.{State, Standing}
+use Rattle.esm_rewriting.specs.Bodies.{Taken, take_standing, take_by, await_on}
 use Rattle.esm_world.specs.World.{World, EntryState, opening, stopped, host_of, with_host, with_state, modules_in}
 use Rattle.esm_world.specs.Layers.{CallsForBody, evaluation, with_linked, with_promises}
 use Rattle.esm_world.specs.Jobs.{EvaluatesLoad, Reacts, Jobs, when_evaluated, with_entry_state}

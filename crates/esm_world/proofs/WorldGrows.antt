@@ -15,7 +15,7 @@ use Rattle.esm_world.specs.Jobs.Reacts.{entry_linked, entry_fault, entry_refused
 use Rattle.esm_world.specs.Turn.{Tasks}
 use Rattle.esm_world.proofs.Grows.{Progress, GrowsOn, same_progress, progress_on, begins_progress, on_same, on_both, next_grows, progress_grows}
 use Rattle.esm_world.proofs.EvalKeeps.{Lasts, evaluates_keeps, fulfills_keeps, rejects_keeps}
-use Rattle.esm_body.proofs.BodyKeeps.{Imported, starts_body_keeps, runs_body_keeps, resumes_body_keeps}
+use Rattle.esm_rewriting.proofs.BodyKeeps.{Imported, starts_body_keeps, runs_body_keeps, resumes_body_keeps}
 
 pub imported : Imported BeginsImport Progress
 imported = record { same = same_progress; on = λ p q. progress_on p q; call = λ p. begins_progress p }

@@ -10,8 +10,8 @@ use Rattle.esm_promise.specs.Promises.{Promise, Pending, Done, Promises, Settled
 use Rattle.esm_promise.specs.Reactions.{Reaction, Await}
 use Rattle.esm_loads.specs.Host.{Host}
 use Rattle.esm_loads.specs.Arrival.{AnswersNext}
-use Rattle.esm_body.specs.State.{Standing}
-use Rattle.esm_body.specs.Bodies.{Taken, take_standing}
+use Rattle.esm_rewriting.specs.State.{Standing}
+use Rattle.esm_rewriting.specs.Bodies.{Taken, take_standing}
 use Rattle.esm_world.specs.World.{World, opening, host_of, with_host}
 use Rattle.esm_world.specs.Layers.{with_promises}
 use Rattle.esm_world.specs.Jobs.{Reacts}

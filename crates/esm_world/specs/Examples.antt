@@ -10,7 +10,7 @@ use Rattle.esm_tree.specs.declared.node.Wanted.TheVariants.{Named}
 use Rattle.esm_ast.specs.Outcome.{Script, Absent}
 use Rattle.esm_import_map.specs.ImportMap.{no_maps}
 use Rattle.esm_loads.specs.LoadsView.{every_form}
-use Rattle.esm_body.specs.State.{Event, Begins, Ends, Throws}
+use Rattle.esm_rewriting.specs.State.{Event, Begins, Ends, Throws}
 use Rattle.esm_world.specs.Run.{Shown, StandardRun}
 use Rattle.esm_ast.specs.Deliveries.{Delivery, completed}
 

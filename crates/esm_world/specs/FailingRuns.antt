@@ -6,7 +6,7 @@ use Rattle.esm_base.specs.declared.status.Status.TheVariants as statuses
 use Rattle.esm_base.specs.Urls.{Url}
 use Rattle.esm_tree.specs.Syntax as x
 use Rattle.esm_ast.specs.Outcome.{Absent, Broken}
-use Rattle.esm_body.specs.State.{Begins, Ends, Throws}
+use Rattle.esm_rewriting.specs.State.{Begins, Ends, Throws}
 use Rattle.esm_ast.specs.Deliveries.{Delivery, completed}
 use Rattle.esm_world.specs.Examples.{Run, ended, line, file, main_url, b_url, catching_main, imports_name}
 

@@ -13,8 +13,8 @@ use Rattle.esm_loads.specs.Host.{Host}
 use Rattle.esm_loads.specs.Arrival.{AnswersNext}
 use Rattle.esm_loads.specs.ImportCall.{BeginsImport}
 use Rattle.esm_eval.specs.Keeping.{HasOutcomes}
-use Rattle.esm_body.specs.State.{State}
-use Rattle.esm_body.specs.Bodies.{Taken, take_standing, ResumesBody}
+use Rattle.esm_rewriting.specs.State.{State}
+use Rattle.esm_rewriting.specs.Bodies.{Taken, take_standing, ResumesBody}
 use Rattle.esm_world.specs.World.{World, opening, host_of, with_host, modules_in, body_state, with_state}
 use Rattle.esm_world.specs.Layers.{CallsForBody, evaluation, with_linked}
 use Rattle.esm_world.specs.Turn.{fetched}

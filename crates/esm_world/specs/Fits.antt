@@ -14,8 +14,8 @@ use Rattle.esm_loads.specs.Whole.{is_module}
 use Rattle.esm_loads.specs.Laws.{IsOrderly}
 use Rattle.esm_eval.specs.Nodes.{was_entered}
 use Rattle.esm_eval.specs.Keeping.{IsNodeOf}
-use Rattle.esm_body.specs.Fits.{IsKnown, FitsState}
-use Rattle.esm_body.specs.State.{Event, Begins, Ends, Throws}
+use Rattle.esm_rewriting.specs.Fits.{IsKnown, FitsState}
+use Rattle.esm_rewriting.specs.State.{Event, Begins, Ends, Throws}
 use Rattle.esm_world.specs.World.{World, EntryState, Underway, Ended, Failed, modules_in, body_state}
 use Rattle.esm_loads.specs.LoadsView.{url_at}
 

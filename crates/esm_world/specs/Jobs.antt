@@ -12,8 +12,8 @@ use Rattle.esm_loads.specs.ImportCall.{BeginsImport}
 use Rattle.esm_link.specs.Faults.{FaultAt, link_error}
 use Rattle.esm_eval.specs.Evaluate.{Evaluates}
 use Rattle.esm_eval.specs.BodyEnd.{Rejects, Fulfills}
-use Rattle.esm_body.specs.Bodies.{ResumesBody}
-use Rattle.esm_body.specs.State.{State}
+use Rattle.esm_rewriting.specs.Bodies.{ResumesBody}
+use Rattle.esm_rewriting.specs.State.{State}
 use Rattle.esm_world.specs.World.{World, EntryState, Ended, Failed, stopped, modules_in, body_state, with_state}
 use Rattle.esm_world.specs.Layers.{CallsForBody, evaluation, LinksTo, with_linked, with_promises}
 

@@ -6,7 +6,7 @@ use Rattle.esm_base.specs.declared.status.Status.TheVariants as statuses
 use Rattle.esm_base.specs.Limits.{limit_name}
 use Rattle.esm_base.specs.Urls.{Text, Url}
 use Rattle.esm_values.specs.Value.{Value}
-use Rattle.esm_body.specs.Acts.{Displays}
+use Rattle.esm_rewriting.specs.Acts.{Displays}
 use Rattle.esm_world.specs.World.{World, EntryState, Underway, Ended, Failed, modules_in, body_state}
 
 -- how a run has ended

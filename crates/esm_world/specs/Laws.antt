@@ -17,9 +17,9 @@ use Rattle.esm_loads.specs.ImportCall.{BeginsImport}
 use Rattle.esm_eval.specs.Nodes.{Call}
 use Rattle.esm_eval.specs.Evaluate.{Evaluates}
 use Rattle.esm_eval.specs.BodyEnd.{Fulfills}
-use Rattle.esm_body.specs.Bodies.{ResumesBody}
-use Rattle.esm_body.specs.State.{State}
-use Rattle.esm_body.specs.Keeps.{started}
+use Rattle.esm_rewriting.specs.Bodies.{ResumesBody}
+use Rattle.esm_rewriting.specs.State.{State}
+use Rattle.esm_rewriting.specs.Keeps.{started}
 use Rattle.esm_world.specs.World.{World, opening, stopped, modules_in, body_state, with_state}
 use Rattle.esm_world.specs.Layers.{CallsForBody, evaluation}
 use Rattle.esm_world.specs.Jobs.{Jobs}

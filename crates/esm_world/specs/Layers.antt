@@ -14,8 +14,8 @@ use Rattle.esm_link.specs.Faults.{FaultAt}
 use Rattle.esm_link.specs.Link.{targets, IsLinking}
 use Rattle.esm_eval.specs.Nodes.{Call, CallAnswer, Start, Run}
 use Rattle.esm_eval.specs.Evaluation.{Evaluation}
-use Rattle.esm_body.specs.State.{State, has_begun}
-use Rattle.esm_body.specs.Bodies.{StartsBody, RunsBody}
+use Rattle.esm_rewriting.specs.State.{State, has_begun}
+use Rattle.esm_rewriting.specs.Bodies.{StartsBody, RunsBody}
 use Rattle.esm_world.specs.World.{World, modules_in, body_state, with_state}
 
 -- ---- calls for bodies

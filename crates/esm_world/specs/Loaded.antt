@@ -17,7 +17,7 @@ use Rattle.esm_loads.specs.Whole.{IsWhole}
 use Rattle.esm_loads.specs.Laws.{IsOrderly}
 use Rattle.esm_link.specs.Faults.{FaultAt}
 use Rattle.esm_link.specs.Link.{IsLinking}
-use Rattle.esm_body.specs.Fits.{AreLinked}
+use Rattle.esm_rewriting.specs.Fits.{AreLinked}
 use Rattle.esm_world.specs.World.{modules_in}
 use Rattle.esm_world.specs.Run.{HasModuleTree}
 

@@ -7,10 +7,10 @@ use Rattle.esm_values.specs.Value.{Value}
 use Rattle.esm_expr_eval.specs.Sizes.{size}
 use Rattle.esm_promise.specs.Promises.{Promise, Pending, Done, Promises, Settled, Job}
 use Rattle.esm_promise.specs.Reactions.{Reaction, Loaded, EntryLoaded}
-use Rattle.esm_body.specs.Rest.{Use, Part, Rest, stmt_count, end, more}
-use Rattle.esm_body.specs.Rest.{Part as part}
-use Rattle.esm_body.specs.Rest.{Use as use_of}
-use Rattle.esm_body.specs.State.{Standing}
+use Rattle.esm_rewriting.specs.Rest.{Use, Part, Rest, stmt_count, end, more}
+use Rattle.esm_rewriting.specs.Rest.{Part as part}
+use Rattle.esm_rewriting.specs.Rest.{Use as use_of}
+use Rattle.esm_rewriting.specs.State.{Standing}
 use Rattle.esm_world.specs.World.{World, stopped}
 use Rattle.esm_world.specs.Jobs.{FirstReacts}
 

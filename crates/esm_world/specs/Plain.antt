@@ -10,8 +10,8 @@ use Rattle.esm_env.specs.Modules.{entries}
 use Rattle.esm_loads.specs.Loading.{Loading}
 use Rattle.esm_loads.specs.ImportCall.{BeginsImport}
 use Rattle.esm_eval.specs.Evaluate.{WalkEnd, Ends, Throws, Stops, Marks}
-use Rattle.esm_body.specs.State.{State}
-use Rattle.esm_body.specs.Bodies.{RunsBody}
+use Rattle.esm_rewriting.specs.State.{State}
+use Rattle.esm_rewriting.specs.Bodies.{RunsBody}
 use Rattle.esm_world.specs.World.{World, modules_in, body_state}
 use Rattle.esm_world.specs.Layers.{CallsForBody, evaluation}
 

@@ -8,7 +8,7 @@ use Rattle.esm_ast.specs.Deliveries.{Delivery, asks_by}
 use Rattle.esm_ast.specs.Outcome.{OutcomeView, Script, Broken, Absent, Failed}
 use Rattle.esm_ast.specs.ModuleTree.{IsModuleTree}
 use Rattle.esm_loads.specs.Arrival.{open_asks}
-use Rattle.esm_body.specs.State.{Event}
+use Rattle.esm_rewriting.specs.State.{Event}
 use Rattle.esm_world.specs.World.{World, opening, stopped}
 use Rattle.esm_world.specs.Turn.{Turn}
 use Rattle.esm_world.specs.LastLine.{Ending, ending_by, exit_status, IsLastLine}

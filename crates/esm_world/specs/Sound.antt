@@ -13,7 +13,7 @@ use Rattle.esm_loads.specs.Loading.{Loading, root_of_load}
 use Rattle.esm_loads.specs.Host.{Host}
 use Rattle.esm_loads.specs.Arrival.{AnswersNext}
 use Rattle.esm_link.specs.Faults.{FaultAt}
-use Rattle.esm_body.specs.Bodies.{Taken, take_standing}
+use Rattle.esm_rewriting.specs.Bodies.{Taken, take_standing}
 use Rattle.esm_world.specs.World.{World, opening, stopped, host_of, with_host}
 use Rattle.esm_world.specs.Layers.{LinksTo, with_linked, with_promises}
 use Rattle.esm_world.specs.Jobs.{Reacts}

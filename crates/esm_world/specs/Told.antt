@@ -14,7 +14,7 @@ use Rattle.esm_loads.specs.Host.{Host}
 use Rattle.esm_loads.specs.Owed.{OwesPromises}
 use Rattle.esm_loads.specs.Arrival.{AnswersNext}
 use Rattle.esm_loads.specs.Laws.{IsOrderly}
-use Rattle.esm_body.specs.State.{Standing}
+use Rattle.esm_rewriting.specs.State.{Standing}
 use Rattle.esm_world.specs.World.{World, opening, stopped, host_of, with_host}
 use Rattle.esm_world.specs.Layers.{with_promises}
 use Rattle.esm_world.specs.Jobs.{Reacts}

@@ -3,7 +3,7 @@ use Rattle.std.specs.Prelude.{true, [], ◌∷◌, ◌++◌, codes}
 use Rattle.esm_base.specs.declared.status.Status.TheVariants as statuses
 use Rattle.esm_base.specs.Urls.{Text}
 use Rattle.esm_import_map.specs.ImportMap.{no_maps}
-use Rattle.esm_body.specs.State.{Begins, Ends}
+use Rattle.esm_rewriting.specs.State.{Begins, Ends}
 use Rattle.esm_world.specs.Run.{StandardRun}
 use Rattle.esm_world.specs.Examples.{main_url, b_url, cycle_main, printing_b, ended, line}
 use Rattle.esm_loads.specs.LoadsView.{every_form}

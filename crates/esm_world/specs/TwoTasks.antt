@@ -2,7 +2,7 @@
 use Rattle.std.specs.Prelude.{[], ◌∷◌, codes}
 use Rattle.esm_base.specs.declared.status.Status.TheVariants as statuses
 use Rattle.esm_tree.specs.Syntax as x
-use Rattle.esm_body.specs.State.{Begins, Ends}
+use Rattle.esm_rewriting.specs.State.{Begins, Ends}
 use Rattle.esm_ast.specs.Deliveries.{Delivery}
 use Rattle.esm_world.specs.Examples.{Run, ended, file, line, main_url, b_url, printing_b}
 

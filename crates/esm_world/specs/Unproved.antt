@@ -6,7 +6,7 @@ use Rattle.esm_tree.specs.Syntax.{Item}
 use Rattle.esm_import_map.specs.ImportMap.{Maps}
 use Rattle.esm_realm.specs.Reach.{Reaches}
 use Rattle.esm_loads.specs.Loading.{targets}
-use Rattle.esm_body.specs.State.{Event, Begins, Ends}
+use Rattle.esm_rewriting.specs.State.{Event, Begins, Ends}
 use Rattle.esm_world.specs.World.{World, opening, stopped}
 use Rattle.esm_world.specs.Run.{Runs, Shown, StandardRun}
 use Rattle.esm_ast.specs.Deliveries.{Delivery, Files, AreOfFiles}

@@ -16,7 +16,7 @@ use Rattle.esm_loads.specs.Loading.{Loading, targets, body}
 use Rattle.esm_loads.specs.LoadsView.{url_at}
 use Rattle.esm_loads.specs.Host.{Host, opening_host}
 use Rattle.esm_eval.specs.Nodes.{Node, untouched}
-use Rattle.esm_body.specs.State.{Engine, State, opening_engine}
+use Rattle.esm_rewriting.specs.State.{Engine, State, opening_engine}
 
 -- own: how far the entry has come
 pub data EntryState : Type 0 where

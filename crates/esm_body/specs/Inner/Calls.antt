@@ -1,19 +1,14 @@
--- What remains of a function that is called, and of a body that starts.
-use Rattle.std.specs.Prelude.{◌≡◌, ◌<◌, ℕ, Bool, List, [], ◌∷◌, ◌++◌, length, Option, Some, None, Result, Ok, Err}
+-- What remains of a body that starts.
+use Rattle.std.specs.Prelude.{◌≡◌, ◌<◌, ℕ, Bool, List, [], ◌∷◌, ◌++◌, length, Option, Some, None}
 use Rattle.std.specs.Arc.{arc_value}
 use Rattle.std.specs.Borrow.{Bor}
-use Rattle.esm_base.specs.declared.memory.Memory.{Memory}
 use Rattle.esm_tree.specs.Syntax.{Parts, Stmts, nothing}
 use Rattle.esm_tree.specs.Syntax as x
 use Rattle.esm_tree.specs.Syntax.{Stmt as Statement}
 use Rattle.esm_tree.specs.Flat.{stmt_part, stmt_parts, AllStmtsBelow}
 use Rattle.esm_tree.specs.declared.node.StmtId.{StmtId}
-use Rattle.esm_values.specs.Value.{Undefined}
 use Rattle.esm_values.specs.Code.{CodeValue, numbered}
-use Rattle.esm_env.specs.Declarations.{FunctionCode, function_at}
-use Rattle.esm_body.specs.Scopes.{call_scope}
-use Rattle.esm_body.specs.Rest.{Rest, end, more, whole, block, branch}
-use Rattle.esm_body.specs.Rest.Part.{In}
+use Rattle.esm_rewriting.specs.Rest.{Rest, more, block, branch}
 use Rattle.esm_body.specs.Inner.Stack.{levels_rest}
 use Rattle.esm_body.specs.Code.{AreLevels}
 use Rattle.esm_body.specs.declared.work.Activation.{Activation}
@@ -21,11 +16,6 @@ use Rattle.esm_body.specs.declared.work.Kind.TheVariants as k
 use Rattle.esm_body.specs.declared.work.Level.{Level}
 use Rattle.esm_body.specs.declared.work.Work.{Work}
 use Rattle.esm_body.specs.declared.work.Work.TheVariants as w
-
--- the first of the values, or undefined
-abbrev pub argument_of : List CodeValue → CodeValue
-argument_of [] = Undefined
-argument_of (v ∷ vs) = v
 
 -- there is one level, with this work
 abbrev pub IsOutermost : List Work → List Level → Type 0
@@ -40,16 +30,6 @@ pub record Remains (parts : Parts) (home : ℕ) (left : Rest CodeValue) (a : Act
   pub rest : levels_rest parts.stmts a.levels.items ≡ left
   pub levels : AreLevels (length parts.stmts) a.levels.items
   pub some : 0 < length a.levels.items
-
--- a call of the function: a scope with its parameters, and its body
-abbrev pub IsCallOf : Parts → ℕ → FunctionCode → List CodeValue → Activation → Type 0
-IsCallOf tree at f vs a = Remains tree at (more (In (call_scope Undefined f vs) (whole f.body)) end) a
-
--- the function with this number was called, if there is one
-abbrev pub IsEntered : Parts → ℕ → ℕ → List CodeValue → Result (Option Activation) Memory → Type 0
-IsEntered tree at index vs (Ok (Some a)) = (f : FunctionCode) × (function_at tree.items index ≡ Some f) × IsCallOf tree at f vs a
-IsEntered tree at index vs (Ok None) = function_at tree.items index ≡ None
-IsEntered tree at index vs (Err why) = Unit {0}
 
 -- ---- bodies that start
 

@@ -30,14 +30,14 @@ use Rattle.esm_env.specs.Reading.{IsMemberOf}
 use Rattle.esm_env.specs.Scopes.{Scopes, scope_in, cells_of, read_end_in, defined}
 use Rattle.esm_env.specs.declared.scope.ModuleScope.{ModuleScope}
 use Rattle.esm_env.specs.Faithful.{AreScopesOf}
-use Rattle.esm_body.specs.State.{State, Importing, opening_engine}
-use Rattle.esm_body.specs.Acts.{Displays, DisplaysAll, error_member}
-use Rattle.esm_body.specs.Fits.{IsKnown, AreLinked}
+use Rattle.esm_rewriting.specs.State.{State, Importing, opening_engine}
+use Rattle.esm_rewriting.specs.Acts.{Displays, DisplaysAll, error_member}
+use Rattle.esm_rewriting.specs.Fits.{IsKnown, AreLinked}
 use Rattle.esm_body.specs.Importers.{MayBegin, outer_with}
 use Rattle.esm_body.specs.Inner.Names.{said_out, told_as}
 use Rattle.esm_body.specs.Inner.World.{AllKnown}
-use Rattle.esm_body.specs.declared.log.Stop.{Stop}
-use Rattle.esm_body.specs.declared.log.Stop.TheVariants as stops
+use Rattle.esm_rewriting.specs.declared.stop.Stop.{Stop}
+use Rattle.esm_rewriting.specs.declared.stop.Stop.TheVariants as stops
 
 -- ---- display texts
 

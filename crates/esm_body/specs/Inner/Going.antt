@@ -13,24 +13,24 @@ use Rattle.esm_env.specs.Declarations.{body_of}
 use Rattle.esm_env.specs.Modules.{Modules}
 use Rattle.esm_env.specs.Scopes.{Scopes, scope_in}
 use Rattle.esm_env.specs.declared.scope.ModuleScope.{ModuleScope}
-use Rattle.esm_body.specs.Rest.{Rest, whole, fill_rest}
-use Rattle.esm_body.specs.State.{State, Importing}
-use Rattle.esm_body.specs.Bodies.{given_by, segment_end, body_end}
-use Rattle.esm_body.specs.BodyRewriting.{On}
-use Rattle.esm_body.specs.Segment.{Segment}
-use Rattle.esm_body.specs.Segment.{Ended as ends}
-use Rattle.esm_body.specs.Fits.{FitsRun}
+use Rattle.esm_rewriting.specs.Rest.{Rest, whole, fill_rest}
+use Rattle.esm_rewriting.specs.State.{State, Importing}
+use Rattle.esm_rewriting.specs.Bodies.{given_by, segment_end, body_end}
+use Rattle.esm_rewriting.specs.BodyRewriting.{On}
+use Rattle.esm_rewriting.specs.Segment.{Segment}
+use Rattle.esm_rewriting.specs.Segment.{Ended as ends}
+use Rattle.esm_rewriting.specs.Fits.{FitsRun}
 use Rattle.esm_env.specs.Faithful.{AreScopesOf}
 use Rattle.esm_body.specs.Inner.Calls.{Remains}
-use Rattle.esm_body.specs.Inner.Chains.{Comes}
+use Rattle.esm_rewriting.specs.Chains.{Comes}
 use Rattle.esm_body.specs.Inner.Running.{EndBelongs, IsEnded, ended_of}
 use Rattle.esm_body.specs.Code.{Belongs, standing_rest, IsCode}
 use Rattle.esm_body.specs.Inner.Turn.{SameCode, code_rest, used}
 use Rattle.esm_body.specs.Inner.World.{state_in, with_code}
 use Rattle.esm_body.specs.declared.ends.Halt.{Halt}
 use Rattle.esm_body.specs.declared.inside.Inside.{Inside}
-use Rattle.esm_body.specs.declared.log.Stop.{Stop}
-use Rattle.esm_body.specs.declared.log.Stop.TheVariants as stops
+use Rattle.esm_rewriting.specs.declared.stop.Stop.{Stop}
+use Rattle.esm_rewriting.specs.declared.stop.Stop.TheVariants as stops
 use Rattle.esm_body.specs.declared.segment.Ended.{Ended}
 use Rattle.esm_body.specs.declared.segment.Ended.TheVariants as e
 use Rattle.esm_body.specs.declared.turn.Outcome.{Outcome}

@@ -15,8 +15,8 @@ use Rattle.esm_env.specs.Cells.{Reading, read_value}
 use Rattle.esm_env.specs.Cells.{Reading as reading}
 use Rattle.esm_env.specs.Slots.{valued_by}
 use Rattle.esm_env.specs.Scopes.{Scopes, read_or, read_in}
-use Rattle.esm_body.specs.Scopes.{Scope, in_scopes}
-use Rattle.esm_body.specs.Acts.{not_initialized, not_defined}
+use Rattle.esm_rewriting.specs.Scopes.{Scope, in_scopes}
+use Rattle.esm_rewriting.specs.Acts.{not_initialized, not_defined}
 use Rattle.esm_body.specs.declared.names.Found.{Found}
 use Rattle.esm_body.specs.declared.names.Found.TheVariants as found
 use Rattle.esm_body.specs.declared.work.Slot.{Slot}

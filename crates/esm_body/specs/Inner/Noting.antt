@@ -9,15 +9,15 @@ use Rattle.esm_promise.specs.Code.{Numbered}
 use Rattle.esm_promise.specs.Promises.{Settled, settle, register, make_fulfilled, next_promise}
 use Rattle.esm_promise.specs.Reactions.{Await}
 use Rattle.esm_values.specs.Value.{Value}
-use Rattle.esm_body.specs.Bodies.{await_on, take_standing}
+use Rattle.esm_rewriting.specs.Bodies.{await_on, take_standing}
 use Rattle.esm_body.specs.View.{standing_of}
 use Rattle.esm_body.specs.Inner.Log.{AddedLine}
 use Rattle.esm_body.specs.declared.engine.Engine.{Engine}
 use Rattle.esm_body.specs.declared.engine.Event.{Event}
 use Rattle.esm_body.specs.declared.engine.Event.TheVariants as events
 use Rattle.esm_body.specs.declared.log.Log.{Log}
-use Rattle.esm_body.specs.declared.log.Stop.{Stop}
-use Rattle.esm_body.specs.declared.log.Stop.TheVariants as stops
+use Rattle.esm_rewriting.specs.declared.stop.Stop.{Stop}
+use Rattle.esm_rewriting.specs.declared.stop.Stop.TheVariants as stops
 use Rattle.esm_body.specs.declared.work.Standing.{Standing}
 
 -- ---- events

@@ -1,7 +1,6 @@
 -- What the levels of an activation stand for, and what becomes of them.
 use Rattle.esm_tree.specs.declared.node.StmtId.{StmtId}
 use Rattle.std.specs.Prelude.{◌≡◌, ◌<◌, ◌≤◌, length, ℕ, List, [], ◌∷◌, ◌++◌, Option, Some, None, Result, Ok, Err}
-use Rattle.std.specs.Arc.{arc_value}
 use Rattle.std.specs.Borrow.{Bor}
 use Rattle.esm_tree.specs.Syntax as x
 use Rattle.esm_tree.specs.Syntax.{Bindings, Stmt as Statement, Stmts, nothing}
@@ -9,22 +8,20 @@ use Rattle.esm_tree.specs.Flat.{stmt_part, stmt_of, need_of, IsStmtBelow}
 use Rattle.esm_tree.specs.declared.node.StmtNode.{StmtNode}
 use Rattle.esm_values.specs.Code.{CodeValue, value_of}
 use Rattle.esm_expr_eval.specs.Machine.{rest_of}
-use Rattle.esm_body.specs.Scopes.{Scope}
-use Rattle.esm_body.specs.Rest.{Part, Rest, end, more}
-use Rattle.esm_body.specs.Rest.{Part as parts}
-use Rattle.esm_body.specs.Segment.{Active}
-use Rattle.esm_body.specs.Code.{name_in, bound_name, scope_of_level, use_of, awaited_by, part_of, in_front, trying, context_by, contexts_of, innermost, in_front_of, IsWork, AreLevels}
-use Rattle.esm_body.specs.Contexts.{caught_in, surrounded}
+use Rattle.esm_rewriting.specs.Scopes.{Scope}
+use Rattle.esm_rewriting.specs.Rest.{Part, Rest, end, more}
+use Rattle.esm_rewriting.specs.Rest.{Part as parts}
+use Rattle.esm_body.specs.Code.{name_in, bound_name, scope_of_level, use_of, awaited_by, part_of, in_front, trying, context_by, contexts_of, innermost, IsWork, AreLevels}
+use Rattle.esm_rewriting.specs.Contexts.{caught_in, surrounded}
 use Rattle.esm_base.specs.declared.limits.Limit.{Limit}
 use Rattle.esm_values.specs.declared.value.Value.{Value}
 use Rattle.esm_values.specs.Plans.Rewritten.{Goes, Leaves}
-use Rattle.esm_body.specs.BodyRewriting.{On}
-use Rattle.esm_body.specs.declared.log.Stop.{Stop}
+use Rattle.esm_rewriting.specs.BodyRewriting.{On}
+use Rattle.esm_base.specs.declared.memory.Memory.{Memory}
 use Rattle.esm_body.specs.declared.work.Work.{Work}
 use Rattle.esm_body.specs.declared.work.Kind.{Kind}
 use Rattle.esm_body.specs.declared.work.Kind.TheVariants as k
 use Rattle.esm_body.specs.declared.work.Level.{Level}
-use Rattle.esm_body.specs.declared.work.Caller.{Caller}
 use Rattle.esm_body.specs.declared.work.Doing.{Doing}
 
 -- the scopes round the code, the innermost first. The outermost level has none
@@ -61,13 +58,6 @@ AreNamed stmts id bs = (n : ℕ) → bound_name (stmt_part stmts id) n ≡ name_
 abbrev pub doing_part : List Statement → Doing → Part CodeValue
 doing_part stmts d = parts.Does (awaited_by stmts d.awaits (use_of stmts d.purpose)) (rest_of d.frame)
 
--- a caller, whose call has no value yet
-abbrev pub caller_of : Caller → Active ℕ
-caller_of c = record {
-  at = c.body.at.0;
-  rest = in_front_of c.body (doing_part (arc_value c.body.tree).stmts c.doing);
-}
-
 -- what remains has become this, in what is round the innermost level
 abbrev pub Becomes : List Statement → List Level → List Level → Rest CodeValue → Type 0
 Becomes stmts old new r = levels_rest stmts new ≡ surrounded (contexts_of stmts old) r
@@ -98,7 +88,7 @@ pub record IsLeft (stmts : List Statement) (old : List Level) (kind : Kind) (new
   pub some : 0 < length new
 
 -- a throw leads to the handler, which has begun, or out with the value
-abbrev pub IsCaught : List Statement → List Level → Value → Result (Option Value) Stop → List Level → Type 0
+abbrev pub IsCaught : List Statement → List Level → Value → Result (Option Value) Memory → List Level → Type 0
 IsCaught stmts old v (Ok None) new = caught_in {S = Limit} (contexts_of stmts old) (value_of v) ≡ On (Goes (levels_rest stmts new))
 IsCaught stmts old v (Ok (Some u)) new = (caught_in {S = Limit} (contexts_of stmts old) (value_of v) ≡ On (Leaves (value_of v))) × (u ≡ v)
 IsCaught stmts old v (Err why) new = Unit {0}
@@ -118,7 +108,7 @@ told_name None = None
 told_name (Some r) = Some r.now
 
 -- the handler of this statement has begun, as that of a `try` round the innermost level
-abbrev pub IsHandled : List Statement → List Level → Statement → CodeValue → Result (Unit {0}) Stop → List Level → Type 0
+abbrev pub IsHandled : List Statement → List Level → Statement → CodeValue → Result (Unit {0}) Memory → List Level → Type 0
 IsHandled stmts old s v (Ok u) new = (scope : Scope CodeValue)
     → caught_in {S = Limit} (trying stmts s scope (innermost stmts old) ∷ contexts_of stmts old) v
     ≡ On (Goes (levels_rest stmts new))

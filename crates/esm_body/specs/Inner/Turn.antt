@@ -12,20 +12,20 @@ use Rattle.esm_expr_eval.specs.Machine.{rest_of, IsSound, with_given}
 use Rattle.esm_promise.specs.Outer.{Outer}
 use Rattle.esm_env.specs.Calls.{scopes_of}
 use Rattle.esm_env.specs.Modules.{Modules}
-use Rattle.esm_body.specs.Rest.{Rest, end}
-use Rattle.esm_body.specs.Rest.{Part as parts}
-use Rattle.esm_body.specs.State.{Importing}
-use Rattle.esm_body.specs.BodyRewriting.{RewrittenBody, On, Gives, Waits}
-use Rattle.esm_body.specs.Fits.{Kind, HoldsRest, FitsState, Knows}
-use Rattle.esm_body.specs.Inner.Chains.{Turns}
-use Rattle.esm_body.specs.Contexts.{Context, caught_in}
+use Rattle.esm_rewriting.specs.Rest.{Rest, end}
+use Rattle.esm_rewriting.specs.Rest.{Part as parts}
+use Rattle.esm_rewriting.specs.State.{Importing}
+use Rattle.esm_rewriting.specs.BodyRewriting.{RewrittenBody, On, Gives, Waits}
+use Rattle.esm_rewriting.specs.Fits.{Kind, HoldsRest, FitsState, Knows}
+use Rattle.esm_rewriting.specs.Chains.{Turns}
+use Rattle.esm_rewriting.specs.Contexts.{Context, caught_in}
 use Rattle.esm_body.specs.SameScopes.{HaveSameScopes}
-use Rattle.esm_body.specs.Sets.{IsNameOf, SetsRest}
+use Rattle.esm_rewriting.specs.Sets.{IsNameOf, SetsRest}
 use Rattle.esm_body.specs.Inner.Stack.{levels_rest, doing_part}
 use Rattle.esm_body.specs.Code.{contexts_of, in_front_of, standing_rest, use_of, awaited_by, IsCode, IsUse}
 use Rattle.esm_body.specs.Inner.World.{state_in, HasScopes, with_code}
-use Rattle.esm_body.specs.declared.log.Stop.{Stop}
-use Rattle.esm_body.specs.declared.log.Stop.TheVariants as stops
+use Rattle.esm_rewriting.specs.declared.stop.Stop.{Stop}
+use Rattle.esm_rewriting.specs.declared.stop.Stop.TheVariants as stops
 use Rattle.esm_body.specs.declared.inside.Inside.{Inside}
 use Rattle.esm_body.specs.declared.turn.Outcome.{Outcome}
 use Rattle.esm_body.specs.declared.turn.Outcome.TheVariants as o

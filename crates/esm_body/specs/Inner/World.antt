@@ -8,13 +8,13 @@ use Rattle.esm_promise.specs.Outer.{Outer}
 use Rattle.esm_env.specs.Modules.{Modules}
 use Rattle.esm_env.specs.Calls.{scopes_of}
 use Rattle.esm_env.specs.Faithful.{AreScopesOf}
-use Rattle.esm_body.specs.State.{State, Importing}
-use Rattle.esm_body.specs.Acts.{Inner, Performs}
-use Rattle.esm_body.specs.Fits.{FitsState, HoldScopes, Knows}
+use Rattle.esm_rewriting.specs.State.{State, Importing}
+use Rattle.esm_rewriting.specs.Acts.{Inner, Performs}
+use Rattle.esm_rewriting.specs.Fits.{FitsState, HoldScopes, Knows}
 use Rattle.esm_body.specs.View.{state_of}
 use Rattle.esm_body.specs.Inner.Stack.{scopes_round}
-use Rattle.esm_body.specs.declared.log.Stop.{Stop}
-use Rattle.esm_body.specs.declared.log.Stop.TheVariants as stops
+use Rattle.esm_rewriting.specs.declared.stop.Stop.{Stop}
+use Rattle.esm_rewriting.specs.declared.stop.Stop.TheVariants as stops
 use Rattle.esm_body.specs.declared.inside.Inside.{Inside}
 use Rattle.esm_body.specs.declared.work.Activation.{Activation}
 

@@ -16,9 +16,9 @@ use Rattle.esm_env.specs.Scopes.{Scopes, own_cell, wrote_set}
 use Rattle.esm_env.specs.declared.scope.Wrote.{Wrote}
 use Rattle.esm_env.specs.declared.scope.Wrote.TheVariants as wrote
 use Rattle.esm_body.specs.SameScopes.{HaveSameScopes}
-use Rattle.esm_body.specs.Scopes.{Scope, in_scopes, set_in, set_in_scopes}
-use Rattle.esm_body.specs.State.{Importing}
-use Rattle.esm_body.specs.Acts.{set_name, write_name, not_initialized, not_defined, is_constant}
+use Rattle.esm_rewriting.specs.Scopes.{Scope, in_scopes, set_in, set_in_scopes}
+use Rattle.esm_rewriting.specs.State.{Importing}
+use Rattle.esm_rewriting.specs.Acts.{set_name, write_name, not_initialized, not_defined, is_constant}
 use Rattle.esm_body.specs.Inner.Stack.{scopes_round}
 use Rattle.esm_body.specs.Inner.Names.{place_at}
 use Rattle.esm_body.specs.Inner.World.{inner_of, HasScopes}

@@ -1,5 +1,5 @@
 -- The first table keeps the rule, and what is known of the last one.
-use Rattle.std.proofs.Common.{◌≡◌, ℕ, zero, suc, ◌<◌, ◌≢◌, false, List, [], ◌∷◌, length, get_or, sym, refl, ap, ◌∙◌, subst, inl, ⊎_elim, arith, Option, Some, None}
+use Rattle.std.proofs.Common.{◌≡◌, ℕ, zero, suc, ◌<◌, ◌≢◌, false, List, [], ◌∷◌, length, get_or, sym, refl, ap, ◌∙◌, subst, inl, ⊎_elim, arith, Option, Some}
 use mathlib.Core.Logic.{dite}
 use mathlib.Core.Option.{some, some-injective, some-ne-none}
 use native.Mathlib.Decide.{ℕ_discrete}

@@ -8,7 +8,6 @@ use Rattle.atomic_table.specs.Table.{State}
 use Rattle.esm_hlock.specs.declared.view.View.{View}
 use Rattle.esm_hlock.specs.Makers.{times, is_maker, enlisted, names, Continues, number_after, numbers_after, MayMake, IsStep}
 use Rattle.esm_hlock.specs.Rule.{Kept, total}
-use Rattle.esm_hlock.specs.Views.{HasAllMakers}
 use Rattle.esm_hlock.proofs.Basics.Lists.{drop_all, total_at, total_two}
 use Rattle.esm_hlock.proofs.Basics.Counts.{times_self, times_other, names_at_most_one, names_other, names_own}
 
@@ -24,12 +23,6 @@ module _ {E : Type 0} (maker : E → Option ℕ) where
     is ∙ (ap (λ l. l ++ e ∷ []) at ∙ append_assoc seen rest (e ∷ [])),
     λ k mine. names_other maker k rest e (other k mine) ∙ none k mine,
   )
-
-  -- a number that a seat with all shares doesn't list is no maker's yet
-  pub is_new : (v : View E) (k : ℕ) → HasAllMakers maker v → v.shares ≡ 1024 → times k v.numbers ≡ 0 → names maker k v.seen ≡ 0
-  is_new v k all whole none = dite (ℕ_discrete (names maker k v.seen) 1)
-      (λ one. let h = all whole k one in absurd (omega arith))
-      (λ ne. let b = names_at_most_one maker k v.seen in omega arith)
 
   -- where no entry was added, number and numbers are what they were
   number_nil : (n : Option ℕ) → number_after maker n [] ≡ n

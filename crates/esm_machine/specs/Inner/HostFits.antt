@@ -13,8 +13,8 @@ use Rattle.esm_loads.specs.ImportCall.{Imports, BeginsImport}
 use Rattle.esm_loads.specs.ImportCall.Imports.{limit, unresolved, asks, answers}
 use Rattle.esm_loads.proofs.HasLoad.{has_load}
 use Rattle.esm_loads.proofs.Orderly.{stays_orderly, only_grows}
-use Rattle.esm_body.specs.Bodies.{await_on, given_by}
-use Rattle.esm_body.specs.Fits.{IsKnown}
+use Rattle.esm_rewriting.specs.Bodies.{await_on, given_by}
+use Rattle.esm_rewriting.specs.Fits.{IsKnown}
 use Rattle.esm_world.specs.World.{modules_in}
 use Rattle.esm_world.specs.Fits.{AreModules, FitPromises, FitSettled, FitsHost}
 use Rattle.esm_world.proofs.FitBodies.{known_in, known_out, fit_answered}

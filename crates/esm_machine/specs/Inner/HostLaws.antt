@@ -22,10 +22,10 @@ use Rattle.esm_loads.proofs.Orderly.{only_grows}
 use Rattle.esm_link.specs.Link.{targets, targets_from}
 use Rattle.esm_eval.specs.Nodes.{Call, CallAnswer, Start, Run, module_of}
 use Rattle.esm_eval.specs.Host.{BeginsItsOwn, LeavesModules, Outside, StaysFit}
-use Rattle.esm_body.specs.Fits.{IsKnown}
-use Rattle.esm_body.specs.Keeps.{started}
-use Rattle.esm_body.specs.State.{Engine, has_begun}
-use Rattle.esm_body.proofs.BodyKeeps.{Imported, bodies_begin, starts_body_begins, starts_body_keeps, runs_body_begins, runs_body_keeps}
+use Rattle.esm_rewriting.specs.Fits.{IsKnown}
+use Rattle.esm_rewriting.specs.Keeps.{started}
+use Rattle.esm_rewriting.specs.State.{Engine, has_begun}
+use Rattle.esm_rewriting.proofs.BodyKeeps.{Imported, bodies_begin, starts_body_begins, starts_body_keeps, runs_body_begins, runs_body_keeps}
 use Rattle.esm_loads.specs.LoadsView.{url_at}
 use Rattle.esm_world.specs.Fits.{FitsHost}
 use Rattle.esm_world.proofs.FitLists.{made}

@@ -10,7 +10,7 @@ use Rattle.esm_realm.specs.Sound.{RecordParts, url_of}
 use Rattle.esm_resolve.specs.Graph.{IsReached, AreAllSound}
 use Rattle.esm_values.specs.Numbering.{numbering}
 use Rattle.esm_link.specs.Realm.{is_linked}
-use Rattle.esm_body.specs.Fits.{AreLinked}
+use Rattle.esm_rewriting.specs.Fits.{AreLinked}
 use Rattle.esm_body.specs.Importers.{HasLinked}
 use Rattle.esm_machine.specs.Seen.{names, modules, linked}
 use Rattle.esm_machine.specs.ModuleStore.{Imported, linked_urls, known_linked, seen_of, size_by, loaded_or, or_itself, target_of, graph_of, urls_by_id, ImportsAreThere}

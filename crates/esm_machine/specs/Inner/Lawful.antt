@@ -23,8 +23,8 @@ use Rattle.esm_loads.specs.ImportCall.{BeginsImport}
 use Rattle.esm_loads.specs.Laws.{Grows}
 use Rattle.esm_loads.proofs.Orderly.{only_grows}
 use Rattle.esm_loads.proofs.OneLoad.{one_load}
-use Rattle.esm_body.specs.Bodies.{await_on, given_by}
-use Rattle.esm_body.specs.Fits.{AreLinked, IsKnown}
+use Rattle.esm_rewriting.specs.Bodies.{await_on, given_by}
+use Rattle.esm_rewriting.specs.Fits.{AreLinked, IsKnown}
 use Rattle.esm_world.specs.World.{modules_in}
 use Rattle.esm_loads.specs.LoadsView.{url_at}
 use Rattle.esm_world.specs.Fits.{AreModules, FitPromises, FitsHost}

@@ -22,7 +22,6 @@ use Rattle.esm_link.specs.Realm.{fault_of}
 use Rattle.esm_link.specs.declared.LinkFault.{LinkFault}
 use Rattle.esm_eval.specs.Evaluate.{Evaluates}
 use Rattle.esm_world.specs.World.{World, stopped, host_of, with_host}
-use Rattle.esm_world.specs.Layers as layers
 use Rattle.esm_world.specs.Layers.{CallsForBody, evaluation, LinksTo, with_linked}
 use Rattle.esm_world.specs.Jobs.{Reacts, Jobs, IsJob, EvaluatesLoad, LinksLoad, link_failed, new_error}
 use Rattle.esm_world.specs.Turn.{fetched}

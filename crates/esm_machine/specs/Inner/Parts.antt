@@ -19,8 +19,8 @@ use Rattle.esm_eval.specs.Table.{Table, size, with_one}
 use Rattle.esm_eval.specs.declared.host.EvalHost.{EvalHost}
 use Rattle.esm_base.specs.declared.limits.Limit.{Limit}
 use Rattle.esm_body.specs.Engines.{TakesBodies, AreStanding}
-use Rattle.esm_body.specs.Fits.{IsKnown}
-use Rattle.esm_body.specs.State.{has_begun}
+use Rattle.esm_rewriting.specs.Fits.{IsKnown}
+use Rattle.esm_rewriting.specs.State.{has_begun}
 use Rattle.esm_world.specs.World.{World}
 use Rattle.esm_world.specs.Sound.{TakesCalls, IsSound, MayReact}
 use Rattle.esm_machine.specs.Seen.{Seen, HaveIds, names, modules, linked, Fits, BeginsById}
@@ -31,7 +31,6 @@ use Rattle.esm_machine.specs.Represents.{IsLive}
 use Rattle.esm_machine.specs.SeenScopes.{AreScopesIn}
 use Rattle.esm_machine.specs.declared.host.BodyHost.{BodyHost}
 use Rattle.esm_machine.specs.declared.parts.Parts.{Parts}
-use Rattle.esm_machine.specs.declared.parts.EntryState.TheVariants as states
 
 -- ---- the host of bodies
 

@@ -7,7 +7,7 @@ use Rattle.esm_promise.specs.Promises.{Settled, Fulfilled, Rejected, Pending, Do
 use Rattle.esm_promise.specs.Reactions.{Reaction, Await, BodyEnd, Loaded, Evaluated, EntryLoaded, EntryDone}
 use Rattle.esm_promise.specs.Renaming.{renamed_reaction, renamed_settled, renamed_promise, renamed_job, renamed}
 use Rattle.esm_promise.proofs.Renamed.{follows_names}
-use Rattle.esm_body.specs.Bodies.{await_on}
+use Rattle.esm_rewriting.specs.Bodies.{await_on}
 
 back : {A B : Type 0} (f : A → B) (g : B → A) → ((x : A) → g (f x) ≡ x) → (xs : List A) → map g (map f xs) ≡ xs
 back f g h [] = refl

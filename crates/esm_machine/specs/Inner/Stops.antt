@@ -1,8 +1,8 @@
 -- The same refusals, as each layer knows them.
 use Rattle.esm_base.specs.declared.limits.Limit.{Limit}
 use Rattle.esm_base.specs.declared.end.End.TheVariants as ends
-use Rattle.esm_body.specs.declared.log.Stop.{Stop}
-use Rattle.esm_body.specs.declared.log.Stop.TheVariants as stops
+use Rattle.esm_rewriting.specs.declared.stop.Stop.{Stop}
+use Rattle.esm_rewriting.specs.declared.stop.Stop.TheVariants as stops
 use Rattle.esm_eval.specs.declared.walk.EvalEnd.{EvalEnd}
 use Rattle.esm_eval.specs.declared.walk.EvalEnd.TheVariants as eval_ends
 use Rattle.esm_machine.specs.Represents.{TurnEnd}

@@ -1,7 +1,6 @@
 -- How far the calling thread has come: what it has asked of the module map, and what it has taken.
-use Rattle.std.specs.Prelude.{◌≡◌, ℕ, ◌==◌, Bool, true, List, [], ◌∷◌, map, Option, Some, None, All, Result, Ok, Err, slice_get, position, remove}
+use Rattle.std.specs.Prelude.{◌≡◌, ℕ, ◌+◌, ◌==◌, Bool, true, List, [], ◌∷◌, ◌++◌, length, Option, Some, None, All, Result, Ok, Err, slice_get, position, remove}
 use Rattle.std.specs.List.{list_any}
-use Rattle.atomic_table.specs.Seated.{TableId}
 use Rattle.esm_hlock.specs.declared.view.View.{View}
 use Rattle.esm_base.specs.declared.memory.Memory.{Memory}
 use Rattle.esm_base.specs.Urls.{Url, has}
@@ -11,7 +10,6 @@ use Rattle.esm_import_map.specs.ImportMap.{Maps}
 use Rattle.esm_module_map.specs.declared.event.MapEvent.{MapEvent}
 use Rattle.esm_module_map.specs.Replay.{replay}
 use Rattle.esm_module_map.specs.Histories.{IsPostIn, asks_by, takes_by, answers_by}
-use Rattle.esm_module_map.specs.Views.{view_in, table_of}
 use Rattle.esm_fetch.specs.declared.posted.Posted.{Posted}
 use Rattle.esm_fetch.specs.Answered.{Contents}
 use Rattle.esm_fetch.specs.Serving.{weight, Served}
@@ -72,6 +70,14 @@ module _ {G : Type 0} where
   -- the ticket's number has its URL
   abbrev pub HasTicket : List (MapEvent Posted G) → Ticket → Type 0
   HasTicket h ticket = slice_get (replay weight h).urls ticket.number ≡ Some ticket.url
+
+  -- own: further numbers stand behind those that were heard of, and so many more are known: those of the posts from `known` on, in
+  -- their order
+  pub record HearsMore (h : List (MapEvent Posted G)) (known : ℕ) (heard : List ℕ) (known_now : ℕ) (heard_now : List ℕ) : Type 0 where
+    pub more : List ℕ
+    pub behind : heard_now ≡ heard ++ more
+    pub counted : known_now ≡ known + length more
+    pub in_order : (i number : ℕ) → slice_get more i ≡ Some number → slice_get (replay weight h).posts (known + i) ≡ Some number
 
   -- the delivery is what was posted under a number that has its URL
   pub record WasPosted (h : List (MapEvent Posted G)) (delivery : Delivery) : Type 0 where

@@ -2,7 +2,6 @@
 use Rattle.std.proofs.Common.{ℕ, ◌+◌, List, [], ◌∷◌, inl, inr, refl, sym, add-one, arith}
 use Rattle.std.specs.Prelude.{All, Contains}
 use Rattle.std.proofs.lemmas.List.Elements.{All-nil, All-cons}
-use Rattle.esm_specifier.specs.Resolution.{greatest}
 use Rattle.esm_specifier.specs.Laws.{GreatestIs}
 use Rattle.esm_specifier.proofs.Keys.Greatest.{IsIn, greatest_is}
 

@@ -35,15 +35,15 @@ use Rattle.esm_link.specs.Link.{LinksMarks}
 use Rattle.esm_eval.specs.Nodes.{Start}
 use Rattle.esm_eval.specs.BodyEnd.{ReadyAmong, GoOn, Fulfills, finish}
 use Rattle.esm_eval.specs.Evaluate.{Ends, Marks, Leaves, ExecutesAsync, EvaluatesRoot, Walks, keep, enter, close}
-use Rattle.esm_body.specs.Rest.{Rest, end, more, whole}
-use Rattle.esm_body.specs.Rest.Part.{Whole, Does, Stands, In, Tries}
-use Rattle.esm_body.specs.Rest.Use.{Awaits, Drops}
-use Rattle.esm_body.specs.State.{with_promises as state_promises, Begins, Ends as ends_event, add_event, take_steps, add_line}
-use Rattle.esm_body.specs.Acts.{with_promise, with_outer}
-use Rattle.esm_body.specs.BodyRewriting.{On, Waits, RewritesBody}
-use Rattle.esm_body.specs.Segment.{RewritesOutermost, Segment, Awaiting, Ended as ended}
-use Rattle.esm_body.specs.Bodies.{StartsBody, ResumesBody, stand, without_standing}
-use Rattle.esm_body.specs.Scopes.{Scope, named_cell}
+use Rattle.esm_rewriting.specs.Rest.{Rest, end, more, whole}
+use Rattle.esm_rewriting.specs.Rest.Part.{Whole, Does, Stands, In, Tries}
+use Rattle.esm_rewriting.specs.Rest.Use.{Awaits, Drops}
+use Rattle.esm_rewriting.specs.State.{with_promises as state_promises, Begins, Ends as ends_event, add_event, take_steps, add_line}
+use Rattle.esm_rewriting.specs.Acts.{with_promise, with_outer}
+use Rattle.esm_rewriting.specs.BodyRewriting.{On, Waits, RewritesBody}
+use Rattle.esm_rewriting.specs.Segment.{RewritesOutermost, Segment, Awaiting, Ended as ended}
+use Rattle.esm_rewriting.specs.Bodies.{StartsBody, ResumesBody, stand, without_standing}
+use Rattle.esm_rewriting.specs.Scopes.{Scope, named_cell}
 use Rattle.esm_world.specs.World.{World, Ended, opening, modules_in, body_state, with_state, with_host, host_of}
 use Rattle.esm_world.specs.Layers.{CallsForBody, evaluation, with_linked, with_promises}
 use Rattle.esm_world.specs.Jobs.{Jobs, Reacts, LinksLoad, EvaluatesLoad, with_reaction, with_entry_state, settle_promise}

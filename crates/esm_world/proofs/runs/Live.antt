@@ -46,14 +46,14 @@ use Rattle.esm_link.specs.Link.{LinksMarks}
 use Rattle.esm_eval.specs.Nodes.{Run}
 use Rattle.esm_eval.specs.Evaluate.{Ends, Marks, Leaves, EvaluatesRoot, Walks, keep, enter, close}
 use Rattle.esm_eval.specs.Evaluate.{Executes as executes}
-use Rattle.esm_body.specs.Rest.{Rest, end, more}
-use Rattle.esm_body.specs.Rest.Part.{Whole, Does, In}
-use Rattle.esm_body.specs.Rest.Use.{Drops, Sets, Writes}
-use Rattle.esm_body.specs.State.{Begins, Ends as ends_event, add_event, take_steps, add_line}
-use Rattle.esm_body.specs.BodyRewriting.{On, RewritesBody}
-use Rattle.esm_body.specs.Segment.{RewritesOutermost, Segment, active}
-use Rattle.esm_body.specs.Segment.{Ended as ended}
-use Rattle.esm_body.specs.Bodies.{RunsBody}
+use Rattle.esm_rewriting.specs.Rest.{Rest, end, more}
+use Rattle.esm_rewriting.specs.Rest.Part.{Whole, Does, In}
+use Rattle.esm_rewriting.specs.Rest.Use.{Drops, Sets, Writes}
+use Rattle.esm_rewriting.specs.State.{Begins, Ends as ends_event, add_event, take_steps, add_line}
+use Rattle.esm_rewriting.specs.BodyRewriting.{On, RewritesBody}
+use Rattle.esm_rewriting.specs.Segment.{RewritesOutermost, Segment, active}
+use Rattle.esm_rewriting.specs.Segment.{Ended as ended}
+use Rattle.esm_rewriting.specs.Bodies.{RunsBody}
 use Rattle.esm_world.specs.World.{World, Ended, opening, modules_in, body_state, with_state, with_host, host_of}
 use Rattle.esm_world.specs.Layers.{CallsForBody, evaluation, with_linked, with_promises}
 use Rattle.esm_world.specs.Jobs.{Jobs, Reacts, LinksLoad, EvaluatesLoad, with_reaction, with_entry_state, settle_promise}

@@ -21,13 +21,13 @@ use Rattle.esm_expr_eval.specs.Rewriting.{Rewrites, AreValues}
 use Rattle.esm_loads.specs.UrlTable.{TableEntry, Module, put_at}
 use Rattle.esm_loads.specs.Loading.{Loading}
 use Rattle.esm_loads.specs.ImportCall.{BeginsImport}
-use Rattle.esm_body.specs.Rest.{Rest, more}
-use Rattle.esm_body.specs.Rest.Part.{Whole, Does}
-use Rattle.esm_body.specs.Rest.Use.{Drops}
-use Rattle.esm_body.specs.State.{State, take_steps, add_line}
-use Rattle.esm_body.specs.Acts.{over_scopes}
-use Rattle.esm_body.specs.BodyRewriting.{On, RewritesBody}
-use Rattle.esm_body.specs.Segment.{Active, Ended, Segment}
+use Rattle.esm_rewriting.specs.Rest.{Rest, more}
+use Rattle.esm_rewriting.specs.Rest.Part.{Whole, Does}
+use Rattle.esm_rewriting.specs.Rest.Use.{Drops}
+use Rattle.esm_rewriting.specs.State.{State, take_steps, add_line}
+use Rattle.esm_rewriting.specs.Acts.{over_scopes}
+use Rattle.esm_rewriting.specs.BodyRewriting.{On, RewritesBody}
+use Rattle.esm_rewriting.specs.Segment.{Active, Ended, Segment}
 use Rattle.std.specs.Prelude.{unwrap_or}
 use Rattle.esm_base.specs.declared.module_id.ModuleId.{ModuleId}
 use Rattle.esm_resolve.specs.Graph.{Graph}

@@ -25,12 +25,12 @@ use Rattle.esm_link.specs.Link.{LinksMarks}
 use Rattle.esm_eval.specs.Nodes.{Run}
 use Rattle.esm_eval.specs.Evaluate.{Ends, Marks, Leaves, EvaluatesRoot, Walks, keep, enter, close}
 use Rattle.esm_eval.specs.Evaluate.{Executes as executes}
-use Rattle.esm_body.specs.Rest.{end, more}
-use Rattle.esm_body.specs.Rest.Part.{Whole}
-use Rattle.esm_body.specs.State.{Begins, Ends as ends_event, add_event, add_line, take_steps}
-use Rattle.esm_body.specs.Segment.{Segment}
-use Rattle.esm_body.specs.Segment.{Ended as ended}
-use Rattle.esm_body.specs.Bodies.{RunsBody}
+use Rattle.esm_rewriting.specs.Rest.{end, more}
+use Rattle.esm_rewriting.specs.Rest.Part.{Whole}
+use Rattle.esm_rewriting.specs.State.{Begins, Ends as ends_event, add_event, add_line, take_steps}
+use Rattle.esm_rewriting.specs.Segment.{Segment}
+use Rattle.esm_rewriting.specs.Segment.{Ended as ended}
+use Rattle.esm_rewriting.specs.Bodies.{RunsBody}
 use Rattle.esm_world.specs.World.{World, Ended, opening, body_state, with_state, with_host, host_of}
 use Rattle.esm_world.specs.Layers.{CallsForBody, evaluation, with_linked, with_promises}
 use Rattle.esm_world.specs.Jobs.{Jobs, Reacts, LinksLoad, EvaluatesLoad, with_reaction, with_entry_state, settle_promise}

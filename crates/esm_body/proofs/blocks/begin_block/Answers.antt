@@ -2,7 +2,7 @@ use Rattle.std.proofs.Common.{refl, ap, ◌∙◌, length}
 use Rattle.esm_tree.specs.Flat.{stmt_parts}
 use Rattle.std.specs.Arc.{arc_value}
 use Rattle.esm_body.specs.Slots.{scope_of_slots}
-use Rattle.esm_body.specs.Contexts.{placed, surrounded}
+use Rattle.esm_rewriting.specs.Contexts.{placed, surrounded}
 use Rattle.esm_body.specs.Code.{contexts_of, context_by, innermost}
 use Rattle.esm_body.specs.declared.work.Level.{Level}
 use Rattle.esm_body.proofs.Levels.{begun, levels_push, slots_scope, push_some}

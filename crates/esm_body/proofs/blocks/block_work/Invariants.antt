@@ -1,7 +1,7 @@
 use Rattle.std.proofs.Common.{◌≡◌, ℕ, List, drop}
 use Rattle.esm_tree.specs.Syntax.{Stmt}
 use Rattle.esm_tree.specs.Flat.{stmt_parts, AllStmtsBelow}
-use Rattle.esm_body.specs.Rest.{end, whole}
+use Rattle.esm_rewriting.specs.Rest.{end, whole}
 use Rattle.esm_body.specs.Code.{in_front, AreWork}
 use Rattle.esm_body.proofs.blocks.block_work.Given as goal
 

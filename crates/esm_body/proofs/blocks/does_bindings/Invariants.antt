@@ -3,7 +3,7 @@ use Rattle.std.specs.Arc.{arc_value}
 use Rattle.esm_tree.specs.Syntax.{Stmt}
 use Rattle.esm_tree.specs.Flat.{bindings_of}
 use Rattle.esm_values.specs.Code.{numbered}
-use Rattle.esm_body.specs.Rest.{does_bindings}
+use Rattle.esm_rewriting.specs.Rest.{does_bindings}
 use Rattle.esm_body.specs.Inner.Stack.{IsFront, AreNamed}
 use Rattle.esm_body.specs.Code.{innermost, AreLevels}
 use Rattle.esm_body.proofs.blocks.does_bindings.Given as goal

@@ -2,7 +2,7 @@ use Rattle.std.proofs.Common.{◌≡◌, ◌<◌, length}
 use Rattle.std.specs.Arc.{arc_value}
 use Rattle.esm_base.specs.declared.limits.Limit.{Limit}
 use Rattle.esm_values.specs.Code.{value_of}
-use Rattle.esm_body.specs.Contexts.{caught_in}
+use Rattle.esm_rewriting.specs.Contexts.{caught_in}
 use Rattle.esm_body.specs.Code.{contexts_of, AreLevels}
 use Rattle.esm_body.proofs.catching.catch.Given as goal
 

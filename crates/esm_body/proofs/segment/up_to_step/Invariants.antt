@@ -1,4 +1,5 @@
 use Rattle.esm_resolve.specs.SharedSet.{SharedSetAgrees, SharedSetEnds}
+use Rattle.esm_body.specs.Inner.Running.{HasRows}
 use Rattle.esm_body.proofs.Stepping.{Midway, left_of}
 use Rattle.esm_body.proofs.segment.up_to_step.Given as goal
 
@@ -7,8 +8,9 @@ abbrev pub invariant-loop-next : goal.invariant-loop-next
 invariant-loop-next g l = record {
   agrees : SharedSetAgrees;
   ends : SharedSetEnds;
-  midway : Midway g.I.Importer.seen g.I.Importer.modules g.I.Importer.linked g.I.Importer.fits g.I.Importer.begins l.fn.inside l.fn.place l.fn.callers.items l.inside l.here l.callers.items;
+  rows : HasRows g.I.Importer.seen g.I.Importer.modules g.I.Importer.linked g.I.Importer.fits g.I.Importer.begins l.inside l.functions.rows;
+  midway : Midway g.I.Importer.seen g.I.Importer.modules g.I.Importer.linked g.I.Importer.fits g.I.Importer.begins l.fn.inside l.fn.place l.inside l.here;
 }
 
 abbrev pub decreases-loop-next : goal.decreases-loop-next
-decreases-loop-next g l = left_of l.inside l.here l.callers.items
+decreases-loop-next g l = left_of l.inside l.here

@@ -1,8 +1,8 @@
 use Rattle.std.proofs.Common.{length, ap, ◌∙◌, refl}
 use Rattle.std.specs.Arc.{arc_value}
 use Rattle.esm_env.specs.Declarations.{body_of}
-use Rattle.esm_body.specs.Rest.{whole}
-use Rattle.esm_body.proofs.CallLemmas.{outer_rest, outer_sound, outer_some}
+use Rattle.esm_rewriting.specs.Rest.{whole}
+use Rattle.esm_body.proofs.StartLemmas.{outer_rest, outer_sound, outer_some}
 use Rattle.esm_body.proofs.starts.body.Goals as goal
 
 pub returns-in-Ok-outermost : goal.returns-in-Ok-outermost

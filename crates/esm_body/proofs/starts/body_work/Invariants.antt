@@ -2,7 +2,7 @@ use Rattle.std.proofs.Common.{◌≡◌, ℕ, List, drop}
 use Rattle.esm_tree.specs.Syntax.{Stmt}
 use Rattle.esm_tree.specs.Flat.{items_of, items_need, AllAtMost}
 use Rattle.esm_env.specs.Declarations.{body_of}
-use Rattle.esm_body.specs.Rest.{end, whole}
+use Rattle.esm_rewriting.specs.Rest.{end, whole}
 use Rattle.esm_body.specs.Code.{in_front, AreWork}
 use Rattle.esm_body.proofs.starts.body_work.Given as goal
 

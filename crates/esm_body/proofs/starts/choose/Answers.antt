@@ -2,7 +2,7 @@ use Rattle.std.proofs.Common.{◌≡◌, sym, ◌∙◌}
 use Rattle.std.specs.Arc.{arc_value}
 use Rattle.esm_tree.specs.Flat.{stmt_part}
 use Rattle.esm_body.specs.Inner.Calls.{begun_branch}
-use Rattle.esm_body.specs.Contexts.{surrounded}
+use Rattle.esm_rewriting.specs.Contexts.{surrounded}
 use Rattle.esm_body.specs.Code.{contexts_of, innermost}
 use Rattle.esm_body.proofs.Levels.{below_up, levels_surround}
 use Rattle.esm_body.proofs.starts.choose.Goals as goal

@@ -1,5 +1,5 @@
 use Rattle.std.proofs.Common.{ap, sym}
-use Rattle.esm_body.specs.Rest.{Use as uses}
+use Rattle.esm_rewriting.specs.Rest.{Use as uses}
 use Rattle.esm_body.specs.declared.work.Use.TheVariants as u
 use Rattle.esm_body.proofs.TurnLemmas.{sets_came}
 use Rattle.esm_body.proofs.turn.set.Goals as goal

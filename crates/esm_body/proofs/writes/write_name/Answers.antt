@@ -1,5 +1,5 @@
 use Rattle.std.proofs.Common.{refl}
-use Rattle.esm_body.specs.Scopes.{in_scopes}
+use Rattle.esm_rewriting.specs.Scopes.{in_scopes}
 use Rattle.esm_body.specs.Inner.Stack.{scopes_round}
 use Rattle.esm_body.proofs.NamesWritten.{writes_name, writes_same}
 use Rattle.esm_body.proofs.writes.write_name.Goals as goal

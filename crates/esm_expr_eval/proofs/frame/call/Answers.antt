@@ -1,4 +1,4 @@
-use Rattle.std.proofs.Common.{◌+◌, refl, sym, ap}
+use Rattle.std.proofs.Common.{refl, sym, ap}
 use Rattle.esm_values.specs.Plans.{Follows as follows}
 use Rattle.esm_values.specs.Code.{value_of, values_of}
 use Rattle.esm_values.specs.Operators.{look_of, is_func}

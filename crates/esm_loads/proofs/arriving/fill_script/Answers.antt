@@ -1,9 +1,8 @@
-use Rattle.std.proofs.Common.{ℕ, List, ap, refl, subst, sym, ◌∙◌, ◌++◌, ◌∷◌, [], Ok, Err, map}
+use Rattle.std.proofs.Common.{ap, refl, subst, sym, ◌∙◌, ◌++◌, ◌∷◌, [], Ok, Err, map}
 use Rattle.std.specs.Arc.{arc_value}
 use Rattle.std.proofs.lemmas.List.{map-append}
 use Rattle.esm_tree.specs.Syntax.{Parts}
 use Rattle.std.proofs.lemmas.List.Elements.{All-push}
-use Rattle.esm_tree.specs.Syntax.{Item}
 use Rattle.esm_ast.specs.Entries.{EntryLists}
 use Rattle.esm_ast.specs.Spelled.{AreSpelled}
 use Rattle.esm_ast.specs.Script.{spelled_text}

@@ -1,5 +1,5 @@
 -- The outcome stands in the tables.
-use Rattle.std.proofs.Common.{ap, sym, subst, ◌∙◌, map}
+use Rattle.std.proofs.Common.{ap, sym, subst, ◌∙◌}
 use Rattle.esm_realm.specs.Sound.{records_of}
 use Rattle.esm_ast.specs.Outcome.{outcome_view}
 use Rattle.esm_loads.specs.UrlTable.{found}

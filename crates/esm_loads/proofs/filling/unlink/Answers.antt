@@ -1,5 +1,5 @@
 -- Each module becomes Unlinked in its turn.
-use Rattle.std.proofs.Common.{◌<◌, ◌∙◌, ap, sym, subst, length, arith, true}
+use Rattle.std.proofs.Common.{◌<◌, ◌∙◌, ap, sym, subst, length, arith}
 use Rattle.std.specs.Prelude.{◌||◌, slice_index_or}
 use Rattle.esm_realm.specs.Sound.{records_of}
 use Rattle.esm_loads.specs.LoadsView.{is_in, is_unlinked}

@@ -1,5 +1,5 @@
 -- The record with this id.
-use Rattle.std.proofs.Common.{◌≡◌, ◌≤◌, ◌<◌, ◌∙◌, true, false, ap, sym, arith, rules, length, subst}
+use Rattle.std.proofs.Common.{◌≡◌, ◌<◌, ◌∙◌, true, false, ap, sym, arith, rules, subst}
 use Rattle.esm_realm.specs.ById.{url_by}
 use Rattle.esm_realm.specs.Sound.{parts_of, records_of}
 use Rattle.esm_loads.proofs.Places.{index_get, map_long}

@@ -1,5 +1,5 @@
 use Rattle.std.proofs.Common.{subst, sym}
-use Rattle.std.specs.Prelude.{Ok, Err}
+use Rattle.std.specs.Prelude.{Err}
 use Rattle.esm_promise.specs.Code.{settled_of}
 use Rattle.esm_promise.specs.Reactions.{Await}
 use Rattle.esm_machine.specs.Inner.Leads.{DoesJob}

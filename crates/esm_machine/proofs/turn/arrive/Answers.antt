@@ -1,4 +1,3 @@
-use Rattle.std.proofs.Common.{Ok, Err}
 use Rattle.esm_ast.specs.Outcome.{outcome_view}
 use Rattle.esm_machine.proofs.Arriving.{fetched_sound, leads_fetched, leads_stopped}
 use Rattle.esm_machine.proofs.turn.arrive.Goals as goal

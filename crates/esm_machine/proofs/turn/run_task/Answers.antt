@@ -1,4 +1,3 @@
-use Rattle.std.proofs.Common.{Ok, Err}
 use Rattle.esm_machine.proofs.Answering.{behind_sound, falls_task, leads_task, none_task, stops_task}
 use Rattle.esm_machine.proofs.turn.run_task.Goals as goal
 

@@ -1,4 +1,3 @@
-use Rattle.std.proofs.Common.{Ok, ap}
 use Rattle.esm_machine.proofs.Chains.{tasks_begin, tasks_end, tasks_go_on, tasks_stop}
 use Rattle.esm_machine.proofs.turn.run_tasks.Goals as goal
 

@@ -1,4 +1,3 @@
-use Rattle.std.proofs.Common.{Ok, Err}
 use Rattle.esm_ast.specs.Outcome.{outcome_view}
 use Rattle.esm_machine.proofs.TurnJobs.{turn_goes_on, turn_stops}
 use Rattle.esm_machine.proofs.turn.run_turn.Goals as goal

@@ -1,4 +1,3 @@
-use Rattle.std.proofs.Common.{arith}
 use Rattle.esm_module_map.proofs.Firsts.{taken_firsts, taken_past}
 use Rattle.esm_module_map.proofs.number.taken_up_to.Goals as goal
 

@@ -7,5 +7,5 @@ returns g c = record {
   row = λ s vs. settling.same_row s vs;
   own = λ s vs h. settling.own s vs h;
   room = λ s vs h. settling.same_room s vs h;
-  leads = λ m names w s vs h. settling.leads nat_eq g.I.Importer.modules g.I.Importer.begins m names w s vs h;
+  leads = λ m names w s vs h. settling.leads nat_eq g.I.Imports.modules g.I.Imports.begins m names w s vs h;
 }

@@ -1,7 +1,4 @@
 use Rattle.std.proofs.Common.{sym, subst, refl}
-use Rattle.std.specs.Prelude.{IfSome, is_some}
-use Rattle.esm_machine.specs.Machine.{state_of}
-use Rattle.esm_machine.specs.Represents.{ending_of}
 use Rattle.esm_run.specs.Inner.Generating.{EndsGenerated}
 use Rattle.esm_run.specs.Written.{change_of}
 use Rattle.esm_run.proofs.GeneratedLemmas.{unsummed}

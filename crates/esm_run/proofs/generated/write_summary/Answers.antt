@@ -1,4 +1,4 @@
-use Rattle.std.proofs.Common.{◌≡◌, ◌∙◌, ap, sym, subst, refl, inl, inr}
+use Rattle.std.proofs.Common.{◌∙◌, ap, sym, subst, refl, inl, inr}
 use Rattle.std.specs.Prelude.{Some, is_some}
 use Rattle.esm_gen.specs.Summary.{summary_text}
 use Rattle.esm_machine.specs.Machine.{state_of}

@@ -1,5 +1,5 @@
-use Rattle.std.proofs.Common.{◌≡◌, ◌∙◌, ap, sym, subst, ℕ, inl, arith}
-use Rattle.std.specs.Prelude.{All, Some, Contains}
+use Rattle.std.proofs.Common.{◌≡◌, ◌∙◌, sym, subst, inl}
+use Rattle.std.specs.Prelude.{All}
 use Rattle.std.proofs.lemmas.List.Elements.{All-contains}
 use Rattle.esm_module_map.specs.Views.{view_in}
 use Rattle.esm_module_map.specs.Saying.{Stays}

@@ -1,11 +1,11 @@
-use Rattle.std.proofs.Common.{◌≡◌, ◌≤◌, ◌∙◌, ap, sym, subst, refl, ℕ, inl, arith, length, []}
+use Rattle.std.proofs.Common.{◌∙◌, ap, sym, subst, refl, inl, arith, length}
 use Rattle.std.specs.Prelude.{All}
 use Rattle.std.specs.Arc.{arc_value}
 use Rattle.std.proofs.lemmas.List.Elements.{All-nil}
 use Rattle.esm_module_map.specs.Views.{view_in}
 use Rattle.esm_record.specs.Delivered.{deliveries_of}
 use Rattle.esm_run.specs.Inner.Leading.{HasTicket, IsLed, IsLedShort}
-use Rattle.esm_run.proofs.LeadLemmas.{led_new, short_new, short_of, serves_next, served_next}
+use Rattle.esm_run.proofs.LeadLemmas.{led_new, short_new, serves_next, served_next}
 use Rattle.esm_run.proofs.lead.drive.Goals as goal
 
 pub returns-in_default-clause-served : goal.returns-in_default-clause-served
@@ -21,8 +21,8 @@ loop-init g c = record {
   number = refl;
   holds = refl;
   served = c.requires.served;
-  tickets = subst (All (HasTicket (view_in c.args.caller.now.pass).seen)) (sym c.new-queue.ensures) (All-nil (HasTicket (view_in c.args.caller.now.pass).seen));
-  window = (let e = ap length c.new-queue.ensures in omega (arith, e));
+  tickets = subst (All (HasTicket (view_in c.args.caller.now.pass).seen)) (sym c.new-queue.ensures.0) (All-nil (HasTicket (view_in c.args.caller.now.pass).seen));
+  window = (let e = ap length c.new-queue.ensures.0 in omega (arith, e));
   led = led_new _ _ _ _ _ c.in-Ok.machine _ c.in-Ok.ensures (ap deliveries_of c.requires.nothing) c.requires.unasked;
 }
 

@@ -1,4 +1,4 @@
-use Rattle.std.proofs.Common.{◌≡◌, ◌<◌, ◌∙◌, ap, sym, subst, refl, ℕ, arith, length, slice_set, map}
+use Rattle.std.proofs.Common.{◌∙◌, subst, arith}
 use Rattle.esm_module_map.specs.Views.{view_in}
 use Rattle.esm_module_map.specs.Saying.{ShutSays}
 use Rattle.esm_fetch.specs.Serving.{weight}

@@ -1,8 +1,5 @@
 use Rattle.std.proofs.Common.{◌≤◌, length, subst, sym}
-use Rattle.std.specs.Prelude.{IfSome}
-use Rattle.esm_module_map.specs.Views.{view_in}
-use Rattle.esm_run.specs.Inner.Leading.{IsOpenAsk}
-use Rattle.esm_run.proofs.LeadLemmas.{begins_same, open_standard}
+use Rattle.esm_run.proofs.LeadLemmas.{open_standard}
 use Rattle.esm_run.proofs.tickets.ask_next.Goals as goal
 
 pub returns-clause-asks : goal.returns-clause-asks

@@ -1,4 +1,4 @@
-use Rattle.std.proofs.Common.{◌≡◌, ◌∙◌, subst, refl, ℕ}
+use Rattle.std.proofs.Common.{◌∙◌, subst, refl, ℕ}
 use Rattle.esm_module_map.specs.Views.{view_in}
 use Rattle.esm_run.specs.Inner.Leading.{AsksOn}
 use Rattle.esm_run.proofs.LeadLemmas.{begins_on, begins_same, keeps_at}

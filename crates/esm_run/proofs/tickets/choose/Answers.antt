@@ -1,4 +1,4 @@
-use Rattle.std.proofs.Common.{◌∙◌, ap, sym, arith, length}
+use Rattle.std.proofs.Common.{◌∙◌, sym, arith}
 use Rattle.esm_run.proofs.LeadLemmas.{among_itself, at_within, chosen, left_among, no_way}
 use Rattle.esm_run.proofs.tickets.choose.Goals as goal
 

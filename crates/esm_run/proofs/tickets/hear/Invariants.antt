@@ -1,7 +1,8 @@
-use Rattle.std.proofs.Common.{◌≡◌, ◌++◌, ℕ, List}
+use Rattle.std.proofs.Common.{◌≡◌}
 use Rattle.esm_module_map.specs.Views.{view_in, table_of, Same}
 use Rattle.esm_module_map.specs.Saying.{Stays}
 use Rattle.esm_fetch.specs.Serving.{weight}
+use Rattle.esm_run.specs.Inner.Leading.{HearsMore}
 use Rattle.esm_run.proofs.tickets.hear.Given as goal
 
 abbrev pub invariant-loop : goal.invariant-loop
@@ -10,6 +11,6 @@ invariant-loop g l = record {
   same : Same (view_in l.initial.caller.pass) (view_in l.caller.pass);
   number : l.caller.number ≡ l.initial.caller.number;
   says : Stays weight l.initial.caller.number (view_in l.initial.caller.pass).seen (view_in l.caller.pass).seen;
-  order : (more : List ℕ) × (l.queue.posted.items ≡ l.initial.queue.posted.items ++ more);
+  order : HearsMore (view_in l.caller.pass).seen l.initial.queue.known l.initial.queue.posted.items l.queue.known l.queue.posted.items;
   tickets : l.queue.tickets ≡ l.initial.queue.tickets;
 }

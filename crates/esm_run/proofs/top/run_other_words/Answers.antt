@@ -1,4 +1,4 @@
-use Rattle.std.proofs.Common.{ap, refl, sym, subst, map, string_bytes}
+use Rattle.std.proofs.Common.{ap, refl, sym, subst}
 use Rattle.std.specs.Prelude.{Some}
 use Rattle.esm_base.specs.declared.status.Status.TheVariants.{Usage}
 use Rattle.esm_record.specs.Delivered.{deliveries_of}

@@ -1,7 +1,5 @@
-use Rattle.std.proofs.Common.{ap, ◌∙◌, sym, subst, map, ◌++◌, ◌∷◌, [], arith, length, ◌≡◌}
-use Rattle.esm_module_map.specs.Views.{view_in, table_of}
-use Rattle.esm_run.specs.Inner.Leading.{IsNew}
-use Rattle.esm_run.proofs.SharedLemmas.{last_of, kept_on}
+use Rattle.std.proofs.Common.{ap, ◌∙◌, map, ◌++◌, ◌∷◌, []}
+use Rattle.esm_run.proofs.SharedLemmas.{kept_on}
 use Rattle.esm_run.proofs.workers.+fn-with_workers-join+arg3+with_workers.Goals as goal
 
 pub returns-in-Some-pop-clause-led : goal.returns-in-Some-pop-clause-led

@@ -1,4 +1,4 @@
-use Rattle.std.proofs.Common.{◌≡◌, ◌≤◌, ◌+◌, ◌-◌, length, vec_len}
+use Rattle.std.proofs.Common.{◌≡◌, ◌≤◌, ◌+◌, ◌-◌, length}
 use Rattle.std.specs.Prelude.{All}
 use Rattle.esm_module_map.specs.Views.{view_in, table_of}
 use Rattle.esm_run.specs.Inner.Leading.{IsNew}

@@ -2,7 +2,6 @@ use Rattle.std.proofs.Common.{ap, ◌∙◌, subst, Ok, Some}
 use Rattle.esm_module_map.specs.Views.{view_in}
 use Rattle.esm_module_map.specs.Replies.{Called, TakeReply}
 use Rattle.esm_module_map.specs.Saying.{TakeSays}
-use Rattle.esm_module_map.specs.declared.reply.Taken.TheVariants as taken
 use Rattle.esm_worker_tests.proofs.OrderLemmas.{still_order}
 use Rattle.esm_worker_tests.proofs.calls.takes_nothing.Goals as goal
 

@@ -1,12 +1,4 @@
-use Rattle.std.proofs.Common.{ap, ◌∙◌}
-use Rattle.esm_values.specs.Code.{values_of}
-use Rattle.esm_values.specs.Display.{printed_line}
-use Rattle.esm_body.proofs.WorldActs.{prints}
 use Rattle.esm_body.proofs.world.InsideWorld.print.Goals as goal
 
-pub returns-in-Ok-printed_line : goal.returns-in-Ok-printed_line
-returns-in-Ok-printed_line g c =
-    let shown = rw c.as_slice.ensures.value at c.in-Ok.ensures in
-    let text = c.as_str.ensures.value ∙ c.in-Ok-printed_line.ensures ∙ ap printed_line c.as_slice-in-Ok.ensures.value in
-    prints g.I.Importer.seen g.I.Importer.modules g.I.Importer.linked g.I.Importer.fits g.I.Importer.begins c.args.self.now (values_of c.args.values.items) c.in-Ok.texts.items c.line.result c.line.new.self g.met.I.Importer.lawful shown
-    (rw text at c.line.ensures)
+pub returns : goal.returns
+returns g c = rw c.as_slice.ensures.value at c.print_line.ensures

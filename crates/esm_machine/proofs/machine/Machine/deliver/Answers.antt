@@ -1,4 +1,4 @@
-use Rattle.std.proofs.Common.{Ok, Err, Some, None, refl}
+use Rattle.std.proofs.Common.{Ok, Err, Some, refl}
 use Rattle.esm_ast.specs.Outcome.{outcome_view}
 use Rattle.esm_machine.proofs.Told.{may_at, takes_at, viewed}
 use Rattle.esm_machine.proofs.machine.Machine.deliver.Goals as goal

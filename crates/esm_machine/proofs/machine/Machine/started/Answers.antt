@@ -1,5 +1,5 @@
 use Rattle.std.proofs.Common.{◌∙◌, ap, length}
-use Rattle.esm_body.specs.Keeps.{started}
+use Rattle.esm_rewriting.specs.Keeps.{started}
 use Rattle.esm_machine.specs.Machine.{state_of}
 use Rattle.esm_machine.proofs.Told.{starts_at, starts_told}
 use Rattle.esm_machine.proofs.machine.Machine.started.Goals as goal

@@ -8,7 +8,7 @@ use Rattle.esm_tree.specs.Syntax.{Parts}
 use Rattle.esm_realm.specs.Sound.{records_of}
 use Rattle.esm_env.specs.Calls.{scopes_of}
 use Rattle.esm_link.specs.Realm.{AreTrees, IsLinkedBy, MakesScopes}
-use Rattle.esm_body.specs.Fits.{AreLinked}
+use Rattle.esm_rewriting.specs.Fits.{AreLinked}
 use Rattle.esm_machine.specs.ModuleStore.{Imported, imported, is_whole, seen_of}
 use Rattle.esm_machine.specs.Seen.{linked, modules, names}
 use Rattle.esm_machine.specs.SeenScopes.{AreScopesIn}

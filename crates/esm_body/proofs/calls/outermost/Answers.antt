@@ -1,5 +1,0 @@
-use Rattle.std.proofs.Common.{refl}
-use Rattle.esm_body.proofs.calls.outermost.Goals as goal
-
-pub returns-then-is_begun : goal.returns-then-is_begun
-returns-then-is_begun c = rw (c.if-is_begun.ensures refl, c.new-levels.ensures.items) (refl, refl)

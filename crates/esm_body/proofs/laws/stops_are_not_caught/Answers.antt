@@ -1,5 +1,0 @@
-use Rattle.esm_body.proofs.Limits as lemmas
-use Rattle.esm_body.proofs.laws.stops_are_not_caught.Goals as goal
-
-pub returns : goal.returns
-returns c = lemmas.stops_are_not_caught

@@ -1,5 +1,0 @@
-use Rattle.esm_body.proofs.Examples as lemmas
-use Rattle.esm_body.proofs.laws.throw_leaves.Goals as goal
-
-pub returns : goal.returns
-returns c = lemmas.throw_leaves

@@ -1,9 +1,0 @@
-use crate::Engine;
-use std::rt::HostRuntime;
-
-#[test]
-fn new_engine(rt: HostRuntime) {
-    let engine = Engine::new(rt.alloc(), false);
-    assert!(rt; engine.log().is_empty());
-    assert!(rt; engine.into_log().is_empty());
-}

@@ -1,0 +1,290 @@
+// Words on both sides of each rule, and what they say.
+use esm_arguments::{Command, Generation, read_generation, read_words};
+use esm_base::{Memory, Text};
+use std::alloc::{AllocError, Global};
+use std::test::Fail;
+
+// Where options and flags stand, and how often.
+const ORDERS: &str = "\
+run https://a.test/ main.js | https://a.test/main.js - 4 - -
+run --trace https://a.test/ main.js | https://a.test/main.js - 4 trace -
+run https://a.test/ --trace main.js | https://a.test/main.js - 4 trace -
+run https://a.test/ main.js --trace | https://a.test/main.js - 4 trace -
+run https://a.test/ main.js --record | https://a.test/main.js - 4 - record
+run --record --trace https://a.test/ main.js | https://a.test/main.js - 4 trace record
+run --map m.json https://a.test/ --workers 2 main.js | https://a.test/main.js https://a.test/m.json 2 - -
+run --workers 2 --map m.json https://a.test/ main.js | https://a.test/main.js https://a.test/m.json 2 - -
+run https://a.test/ main.js --workers=1 --record --map=m.json --trace | https://a.test/main.js https://a.test/m.json 1 trace record
+run https://a.test/ main.js --trace --trace | no
+run --trace https://a.test/ main.js --trace | no
+run --record https://a.test/ --record main.js | no
+run https://a.test/ main.js --map m.json --map m.json | no
+run https://a.test/ main.js --map=m.json --map n.json | no
+run --map m.json https://a.test/ main.js --map=m.json | no
+run --workers 2 https://a.test/ main.js --workers=2 | no
+--trace run https://a.test/ main.js | no
+run https://a.test/ | no
+run https://a.test/ --trace | no
+run | no
+run --trace | no
+run https://a.test/ main.js b.js | no
+run https://a.test/ main.js - | no
+walk https://a.test/ main.js | no
+Run https://a.test/ main.js | no
+run https://a.test/  main.js | no
+run https://a.test/ main.js  | no
+ run https://a.test/ main.js | no";
+
+// Values of options, flags, `--` and `-`.
+const VALUES: &str = "\
+run https://a.test/ main.js --map - | no
+run https://a.test/ main.js --map -- | no
+run https://a.test/ main.js --map | no
+run https://a.test/ main.js --workers | no
+run https://a.test/ main.js --map --trace | no
+run https://a.test/ main.js --map=-x | https://a.test/main.js https://a.test/-x 4 - -
+run https://a.test/ main.js --map=a=b | https://a.test/main.js https://a.test/a=b 4 - -
+run https://a.test/ main.js --map= | no
+run https://a.test/ main.js --workers= | no
+run https://a.test/ main.js --map= m.json | no
+run --map  https://a.test/ main.js | no
+run https://a.test/ main.js --trace= | no
+run https://a.test/ main.js --trace=yes | no
+run https://a.test/ main.js --record= | no
+run https://a.test/ main.js --trac | no
+run https://a.test/ main.js --traces | no
+run https://a.test/ main.js -trace | no
+run https://a.test/ main.js --Trace | no
+run https://a.test/ main.js -t | no
+run https://a.test/ main.js --w 2 | no
+run https://a.test/ main.js --worker=2 | no
+run https://a.test/ main.js --mapm.json | no
+run https://a.test/ main.js --=x | no
+run https://a.test/ main.js --help | no
+gen 1 3 | no
+run --help | no
+run https://a.test/ -- main.js | https://a.test/main.js - 4 - -
+run --trace https://a.test/ -- main.js | https://a.test/main.js - 4 trace -
+run -- https://a.test/ main.js | https://a.test/main.js - 4 - -
+run https://a.test/ main.js -- | https://a.test/main.js - 4 - -
+run https://a.test/ main.js -- --trace | no
+run https://a.test/ -- --trace | https://a.test/--trace - 4 - -
+run https://a.test/ -- -- | https://a.test/-- - 4 - -
+run -- https://a.test/ --map | https://a.test/--map - 4 - -
+run https://a.test/ --  | no
+run https://a.test/ - | https://a.test/- - 4 - -
+run https://a.test/ -x | no
+run https://a.test/ -- -x | https://a.test/-x - 4 - -
+run - main.js | no";
+
+// Numbers of workers, over four sources and over twenty.
+const WORKERS: &str = "\
+run https://a.test/ main.js --workers 1 | https://a.test/main.js - 1 - -
+run https://a.test/ main.js --workers 4 | https://a.test/main.js - 4 - -
+run https://a.test/ main.js --workers 5 | no
+run https://a.test/ main.js --workers 0 | no
+run https://a.test/ main.js --workers 00 | no
+run https://a.test/ main.js --workers 04 | no
+run https://a.test/ main.js --workers=+1 | no
+run https://a.test/ main.js --workers=-1 | no
+run https://a.test/ main.js --workers 1.0 | no
+run https://a.test/ main.js --workers 1x | no
+run https://a.test/ main.js --workers x1 | no
+run https://a.test/ main.js --workers ２ | no
+run https://a.test/ main.js --workers 18446744073709551617 | no";
+
+const MORE_WORKERS: &str = "\
+run https://a.test/ main.js | https://a.test/main.js - 4 - -
+run https://a.test/ main.js --workers 9 | https://a.test/main.js - 9 - -
+run https://a.test/ main.js --workers 10 | https://a.test/main.js - 10 - -
+run https://a.test/ main.js --workers=16 | https://a.test/main.js - 16 - -
+run https://a.test/ main.js --workers=17 | no
+run https://a.test/ main.js --workers 20 | no
+run https://a.test/ main.js --workers=016 | no";
+
+// URLs.
+const URLS: &str = "\
+run a.test main.js | no
+run /a/ main.js | no
+run https://a.test main.js | https://a.test/main.js - 4 - -
+run https://a.test/x/y.html ../main.js | https://a.test/main.js - 4 - -
+run https://a.test/ https://b.test/m.js | https://b.test/m.js - 4 - -
+run https://a.test/ main.js#1 | https://a.test/main.js#1 - 4 - -
+run https://a.test/ https://:x/ | no
+run https://a.test/ main.js --map https://:x/ | no
+run data:text/x main.js | no
+run https://a.test/ main.js --map https://b.test/m.json | https://a.test/main.js https://b.test/m.json 4 - -";
+
+// Generated input.
+const GENERATED: &str = "\
+gen 1 3 | 1 3 1
+gen 1 3 --workers 4 | 1 3 4
+gen --workers=16 1 3 | 1 3 16
+gen 1 --workers 2 3 | 1 3 2
+gen -- 1 3 | 1 3 1
+gen 2147483647 4096 | 2147483647 4096 1
+gen 2147483648 1 | no
+gen 1 4097 | no
+gen 0 3 | no
+gen 1 0 | no
+gen 01 3 | no
+gen 1 03 | no
+gen 1 | no
+gen | no
+gen 1 3 5 | no
+gen 1 3 --workers 17 | no
+gen 1 3 --workers 0 | no
+gen 1 3 --workers 2 --workers 2 | no
+gen 1 3 --trace | no
+gen 1 3 --record | no
+gen 1 3 --map m.json | no
+gen -1 3 | no
+gen 1  3 | no
+run 1 3 | no
+run https://a.test/ main.js | no";
+
+// The words between spaces; two spaces are an empty word.
+fn words_of(alloc: Global, row: &str) -> Result<Vec<String>, AllocError> {
+    let mut words = Vec::new(alloc);
+    for word in row.split(' ') {
+        words.push(String::from_str(alloc, word)?)?;
+    }
+    Ok(words)
+}
+
+fn flag(is_there: bool, name: &'static str) -> &'static str {
+    if is_there { name } else { "-" }
+}
+
+fn map_text(map: &Option<Text>) -> &str {
+    match map {
+        Some(url) => url.as_str(),
+        None => "-",
+    }
+}
+
+fn shown(alloc: Global, found: Option<Command>) -> Result<String, AllocError> {
+    match found {
+        Some(command) => {
+            let entry = command.entry.as_str();
+            let map = map_text(&command.map);
+            let workers = command.workers;
+            let trace = flag(command.trace, "trace");
+            let recorded = flag(command.recorded, "record");
+            format!(in alloc; "{entry} {map} {workers} {trace} {recorded}")
+        }
+        None => String::from_str(alloc, "no"),
+    }
+}
+
+fn generated(alloc: Global, found: Option<Generation>) -> Result<String, AllocError> {
+    match found {
+        Some(generation) => {
+            let start = generation.start;
+            let count = generation.count;
+            let workers = generation.workers;
+            format!(in alloc; "{start} {count} {workers}")
+        }
+        None => String::from_str(alloc, "no"),
+    }
+}
+
+// The first row whose words say something else over so many sources, if there is one.
+fn wrong_row<'a>(alloc: Global, table: &'a str, many: usize) -> Result<Option<&'a str>, Memory> {
+    for row in table.lines() {
+        let Some((words, wanted)) = row.split_once(" | ") else {
+            return Ok(Some(row));
+        };
+        let words = words_of(alloc, words)?;
+        let found = shown(alloc, read_words(alloc, &words, many)?)?;
+        if found.as_str() != wanted {
+            return Ok(Some(row));
+        }
+    }
+    Ok(None)
+}
+
+fn wrong_generation<'a>(alloc: Global, table: &'a str) -> Result<Option<&'a str>, Memory> {
+    for row in table.lines() {
+        let Some((words, wanted)) = row.split_once(" | ") else {
+            return Ok(Some(row));
+        };
+        let words = words_of(alloc, words)?;
+        let found = generated(alloc, read_generation(alloc, &words)?)?;
+        if found.as_str() != wanted {
+            return Ok(Some(row));
+        }
+    }
+    Ok(None)
+}
+
+#[test]
+fn options_and_flags_stand_anywhere_and_once(rt: HostRuntime) -> Result<(), Fail> {
+    let alloc = rt.alloc();
+    assert_eq!(rt; wrong_row(alloc, ORDERS, 4)?, None);
+    assert_eq!(rt; ORDERS.lines().count(), 28);
+    Ok(())
+}
+
+#[test]
+fn values_and_positions(rt: HostRuntime) -> Result<(), Fail> {
+    let alloc = rt.alloc();
+    assert_eq!(rt; wrong_row(alloc, VALUES, 4)?, None);
+    assert_eq!(rt; VALUES.lines().count(), 39);
+    Ok(())
+}
+
+#[test]
+fn numbers_of_workers(rt: HostRuntime) -> Result<(), Fail> {
+    let alloc = rt.alloc();
+    assert_eq!(rt; wrong_row(alloc, WORKERS, 4)?, None);
+    assert_eq!(rt; wrong_row(alloc, MORE_WORKERS, 20)?, None);
+    assert_eq!(rt; WORKERS.lines().count(), 13);
+    let one = "run https://a.test/ main.js | https://a.test/main.js - 1 - -";
+    assert_eq!(rt; wrong_row(alloc, one, 1)?, None);
+    Ok(())
+}
+
+#[test]
+fn urls(rt: HostRuntime) -> Result<(), Fail> {
+    let alloc = rt.alloc();
+    assert_eq!(rt; wrong_row(alloc, URLS, 4)?, None);
+    assert_eq!(rt; URLS.lines().count(), 10);
+    Ok(())
+}
+
+#[test]
+fn generated_input(rt: HostRuntime) -> Result<(), Fail> {
+    let alloc = rt.alloc();
+    assert_eq!(rt; wrong_generation(alloc, GENERATED)?, None);
+    assert_eq!(rt; GENERATED.lines().count(), 25);
+    Ok(())
+}
+
+#[test]
+fn no_words_are_no_command(rt: HostRuntime) -> Result<(), Fail> {
+    let alloc = rt.alloc();
+    let words = Vec::new(alloc);
+    assert!(rt; read_words(alloc, &words, 4)?.is_none());
+    assert!(rt; read_generation(alloc, &words)?.is_none());
+    Ok(())
+}
+
+// The words `run`, BASE and this path as ENTRY.
+fn words_with(alloc: Global, path: String) -> Result<Vec<String>, AllocError> {
+    let mut words = words_of(alloc, "run https://a.test/")?;
+    words.push(path)?;
+    Ok(words)
+}
+
+#[test]
+fn the_longest_entry_has_8192_bytes(rt: HostRuntime) -> Result<(), Fail> {
+    let alloc = rt.alloc();
+    for (rest, fits) in [(8177, true), (8178, false)] {
+        let mut bytes = Vec::new(alloc);
+        bytes.resize(rest, b'x')?;
+        let words = words_with(alloc, String::from_utf8(bytes)?)?;
+        assert_eq!(rt; read_words(alloc, &words, 4)?.is_some(), fits);
+    }
+    Ok(())
+}

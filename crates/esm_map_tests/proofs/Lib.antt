@@ -1,0 +1,2 @@
+pub mod NewMakers
+pub mod Served

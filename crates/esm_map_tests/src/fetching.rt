@@ -1,0 +1,288 @@
+// A turn, a worker on a shut map, and two workers beside a thread that leads them.
+ghost use Rattle.std.specs.Prelude.{◌≡◌, ◌<◌, ◌+◌, ◌≤◌, ◌∷◌, [], All, IfOk, OnOk, vec_len};
+ghost use Rattle.std.specs.Vec.{vec_capacity};
+ghost use Rattle.std.specs.Thread.{IsSync};
+ghost use Rattle.esm_module_map.specs.Views.{view_in, table_of};
+ghost use Rattle.esm_module_map.specs.Saying.{SaysNothing};
+ghost use Rattle.esm_fetch.specs.Serving.{weight, Serves};
+ghost use Rattle.esm_fetch.specs.Pool.{IsToBegin};
+
+use esm_ast::Outcome;
+use esm_base::{Text, is_usable};
+use esm_fetch::{Bell, Done, Job, Pool, Posted, Turned, fetch_one, work_all, worker};
+use esm_import_map::ImportMap;
+use esm_module_map::{Caller, ModuleMap, Why};
+use esm_ports::{AskKind, MemSource, Source};
+use std::alloc::Global;
+use std::marker::{Send, Sync};
+use std::sync::{Arc, Wait};
+use std::test::Fail;
+use std::thread::{Threads, join};
+
+// A map under the empty import map, and a caller with all shares.
+fn opened<R: Wait>(rt: &R, alloc: Global) -> Result<(ModuleMap<Posted>, Caller<Posted>), Fail>
+    ensures own { IfOk result (λ made. table_of made.0.lock.table.shared.table_id made.1.pass
+        ≡ made.0.lock.table.shared.table_id) }
+    ensures shares { IfOk result (λ made. (view_in made.1.pass).shares ≡ 1024) }
+{
+    let guide = Arc::new(alloc, ImportMap::empty(alloc))?;
+    let (modules, pass) = ModuleMap::new(alloc, guide)?;
+    match modules.enrol(rt, pass) {
+        Ok(caller) => Ok((modules, caller)),
+        Err(_pass) => Err("no caller".into()),
+    }
+}
+
+// A caller with one share that has just enrolled.
+fn another<R: Wait>(
+    rt: &R,
+    modules: &ModuleMap<Posted>,
+    caller: &mut Caller<Posted>,
+) -> Result<Caller<Posted>, Fail>
+    requires own { table_of modules.now.lock.table.shared.table_id caller.old.pass
+        ≡ modules.now.lock.table.shared.table_id }
+    requires shares { 1 < (view_in caller.old.pass).shares }
+    ensures own { table_of modules.now.lock.table.shared.table_id caller.new.pass
+        ≡ modules.now.lock.table.shared.table_id }
+    ensures shares { (view_in caller.new.pass).shares + 1 ≡ (view_in caller.old.pass).shares }
+    ensures other { IfOk result (λ c. table_of modules.now.lock.table.shared.table_id c.pass
+        ≡ modules.now.lock.table.shared.table_id) }
+    ensures share { IfOk result (λ c. (view_in c.pass).shares ≡ 1) }
+    ensures numbers { IfOk result (λ c. (view_in c.pass).numbers ≡ c.number ∷ []) }
+    ensures fresh { IfOk result (λ c. SaysNothing weight c.number (view_in c.pass).seen) }
+{
+    let pass = modules.split(caller);
+    match modules.enrol(rt, pass) {
+        Ok(other) => Ok(other),
+        Err(_pass) => Err("no caller".into()),
+    }
+}
+
+// A source of these files.
+fn source_of(alloc: Global, files: &[(&str, &str)]) -> Result<MemSource, Fail>
+    ensures { IfOk result (λ s. s.asked ≡ []) }
+{
+    let mut held = Vec::new(alloc);
+    for (url, body) in files {
+        held.push((
+            Text::copy(alloc, url)?,
+            Vec::from_slice(alloc, body.as_bytes())?,
+        ))?;
+    }
+    Ok(MemSource::new(alloc, held, Vec::new(alloc))?)
+}
+
+// Asks for a URL, as wanted; false where that isn't done.
+fn ask<R: Wait>(
+    rt: &R,
+    alloc: Global,
+    modules: &ModuleMap<Posted>,
+    caller: &mut Caller<Posted>,
+    url: &str,
+) -> bool
+    requires { table_of modules.now.lock.table.shared.table_id caller.old.pass
+        ≡ modules.now.lock.table.shared.table_id }
+    ensures { table_of modules.now.lock.table.shared.table_id caller.new.pass
+        ≡ modules.now.lock.table.shared.table_id }
+{
+    let Ok(url) = Text::copy(alloc, url) else {
+        return false;
+    };
+    let Ok(usable) = is_usable(alloc, url.as_str()) else {
+        return false;
+    };
+    usable && modules.ask(rt, caller, &url, Why::Wanted).is_ok()
+}
+
+// A turn.
+fn turn<R: Wait, S: Source>(
+    rt: &R,
+    alloc: Global,
+    modules: &ModuleMap<Posted>,
+    bell: &Bell,
+    caller: &mut Caller<Posted>,
+    source: &mut S,
+) -> Result<Turned, Fail>
+    requires own { table_of modules.now.lock.table.shared.table_id caller.old.pass
+        ≡ modules.now.lock.table.shared.table_id }
+    requires served { Serves (S.holds source.old) (S.asked source.old) caller.old.number
+        (view_in caller.old.pass).seen }
+    ensures own { table_of modules.now.lock.table.shared.table_id caller.new.pass
+        ≡ modules.now.lock.table.shared.table_id }
+    ensures served { OnOk result (Serves (S.holds source.new) (S.asked source.new)
+        caller.new.number (view_in caller.new.pass).seen) }
+{
+    match fetch_one(rt, alloc, modules, bell, caller, source) {
+        Ok(turned) => Ok(turned),
+        Err(_) => Err("memory ran out".into()),
+    }
+}
+
+const URL: &str = "https://a.test/main.js";
+
+#[test]
+fn an_absent_url_and_a_shut_map(rt: HostRuntime) -> Result<(), Fail> {
+    let alloc = rt.alloc();
+    let bell = Bell::new();
+    let (modules, mut main) = opened(&rt, alloc)?;
+    let mut caller = another(&rt, &modules, &mut main)?;
+    let mut source = source_of(alloc, &[])?;
+    assert!(rt; ask(&rt, alloc, &modules, &mut main, URL));
+    let first = turn(&rt, alloc, &modules, &bell, &mut caller, &mut source)?;
+    assert_eq!(rt; first, Turned::Posted(0));
+    let posted = modules
+        .entry(&rt, &mut main, 0)?
+        .ok_or("nothing is posted")?;
+    assert!(rt; matches!(&posted.outcome, Outcome::Absent));
+    let second = turn(&rt, alloc, &modules, &bell, &mut caller, &mut source)?;
+    assert_eq!(rt; second, Turned::NotYet);
+    modules.shut(&rt, &mut main);
+    let end = worker(&rt, alloc, &modules, &bell, caller, source);
+    assert!(rt; !end.short);
+    assert_eq!(rt; end.source.asked().len(), 1);
+    Ok(())
+}
+
+// Two jobs of callers that have just enrolled and sources that weren't asked.
+fn two_jobs<S: Source>(
+    alloc: Global,
+    modules: &ModuleMap<Posted>,
+    one: Job<S>,
+    other: Job<S>,
+) -> Result<Vec<Job<S>>, Fail>
+    requires one { IsToBegin modules.now.lock.table.shared.table_id S.holds S.asked one }
+    requires other { IsToBegin modules.now.lock.table.shared.table_id S.holds S.asked other }
+    ensures jobs { IfOk result (λ v. All (IsToBegin modules.now.lock.table.shared.table_id S.holds
+        S.asked) v.items) }
+    ensures two { IfOk result (λ v. vec_len v ≡ 2) }
+{
+    let mut jobs = Vec::with_capacity(alloc, 2)?;
+    jobs.push_reserved(one);
+    jobs.push_reserved(other);
+    Ok(jobs)
+}
+
+// A job of a caller that has just enrolled and a source that wasn't asked.
+fn job<S: Source>(modules: &ModuleMap<Posted>, caller: Caller<Posted>, source: S) -> Job<S>
+    requires own { table_of modules.now.lock.table.shared.table_id caller.pass
+        ≡ modules.now.lock.table.shared.table_id }
+    requires share { (view_in caller.pass).shares ≡ 1 }
+    requires numbers { (view_in caller.pass).numbers ≡ caller.number ∷ [] }
+    requires fresh { SaysNothing weight caller.number (view_in caller.pass).seen }
+    requires unasked { S.asked source ≡ [] }
+    ensures { IsToBegin modules.now.lock.table.shared.table_id S.holds S.asked result }
+{
+    Job { caller, source }
+}
+
+const URLS: [&str; 3] = [
+    "https://a.test/main.js",
+    "https://a.test/a.js",
+    "https://a.test/b.js",
+];
+
+// Asks for three URLs, waits until three are posted, and shuts the map; so too where memory runs out.
+fn lead<R: Wait>(
+    rt: &R,
+    alloc: Global,
+    modules: &ModuleMap<Posted>,
+    bell: &Bell,
+    caller: Caller<Posted>,
+) -> Caller<Posted>
+    requires { table_of modules.now.lock.table.shared.table_id caller.pass
+        ≡ modules.now.lock.table.shared.table_id }
+    ensures { table_of modules.now.lock.table.shared.table_id result.pass
+        ≡ modules.now.lock.table.shared.table_id }
+{
+    let mut caller = caller;
+    let asked = ask(rt, alloc, modules, &mut caller, URLS[0])
+        && ask(rt, alloc, modules, &mut caller, URLS[1])
+        && ask(rt, alloc, modules, &mut caller, URLS[2]);
+    bell.ring_for_all(rt);
+    let mut heard = 0;
+    for _ in rt.forever() {
+        if !asked || !ask(rt, alloc, modules, &mut caller, URLS[0]) {
+            break;
+        }
+        if modules.post_at(rt, &mut caller, 2).is_some() {
+            break;
+        }
+        heard = bell.wait_for_post(rt, heard);
+    }
+    modules.shut(rt, &mut caller);
+    bell.ring_for_all(rt);
+    caller
+}
+
+// The jobs, beside a thread that leads.
+fn work_and_lead<R: Threads + Wait + Sync, S: Source + Send>(
+    rt: &R,
+    alloc: Global,
+    modules: &ModuleMap<Posted>,
+    bell: &Bell,
+    leader: Caller<Posted>,
+    spare: Caller<Posted>,
+    jobs: Vec<Job<S>>,
+    done: Vec<Done<S>>,
+) -> (Pool<S>, Caller<Posted>)
+    requires leader { table_of modules.now.lock.table.shared.table_id leader.pass
+        ≡ modules.now.lock.table.shared.table_id }
+    requires spare { table_of modules.now.lock.table.shared.table_id spare.pass
+        ≡ modules.now.lock.table.shared.table_id }
+    requires jobs { All (IsToBegin modules.now.lock.table.shared.table_id S.holds S.asked)
+        jobs.items }
+    requires none { done.items ≡ [] }
+    requires room { vec_len done + vec_len jobs ≤ vec_capacity done }
+    ensures { (table_of modules.now.lock.table.shared.table_id result.0.caller.pass
+        ≡ modules.now.lock.table.shared.table_id)
+        × (table_of modules.now.lock.table.shared.table_id result.1.pass
+        ≡ modules.now.lock.table.shared.table_id) }
+{
+    join(
+        rt,
+        || -> Pool<S>
+            requires { IsSync R.row
+                × (table_of modules.now.lock.table.shared.table_id spare.pass
+                ≡ modules.now.lock.table.shared.table_id)
+                × All (IsToBegin modules.now.lock.table.shared.table_id S.holds S.asked) jobs.items
+                × (done.items ≡ []) × (vec_len done + vec_len jobs ≤ vec_capacity done) }
+            ensures { table_of modules.entry.now.lock.table.shared.table_id result.caller.pass
+                ≡ modules.entry.now.lock.table.shared.table_id }
+        { work_all(rt, alloc, modules, bell, spare, jobs, done) },
+        || -> Caller<Posted>
+            requires { table_of modules.now.lock.table.shared.table_id leader.pass
+                ≡ modules.now.lock.table.shared.table_id }
+            ensures { table_of modules.entry.now.lock.table.shared.table_id result.pass
+                ≡ modules.entry.now.lock.table.shared.table_id }
+        { lead(rt, alloc, modules, bell, leader) },
+    )
+}
+
+#[test]
+fn two_workers_fetch_what_is_asked_for(rt: HostRuntime) -> Result<(), Fail> {
+    let alloc = rt.alloc();
+    let bell = Bell::new();
+    let (modules, mut main) = opened(&rt, alloc)?;
+    let first = another(&rt, &modules, &mut main)?;
+    let second = another(&rt, &modules, &mut main)?;
+    let spare = another(&rt, &modules, &mut main)?;
+    let text = "print(\"m\");";
+    let files = source_of(alloc, &[(URLS[0], text), (URLS[1], text), (URLS[2], text)])?;
+    let nothing = source_of(alloc, &[])?;
+    let one = job(&modules, first, files);
+    let other = job(&modules, second, nothing);
+    let jobs = two_jobs(alloc, &modules, one, other)?;
+    let done = Vec::with_capacity(alloc, 2)?;
+    let (pool, main) = work_and_lead(&rt, alloc, &modules, &bell, main, spare, jobs, done);
+    let Pool { caller, done } = pool;
+    let caller = modules.meet(caller, main);
+    let files = done.first().ok_or("no first source")?;
+    let nothing = done.last().ok_or("no last source")?;
+    let found = files.source.asked();
+    let missed = nothing.source.asked();
+    assert!(rt; found.iter().all(|ask| ask.kind == AskKind::Body));
+    assert!(rt; missed.iter().all(|ask| ask.kind == AskKind::Absent));
+    assert_eq!(rt; found.len().checked_add(missed.len()), Some(3));
+    assert!(rt; modules.close(caller).is_ok());
+    Ok(())
+}

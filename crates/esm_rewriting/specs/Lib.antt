@@ -1,0 +1,15 @@
+pub mod Scopes
+pub mod Rest
+pub mod State
+pub mod Acts
+pub mod BodyRewriting
+pub mod Segment
+pub mod Fits
+pub mod Chains
+pub mod Bodies
+pub mod Keeps
+pub mod Laws
+pub mod Examples
+pub mod Contexts
+pub mod Sets
+pub mod Naming

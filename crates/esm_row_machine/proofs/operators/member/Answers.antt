@@ -1,0 +1,4 @@
+use Rattle.esm_row_machine.proofs.operators.member.Goals as goal
+
+pub returns-in-Some : goal.returns-in-Some
+returns-in-Some g c = rw c.in-Some.is c.member_named.ensures

@@ -1,0 +1,11 @@
+pub mod Functions
+pub mod Outside
+pub mod Stacks
+pub mod Tables
+pub mod Changes
+pub mod Naming
+pub mod Entering
+pub mod Turns
+pub mod Follows
+pub mod Calling
+pub mod Asking

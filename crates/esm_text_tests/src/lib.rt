@@ -1,0 +1,13 @@
+//! Tests of what module texts say: their tokens, their expressions, whether they are module texts, and their entries.
+#![tactic(auto)]
+
+#[cfg(test)]
+mod entries;
+#[cfg(test)]
+mod expressions;
+#[cfg(test)]
+mod grammar_rows;
+#[cfg(test)]
+mod tokens;
+#[cfg(test)]
+mod verdicts;
