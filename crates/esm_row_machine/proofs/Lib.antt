@@ -37,3 +37,4 @@ pub mod ReadNames
 pub mod Assigned
 pub mod Leaving
 pub mod AtCall
+pub mod AtOnce

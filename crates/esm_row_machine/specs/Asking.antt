@@ -8,6 +8,7 @@ use Rattle.esm_rewriting.specs.declared.stop.Stop.{Stop}
 use Rattle.esm_rewriting.specs.declared.stop.Stop.TheVariants as stops
 use Rattle.esm_row_machine.specs.Changes.{GoesWith, Put, Threw, Took}
 use Rattle.esm_row_machine.specs.declared.turn.Turn.{Turn}
+use Rattle.esm_row_machine.specs.declared.turn.Turn.TheVariants as turn
 
 -- with this name of the row's table; where there is none, memory is told to have run out
 abbrev pub WithName : Option (Bor (List ℕ)) → (List ℕ → Type 0) → Result Turn Stop → Type 0
@@ -19,6 +20,21 @@ pub record Heard (vs : List Value) (Says : Result Out Stop → Type 0) (left : �
   pub told : Result Out Stop
   pub says : Says told
   pub took : Took vs told left result us
+
+-- what it comes to to put a value on top, or to throw one, as an operation behind which so many are left
+abbrev pub turn_of : ℕ → Result (Option Value) Stop → Result Turn Stop
+turn_of left (Ok None) = Ok (turn.On left)
+turn_of left (Ok (Some v)) = Ok (turn.Throws v)
+turn_of left (Err stop) = Err stop
+
+abbrev pub PutOrThrown : List Value → Value → Result (Option Value) Stop → List Value → Type 0
+PutOrThrown vs v result us = (left : ℕ) → Put vs v left (turn_of left result) us
+
+abbrev pub TookOrThrown : List Value → Result Out Stop → Result (Option Value) Stop → List Value → Type 0
+TookOrThrown vs told result us = (left : ℕ) → Took vs told left (turn_of left result) us
+
+abbrev pub HeardOrThrown : List Value → (Result Out Stop → Type 0) → Result (Option Value) Stop → List Value → Type 0
+HeardOrThrown vs Says result us = (left : ℕ) → Heard vs Says left (turn_of left result) us
 
 -- a value stands above these operands, unless memory ran out
 abbrev pub PutIfOk : List Value → Result Value Memory → ℕ → Result Turn Stop → List Value → Type 0

@@ -9,3 +9,4 @@ pub mod Turns
 pub mod Follows
 pub mod Calling
 pub mod Asking
+pub mod Shortcuts

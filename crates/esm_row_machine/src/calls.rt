@@ -19,6 +19,7 @@ use esm_rows::Row;
 use esm_values::{FaultKind, FuncId, Value};
 
 /// The value for the parameter at a place; a missing one is undefined.
+#[inline(always)]
 fn argument(values: &[Value], place: usize) -> Result<Value, Memory>
     ensures { IfOk result (λ v. value_of v ≡ argument_of (values_of (drop place values.now))) }
 {
@@ -45,7 +46,8 @@ fn pass(names: &mut Vec<Option<Value>>, values: &[Value], parameters: u32) -> Re
 }
 
 /// A function begins: its arguments and the callee are taken, and its names begin.
-fn enter(
+#[inline(always)]
+pub(crate) fn enter(
     machine: &mut Machine,
     row: &Row,
     function: FuncId,
@@ -81,6 +83,7 @@ fn enter(
 }
 
 /// The function that a value is, if it is one.
+#[inline(always)]
 fn function_of(value: &Value) -> Option<FuncId>
     ensures { result ≡ func_in value.now }
 {
@@ -96,7 +99,8 @@ fn function_of(value: &Value) -> Option<FuncId>
 }
 
 /// The callee below so many arguments, if it is a function.
-fn callee(operands: &[Value], arguments: usize) -> Option<FuncId>
+#[inline(always)]
+pub(crate) fn callee(operands: &[Value], arguments: usize) -> Option<FuncId>
     ensures { IsCallee operands.now arguments result }
 {
     let there = operands.len();
@@ -126,7 +130,8 @@ fn refuse<W: Outside>(
 }
 
 /// One function more waits.
-fn push_frame(frames: &mut Vec<Frame>, frame: Frame) -> Result<(), Memory>
+#[inline(always)]
+pub(crate) fn push_frame(frames: &mut Vec<Frame>, frame: Frame) -> Result<(), Memory>
     ensures { OnOk result (frames.new.items ≡ frames.old.items ++ frame ∷ []) }
 {
     frames.push(frame)?;

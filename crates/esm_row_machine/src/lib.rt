@@ -9,6 +9,7 @@ mod outside;
 mod reading;
 mod rows;
 mod runs;
+mod shortcuts;
 mod stacks;
 mod throws;
 mod turn;

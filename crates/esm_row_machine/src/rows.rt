@@ -35,6 +35,7 @@ impl Rows {
     }
 
     /// The row of a function, if it was made.
+    #[inline(always)]
     pub(crate) fn find(&self, m: ModuleId, function: u32) -> Option<&Row>
         ensures { IsFound self.now m.0 function result }
     {
@@ -81,6 +82,7 @@ impl Rows {
 }
 
 /// The row with this number.
+#[inline(always)]
 fn found(rows: &[Option<Row>], function: u32) -> Option<&Row>
     ensures { IsFoundIn rows.now function result }
 {

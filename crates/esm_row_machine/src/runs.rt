@@ -1,18 +1,21 @@
 // A function that a body calls runs to its end, with all that it calls.
 ghost use Rattle.esm_values.specs.Code.{values_of};
 ghost use Rattle.esm_row_machine.specs.Turns.{TurnsOn};
-ghost use Rattle.esm_row_machine.specs.Follows.{CalledBy, FollowsOn, FollowsTurn, Runs};
+ghost use Rattle.esm_row_machine.specs.Follows.{CalledBy, FollowsTurn, Runs};
+ghost use Rattle.esm_row_machine.specs.Shortcuts.{GoesFrom};
 
 use crate::calls::{call_value, first};
 use crate::ending::give_back;
 use crate::machine::{Frame, Machine};
 use crate::outside::Outside;
 use crate::rows::Rows;
+use crate::shortcuts::{Went, follow_here, op_at, put_own};
+use crate::stacks::pop;
 use crate::throws::throw;
 use crate::turn::{Turn, operate};
 use esm_base::Memory;
 use esm_rewriting::Stop;
-use esm_rows::Row;
+use esm_rows::{Op, Row};
 use esm_values::{FuncId, Value};
 
 /// What follows operations.
@@ -35,26 +38,8 @@ pub enum Ending {
     Thrown(Value),
 }
 
-/// The operation that is next, where so many are left.
-fn turn_at<W: Outside>(
-    world: &mut W,
-    machine: &mut Machine,
-    frame: Frame,
-    row: &Row,
-    left: usize,
-) -> Result<Turn, Stop>
-    ensures { TurnsOn W.state W.modules W.linked W.begins W.ready W.keeps W.owns
-        world.old machine.old frame left row.now result world.new machine.new }
-{
-    if left > 0 && left <= row.ops.len() {
-        let behind = left - 1;
-        operate(world, machine, frame, row, row.ops[behind], behind)
-    } else {
-        Err(Stop::Memory)
-    }
-}
-
-/// Operations of one row, up to one that leaves it.
+/// Operations of one row, up to one that leaves it. Those that calls are made of are done here, and hand no value on.
+#[inline(always)]
 fn turns<W: Outside>(
     world: &mut W,
     machine: &mut Machine,
@@ -65,25 +50,49 @@ fn turns<W: Outside>(
         world.old machine.old frame frame.left row.now result world.new machine.new }
 {
     let mut left = frame.left;
-    'turning: loop {
-        match turn_at(world, machine, frame, row, left) {
-            Ok(told) => match told {
-                Turn::On(next) => {
-                    if next >= left {
-                        return Err(Stop::Memory);
-                    }
-                    left = next;
-                }
-                Turn::Calls(arguments, behind) => return Ok(Turn::Calls(arguments, behind)),
-                Turn::Returns(value) => return Ok(Turn::Returns(value)),
-                Turn::Throws(value) => return Ok(Turn::Throws(value)),
+    if left > row.ops.len() {
+        return Err(Stop::Memory);
+    }
+    'turning: while left > 0 {
+        left = left - 1;
+        let op = op_at(row, left);
+        match op {
+            Op::Step => match world.step() {
+                Ok(()) => continue,
+                Err(stop) => return Err(stop),
             },
-            Err(stop) => return Err(stop),
+            Op::Own(place) => match put_own(world, &mut machine.operands, frame.at, place) {
+                Ok(thrown) => match thrown {
+                    None => continue,
+                    Some(error) => return Ok(Turn::Throws(error)),
+                },
+                Err(stop) => return Err(stop),
+            },
+            Op::Drop => match pop(&mut machine.operands) {
+                Ok(_value) => continue,
+                Err(Memory) => return Err(Stop::Memory),
+            },
+            Op::Call(arguments) => return Ok(Turn::Calls(arguments, left)),
+            Op::End => return Ok(Turn::Returns(Value::Undefined)),
+            _ => match operate(world, machine, frame, row, op, left) {
+                Ok(told) => match told {
+                    Turn::On(next) => {
+                        if next > left {
+                            return Err(Stop::Memory);
+                        }
+                        left = next;
+                    }
+                    _ => return Ok(told),
+                },
+                Err(stop) => return Err(stop),
+            },
         }
     }
+    Err(Stop::Memory)
 }
 
 /// What follows operations of one row.
+#[inline(never)]
 fn follow<W: Outside>(
     world: &mut W,
     machine: &mut Machine,
@@ -104,19 +113,20 @@ fn follow<W: Outside>(
     }
 }
 
-/// One row, up to what leaves it, and what follows.
+/// One row, up to what leaves it, and what follows where no row has to be made.
+#[inline(always)]
 fn go_on<W: Outside>(
     world: &mut W,
     machine: &mut Machine,
-    rows: &mut Rows,
-    frame: Frame,
-) -> Result<Next, Stop>
-    ensures { FollowsOn W.state W.modules W.linked W.begins W.ready W.keeps W.owns
-        world.old machine.old rows.old frame result world.new machine.new rows.new }
+    rows: &Rows,
+    frame: &mut Frame,
+) -> Result<Went, Stop>
+    ensures { GoesFrom W.state W.modules W.linked W.begins W.ready W.keeps W.owns
+        world.old machine.old rows.now frame.old result world.new machine.new frame.new }
 {
     match rows.find(frame.at, frame.function) {
-        Some(row) => match turns(world, machine, frame, row) {
-            Ok(turn) => follow(world, machine, rows, frame, turn),
+        Some(row) => match turns(world, machine, *frame, row) {
+            Ok(turn) => follow_here(world, machine, rows, frame, turn),
             Err(stop) => Err(stop),
         },
         None => Err(Stop::Memory),
@@ -135,11 +145,17 @@ fn run<W: Outside>(
 {
     let mut here = frame;
     'running: for _ in 0..u64::MAX {
-        match go_on(world, machine, rows, here) {
-            Ok(next) => match next {
-                Next::Goes(frame) => here = frame,
-                Next::Gave(value) => return Ok(Ending::Value(value)),
-                Next::Thrown(value) => return Ok(Ending::Thrown(value)),
+        match go_on(world, machine, rows, &mut here) {
+            Ok(went) => match went {
+                Went::Moves => continue,
+                Went::Leaves(turn) => match follow(world, machine, rows, here, turn) {
+                    Ok(next) => match next {
+                        Next::Goes(frame) => here = frame,
+                        Next::Gave(value) => return Ok(Ending::Value(value)),
+                        Next::Thrown(value) => return Ok(Ending::Thrown(value)),
+                    },
+                    Err(stop) => return Err(stop),
+                },
             },
             Err(stop) => return Err(stop),
         }

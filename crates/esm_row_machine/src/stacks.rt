@@ -7,6 +7,7 @@ use esm_base::Memory;
 use esm_values::Value;
 
 /// A value is put on top.
+#[inline(always)]
 pub(crate) fn push(operands: &mut Vec<Value>, value: Value) -> Result<(), Memory>
     ensures { OnOk result (operands.new.items ≡ operands.old.items ++ value ∷ []) }
 {
@@ -15,6 +16,7 @@ pub(crate) fn push(operands: &mut Vec<Value>, value: Value) -> Result<(), Memory
 }
 
 /// The value on top is taken.
+#[inline(always)]
 pub(crate) fn pop(operands: &mut Vec<Value>) -> Result<Value, Memory>
     ensures { IfOk result (λ v. operands.old.items ≡ operands.new.items ++ v ∷ []) }
 {
@@ -89,6 +91,28 @@ pub(crate) fn end_names(names: &mut Vec<Option<Value>>, count: u32) -> Result<()
     } else {
         Err(Memory)
     }
+}
+
+/// So many names stay.
+#[inline(always)]
+pub(crate) fn keep_names(names: &mut Vec<Option<Value>>, count: usize)
+    ensures { names.new.items ≡ take count names.old.items }
+{
+    if names.len() <= count {
+        return;
+    }
+    names.truncate(count);
+}
+
+/// So many handlers stay.
+#[inline(always)]
+pub(crate) fn keep_handlers(handlers: &mut Vec<Handler>, count: usize)
+    ensures { handlers.new.items ≡ take count handlers.old.items }
+{
+    if handlers.len() <= count {
+        return;
+    }
+    handlers.truncate(count);
 }
 
 /// A throw leads to a handler from now on.

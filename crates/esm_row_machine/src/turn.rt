@@ -121,6 +121,7 @@ fn put_url<W: Outside>(
 }
 
 /// One operation, behind which so many are left.
+#[inline(never)]
 pub(crate) fn operate<W: Outside>(
     world: &mut W,
     machine: &mut Machine,

@@ -1,0 +1,242 @@
+// Calls and ends of functions for which no row has to be made: the frame that runs is changed where it stands, and no value
+// is handed on.
+ghost use Rattle.std.specs.Prelude.{◌≡◌, ◌<◌, length, slice_get, Some};
+ghost use Rattle.esm_row_machine.specs.Outside as said;
+ghost use Rattle.esm_row_machine.specs.Asking.{HeardOrThrown, PutOrThrown, TookOrThrown};
+ghost use Rattle.esm_row_machine.specs.Shortcuts.{BeginsFrom, CallsFrom, EndsFrom, EntersHere, FollowsFrom, FoundFrom, GivenHere, at_left};
+
+use crate::calls::{callee, enter, push_frame};
+use crate::machine::{Frame, Machine};
+use crate::outside::Outside;
+use crate::rows::Rows;
+use crate::stacks::{keep_handlers, keep_names, push};
+use crate::turn::Turn;
+use esm_base::{MAX_CALL_DEPTH, Memory, ModuleId};
+use esm_expr_eval::Out;
+use esm_rewriting::Stop;
+use esm_rows::{Op, Row};
+use esm_values::{FuncId, Value};
+
+/// What operations of a row come to.
+#[derive(Drop)]
+pub(crate) enum Went {
+    /// Functions go on, from where the frame tells.
+    Moves,
+    /// The function that runs has left its row by this, and nothing has followed yet.
+    Leaves(Turn),
+}
+
+/// The operation at a place of a row.
+#[inline(always)]
+pub(crate) fn op_at(row: &Row, place: usize) -> Op
+    requires { place < length row.now.ops.items }
+    ensures { slice_get row.now.ops.items place ≡ Some result }
+{
+    row.ops[place]
+}
+
+/// A value is put on top.
+#[inline(always)]
+fn put_value(operands: &mut Vec<Value>, value: Value) -> Result<Option<Value>, Stop>
+    ensures { PutOrThrown operands.old.items value result operands.new.items }
+{
+    match push(operands, value) {
+        Ok(()) => Ok(None),
+        Err(Memory) => Err(Stop::Memory),
+    }
+}
+
+/// A value is put on top, or is to be thrown.
+#[inline(always)]
+fn take_value(operands: &mut Vec<Value>, told: Out) -> Result<Option<Value>, Stop>
+    ensures { TookOrThrown operands.old.items (Ok told) result operands.new.items }
+{
+    match told {
+        Out::Value(value) => put_value(operands, value),
+        Out::Thrown(value) => Ok(Some(value)),
+    }
+}
+
+/// The value of the name at a place of the module is put on top, or what is thrown is given.
+#[inline(always)]
+pub(crate) fn put_own<W: Outside>(
+    world: &mut W,
+    operands: &mut Vec<Value>,
+    m: ModuleId,
+    place: u32,
+) -> Result<Option<Value>, Stop>
+    ensures { HeardOrThrown operands.old.items (λ told. said.ReadsPlace W.state W.modules W.linked
+        W.begins W.ready W.keeps W.owns world.old m.0 place told world.new) result
+        operands.new.items }
+{
+    match world.read_own(m, place) {
+        Ok(out) => take_value(operands, out),
+        Err(stop) => Err(stop),
+    }
+}
+
+/// The function with this row begins where the frame is, whose function waits.
+#[inline(always)]
+fn enter_here(
+    machine: &mut Machine,
+    row: &Row,
+    frame: &mut Frame,
+    function: FuncId,
+    arguments: usize,
+    left: usize,
+) -> Result<Went, Stop>
+    ensures { EntersHere machine.old row.now (at_left frame.old left) function arguments result
+        frame.new machine.new }
+{
+    match enter(machine, row, function, arguments) {
+        Ok(callee) => {
+            let caller = Frame { left, ..*frame };
+            match push_frame(&mut machine.frames, caller) {
+                Ok(()) => {
+                    *frame = callee;
+                    Ok(Went::Moves)
+                }
+                Err(Memory) => Err(Stop::Memory),
+            }
+        }
+        Err(Memory) => Err(Stop::Memory),
+    }
+}
+
+/// The call takes its step, and the function with this row begins.
+#[inline(always)]
+fn begin_here<W: Outside>(
+    world: &mut W,
+    machine: &mut Machine,
+    row: &Row,
+    frame: &mut Frame,
+    function: FuncId,
+    arguments: usize,
+    left: usize,
+) -> Result<Went, Stop>
+    ensures { BeginsFrom W.state W.modules W.linked W.begins W.ready W.keeps W.owns world.old
+        machine.old row.now frame.old function arguments left result world.new machine.new
+        frame.new }
+{
+    match world.step() {
+        Ok(()) => enter_here(machine, row, frame, function, arguments, left),
+        Err(stop) => Err(stop),
+    }
+}
+
+/// This function is called, where its row is there. Else nothing is done.
+#[inline(always)]
+fn call_found<W: Outside>(
+    world: &mut W,
+    machine: &mut Machine,
+    rows: &Rows,
+    frame: &mut Frame,
+    function: FuncId,
+    arguments: u32,
+    left: usize,
+) -> Result<Went, Stop>
+    ensures { FoundFrom W.state W.modules W.linked W.begins W.ready W.keeps W.owns world.old
+        machine.old rows.now frame.old function arguments left result world.new machine.new
+        frame.new }
+{
+    match rows.find(function.module, function.index) {
+        Some(row) => {
+            begin_here(
+                world,
+                machine,
+                row,
+                frame,
+                function,
+                arguments as usize,
+                left,
+            )
+        }
+        None => Ok(Went::Leaves(Turn::Calls(arguments, left))),
+    }
+}
+
+/// The value below so many arguments is called, where it is a function whose row is there, and fewer functions are active
+/// than may be. Else nothing is done.
+///
+/// ECMA-262, EvaluateCall.
+#[inline(always)]
+fn call_here<W: Outside>(
+    world: &mut W,
+    machine: &mut Machine,
+    rows: &Rows,
+    frame: &mut Frame,
+    arguments: u32,
+    left: usize,
+) -> Result<Went, Stop>
+    ensures { CallsFrom W.state W.modules W.linked W.begins W.ready W.keeps W.owns world.old
+        machine.old rows.now frame.old arguments left result world.new machine.new frame.new }
+{
+    if machine.frames.len() + 1 >= MAX_CALL_DEPTH as usize {
+        return Ok(Went::Leaves(Turn::Calls(arguments, left)));
+    }
+    match callee(machine.operands.as_slice(), arguments as usize) {
+        Some(function) => call_found(world, machine, rows, frame, function, arguments, left),
+        None => Ok(Went::Leaves(Turn::Calls(arguments, left))),
+    }
+}
+
+/// A value is put on top for the function that waited, which is the one that runs from now on.
+#[inline(always)]
+fn give_here(
+    operands: &mut Vec<Value>,
+    frame: &mut Frame,
+    caller: Frame,
+    value: Value,
+) -> Result<Went, Stop>
+    ensures { GivenHere operands.old.items caller value result frame.new operands.new.items }
+{
+    match push(operands, value) {
+        Ok(()) => {
+            *frame = caller;
+            Ok(Went::Moves)
+        }
+        Err(Memory) => Err(Stop::Memory),
+    }
+}
+
+/// A function is over, and its value is given to the function that waits for it. Where none waits, nothing is done.
+#[inline(always)]
+fn end_here<W: Outside>(
+    _world: &W,
+    machine: &mut Machine,
+    frame: &mut Frame,
+    value: Value,
+) -> Result<Went, Stop>
+    ensures { EndsFrom W.state W.modules W.linked W.begins W.ready W.keeps W.owns _world.now
+        machine.old frame.old value result machine.new frame.new }
+{
+    if machine.frames.is_empty() {
+        return Ok(Went::Leaves(Turn::Returns(value)));
+    }
+    keep_names(&mut machine.names, frame.names);
+    keep_handlers(&mut machine.handlers, frame.handlers);
+    match machine.frames.pop() {
+        Some(caller) => give_here(&mut machine.operands, frame, caller, value),
+        None => Err(Stop::Memory),
+    }
+}
+
+/// What follows operations that left their row, where no row has to be made and nothing is thrown. Else nothing is done.
+#[inline(always)]
+pub(crate) fn follow_here<W: Outside>(
+    world: &mut W,
+    machine: &mut Machine,
+    rows: &Rows,
+    frame: &mut Frame,
+    turn: Turn,
+) -> Result<Went, Stop>
+    ensures { FollowsFrom W.state W.modules W.linked W.begins W.ready W.keeps W.owns world.old
+        machine.old rows.now frame.old turn result world.new machine.new frame.new }
+{
+    match turn {
+        Turn::On(left) => Ok(Went::Leaves(Turn::On(left))),
+        Turn::Calls(arguments, left) => call_here(world, machine, rows, frame, arguments, left),
+        Turn::Returns(value) => end_here(world, machine, frame, value),
+        Turn::Throws(value) => Ok(Went::Leaves(Turn::Throws(value))),
+    }
+}
