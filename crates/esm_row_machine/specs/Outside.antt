@@ -125,10 +125,11 @@ module _ {W S : Type 0} (state : W → State ℕ S) (modules : S → Modules ℕ
   abbrev pub Asked : W → List CodeValue → Planning → Result Out Stop → W → Type 0
   Asked w vs plan result after = (m : ℕ) → AskedIn m w vs plan result after
 
+  -- a step takes no memory
   abbrev pub Steps : W → Result (Unit {0}) Stop → W → Type 0
   Steps w (Ok u) after = Ready w → (take_steps (state w) 1 ≡ (Ok tt, state after)) × Well w after
   Steps w (Err (stops.Limit why)) after = Ready w → (take_steps (state w) 1 ≡ (Err why, state after)) × Keeps w after
-  Steps w (Err stops.Memory) after = Unit {0}
+  Steps w (Err stops.Memory) after = ⊥
 
   abbrev pub Faults : W → FaultKind → List ℕ → Result Value Stop → W → Type 0
   Faults w kind message (Ok v) after = Ready w → (value_of v ≡ new_error (state w))

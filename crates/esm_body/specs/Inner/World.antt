@@ -59,6 +59,16 @@ KnowsAct Knows (act.Fault kind message) = ⊤
 KnowsAct Knows (act.Step n) = ⊤
 KnowsAct Knows (act.Import v) = Knows v
 
+-- whether a call may find that memory has run out: a step takes none
+abbrev pub MayLackMemory : {V : Type 0} → Act V → Type 0
+MayLackMemory (act.Read x) = ⊤
+MayLackMemory (act.Member v x) = ⊤
+MayLackMemory (act.Display v) = ⊤
+MayLackMemory (act.Print vs) = ⊤
+MayLackMemory (act.Fault kind message) = ⊤
+MayLackMemory (act.Step n) = ⊥
+MayLackMemory (act.Import v) = ⊤
+
 -- seen is what contracts see of the importer
 module _ {I S : Type 0} (seen : I → S) (modules : S → Modules ℕ) (linked : S → ℕ → Bool) (fits : Outer ℕ S → Type 0)
     (begins : Importing ℕ S) where
@@ -80,4 +90,4 @@ module _ {I S : Type 0} (seen : I → S) (modules : S → Modules ℕ) (linked :
   abbrev pub ActsInside : Inside I → (a : Act (Value ℕ)) → Result (AnswerTo a) Stop → Inside I → Type 0
   ActsInside w a (Ok answer) after = Answers w a (Ok answer) after
   ActsInside w a (Err (stops.Limit limit)) after = Answers w a (Err limit) after
-  ActsInside w a (Err stops.Memory) after = Unit {0}
+  ActsInside w a (Err stops.Memory) after = MayLackMemory a
