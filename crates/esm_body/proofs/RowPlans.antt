@@ -25,6 +25,7 @@ use Rattle.esm_promise.specs.Laws.{MadePending}
 use Rattle.esm_promise.specs.Outer.{Outer}
 use Rattle.esm_env.specs.Calls.{scopes_of, IsWrittenIn, told_write}
 use Rattle.esm_env.specs.Cells.{Cell, Cells, Reading, write_cell}
+use Rattle.esm_env.specs.Cells.{Reading as reading}
 use Rattle.esm_env.specs.Declarations.{function_at}
 use Rattle.esm_env.specs.Faithful.{HasImports}
 use Rattle.esm_env.specs.Laws.{ReadsRight, WritesRight}
@@ -157,6 +158,14 @@ module _ {I S : Type 0} (seen : I → S) (modules : S → Modules ℕ) (linked :
         let s = ready.made.made m home in
         let place = placed w m x s.0 ready s.1 ∙ there in
         reads w m x told new right (subst (λ y. Tells y (read_in (scopes_of w.envs.now) m x) w.errors.now (Ok told) new) (names x place) (subst (λ r. Tells name r w.errors.now (Ok told) new) (values x place) h)) ready home
+
+    -- where the name at the place has this value
+    pub reads_value : (w : Inside I) (m k : ℕ) (v : Value) → ReadsRight → ((x : List ℕ) → place_of (scopes_of w.envs.now) m x ≡ Some k → reading.Value (value_of v) ≡ read_in (scopes_of w.envs.now) m x)
+        → said.ReadsPlace (state_in seen) modules linked begins (CodeIsWhole seen modules linked fits begins) (KeepsBody seen modules linked fits begins) (owned_by modules) w m k (Ok (out.Value v)) w
+    reads_value w m k v right values x there ready home =
+        let s = ready.made.made m home in
+        let place = placed w m x s.0 ready s.1 ∙ there in
+        reads w m x (out.Value v) w.errors.now right (subst (λ r. Tells x r w.errors.now (Ok (out.Value v)) w.errors.now) (values x place) (refl, refl)) ready home
 
     -- ---- members
 

@@ -22,6 +22,20 @@ pub(crate) enum Found {
     Undeclared,
 }
 
+/// The same value once more. Where it is a function, nothing is counted.
+#[inline(always)]
+pub(crate) fn copied(value: &Value) -> Result<Value, Memory>
+    ensures { IfOk result (λ v. v ≡ value.now) }
+{
+    match value {
+        Value::Func(id) => Ok(Value::Func(*id)),
+        _ => {
+            let value = value.clone()?;
+            Ok(value)
+        }
+    }
+}
+
 /// What is read, owned.
 pub(crate) fn owned(read: Read<'_>) -> Result<Found, Memory>
     ensures { IfOk result (λ found. found_reading found ≡ told_read read.entry) }
@@ -122,6 +136,8 @@ pub(crate) fn throw_named(
 }
 
 /// The value that was read, or the throw where there is none.
+#[cold]
+#[inline(never)]
 pub(crate) fn tell(
     alloc: Global,
     errors: &mut Errors,

@@ -8,10 +8,11 @@ use crate::importer::Importer;
 use crate::imports::{begin_import, refuse_import};
 use crate::inside::Inside;
 use crate::members::member_of;
-use crate::names::{owned, tell, throw_named, throw_new};
+use crate::names::{Found, copied, owned, tell, throw_named, throw_new};
 use crate::world::print_line;
 use crate::writes::throw_wrote;
 use esm_base::{Memory, ModuleId};
+use esm_env::Read;
 use esm_expr_eval::{ExprEnd, Out, error_from, sum_of};
 use esm_rewriting::Stop;
 use esm_row_machine::Outside;
@@ -104,16 +105,34 @@ impl<'a, I: Importer> Outside for Inside<'a, I> {
         }
     }
 
+    #[inline(always)]
     fn read_own(&mut self, m: ModuleId, place: u32) -> Result<Out, Stop> {
         esm_env::laws::reads_right();
         esm_resolve::laws::shared_set();
         let at = place as usize;
-        match owned(self.envs.value(m, at)) {
-            Ok(found) => match tell(self.alloc, self.errors, self.envs.name_at(m, at), found) {
+        match self.envs.value(m, at) {
+            Read::Value(value) => match copied(value) {
+                Ok(value) => Ok(Out::Value(value)),
+                Err(Memory) => Err(Stop::Memory),
+            },
+            Read::Unset => match tell(
+                self.alloc,
+                self.errors,
+                self.envs.name_at(m, at),
+                Found::Unset,
+            ) {
                 Ok(out) => Ok(out),
                 Err(Memory) => Err(Stop::Memory),
             },
-            Err(Memory) => Err(Stop::Memory),
+            Read::Undeclared => match tell(
+                self.alloc,
+                self.errors,
+                self.envs.name_at(m, at),
+                Found::Undeclared,
+            ) {
+                Ok(out) => Ok(out),
+                Err(Memory) => Err(Stop::Memory),
+            },
         }
     }
 

@@ -21,12 +21,13 @@ pub record Heard (vs : List Value) (Says : Result Out Stop → Type 0) (left : �
   pub says : Says told
   pub took : Took vs told left result us
 
--- what it comes to to put a value on top, or to throw one, as an operation behind which so many are left
+-- a value that was put on top, or one to be thrown, as what an operation comes to behind which so many are left
 abbrev pub turn_of : ℕ → Result (Option Value) Stop → Result Turn Stop
 turn_of left (Ok None) = Ok (turn.On left)
 turn_of left (Ok (Some v)) = Ok (turn.Throws v)
 turn_of left (Err stop) = Err stop
 
+-- the same, of a call that isn't told how many are left: it holds however many are
 abbrev pub PutOrThrown : List Value → Value → Result (Option Value) Stop → List Value → Type 0
 PutOrThrown vs v result us = (left : ℕ) → Put vs v left (turn_of left result) us
 

@@ -44,7 +44,8 @@ GivenHere vs f v (Err stops.Memory) g us = Unit {0}
 
 module _ {W S : Type 0} (state : W → State ℕ S) (modules : S → Modules ℕ) (linked : S → ℕ → Bool) (begins : Importing ℕ S)
     (Ready : W → Type 0) (Keeps : W → W → Type 0) (owns : S → ℕ → List (List ℕ)) where
-  -- functions go on from where the frame g tells; or the function has left its row, and nothing has followed; or a limit was passed
+  -- functions go on from where the frame g tells; or the function has left its row, and nothing has followed; or a limit was
+  -- passed; where memory ran out nothing is said
   abbrev pub Gone : W → Here → List Waiter → Active ℕ → Frame → Result Went Stop → W → Machine → Frame → Type 0
   Gone w h ws body f (Ok went.Moves) after late g = Proceeds state modules linked begins Ready Keeps owns w h ws body g after late
   Gone w h ws body f (Ok (went.Leaves t)) after late g = Turned state modules linked begins Ready Keeps owns w f h ws (Ok t) after late

@@ -41,7 +41,7 @@ pub trait Outside: Drop {
     /// What each call keeps.
     ghost keeps: { Self → Self → Type 0 };
 
-    /// Takes a step.
+    /// Takes a step. Memory never runs out.
     fn step(&mut self) -> Result<(), Stop>
         ensures { said.Steps state modules linked begins ready keeps self.old result self.new };
 

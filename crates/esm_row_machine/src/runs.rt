@@ -38,7 +38,7 @@ pub enum Ending {
     Thrown(Value),
 }
 
-/// Operations of one row, up to one that leaves it. Those that calls are made of are done here, and hand no value on.
+/// Operations of one row, up to one that leaves it. Those that calls are made of are done here, all others by `operate`.
 #[inline(always)]
 fn turns<W: Outside>(
     world: &mut W,
@@ -92,6 +92,7 @@ fn turns<W: Outside>(
 }
 
 /// What follows operations of one row.
+// Not inlined, so that the loop over a row stays small.
 #[inline(never)]
 fn follow<W: Outside>(
     world: &mut W,

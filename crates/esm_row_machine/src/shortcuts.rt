@@ -1,5 +1,5 @@
-// Calls and ends of functions for which no row has to be made: the frame that runs is changed where it stands, and no value
-// is handed on.
+// What the loop over a row does itself: the value of a name of the module, calls of functions whose rows are there, and
+// ends of functions for which others wait. The frame that runs is changed where it stands.
 ghost use Rattle.std.specs.Prelude.{◌≡◌, ◌<◌, length, slice_get, Some};
 ghost use Rattle.esm_row_machine.specs.Outside as said;
 ghost use Rattle.esm_row_machine.specs.Asking.{HeardOrThrown, PutOrThrown, TookOrThrown};
@@ -221,7 +221,8 @@ fn end_here<W: Outside>(
     }
 }
 
-/// What follows operations that left their row, where no row has to be made and nothing is thrown. Else nothing is done.
+/// What follows operations that left their row, where a function whose row is there begins, or one that waited goes on.
+/// Else nothing is done.
 #[inline(always)]
 pub(crate) fn follow_here<W: Outside>(
     world: &mut W,

@@ -8,7 +8,8 @@ use esm_values::{ErrorId, FaultKind, FuncId, RcText, Value};
 use std::alloc::Global;
 use std::test::Fail;
 
-/// A world in which each name is the function with the number 1. It is never ready, so that its calls say nothing.
+/// A world in which each name is the function with the number 1, and a name of the module that with the number of its place. It
+/// is never ready, so that its calls say nothing.
 #[derive(Drop)]
 struct Fake {
     alloc: Global,
@@ -70,8 +71,11 @@ impl Outside for Fake {
         })))
     }
 
-    fn read_own(&mut self, m: ModuleId, _place: u32) -> Result<Out, Stop> {
-        self.read(m, "")
+    fn read_own(&mut self, m: ModuleId, place: u32) -> Result<Out, Stop> {
+        Ok(Out::Value(Value::Func(FuncId {
+            module: m,
+            index: place,
+        })))
     }
 
     fn write(&mut self, _m: ModuleId, _name: &str, _value: Value) -> Result<Option<Value>, Stop> {
@@ -123,7 +127,13 @@ impl Outside for Fake {
             let row = throwing(self.alloc)?;
             Ok(Some(row))
         } else if function == 2 {
-            let row = calling_itself(self.alloc)?;
+            let row = calling(self.alloc)?;
+            Ok(Some(row))
+        } else if function == 3 {
+            let row = calling_twice(self.alloc)?;
+            Ok(Some(row))
+        } else if function == 4 {
+            let row = returning(self.alloc)?;
             Ok(Some(row))
         } else {
             Ok(None)
@@ -156,7 +166,7 @@ fn catching(alloc: Global) -> Result<Row, Memory> {
         Op::Drop,
         Op::Call(1),
         Op::Local(0, 0),
-        Op::Own(0),
+        Op::Own(1),
         Op::Step,
         Op::Try(0, 11),
         Op::Step,
@@ -181,13 +191,14 @@ fn throwing(alloc: Global) -> Result<Row, Memory> {
     })
 }
 
-// function h() { let y = g; if (y === h || !true) { h(); } else { } }
-fn calling_itself(alloc: Global) -> Result<Row, Memory> {
-    let texts = one_text(alloc, "h")?;
+// function h() { let y; g("g"); }
+fn calling(alloc: Global) -> Result<Row, Memory> {
+    let texts = one_text(alloc, "g")?;
     let ops = vec![in alloc;
         Op::End,
         Op::Drop,
-        Op::Call(0),
+        Op::Call(1),
+        Op::Text(0),
         Op::Name(0),
         Op::Step,
         Op::SetLocal(0),
@@ -199,6 +210,54 @@ fn calling_itself(alloc: Global) -> Result<Row, Memory> {
         texts,
         parameters: 0,
         names: 1,
+    })
+}
+
+// function t(a) { k(a); return k(a) + "!"; }
+fn calling_twice(alloc: Global) -> Result<Row, Memory> {
+    let texts = one_text(alloc, "!")?;
+    let ops = vec![in alloc;
+        Op::End,
+        Op::Return,
+        Op::Add,
+        Op::Text(0),
+        Op::Call(1),
+        Op::Local(0, 0),
+        Op::Own(4),
+        Op::Step,
+        Op::Drop,
+        Op::Call(1),
+        Op::Local(0, 0),
+        Op::Own(4),
+        Op::Step,
+    ]?;
+    Ok(Row {
+        ops,
+        texts,
+        parameters: 1,
+        names: 0,
+    })
+}
+
+// function k(x) { try { return x; } catch {} }
+fn returning(alloc: Global) -> Result<Row, Memory> {
+    let texts = one_text(alloc, "x")?;
+    let ops = vec![in alloc;
+        Op::End,
+        Op::Leave(0, 1),
+        Op::CaughtUnnamed(0),
+        Op::EndTry(0, 1),
+        Op::Return,
+        Op::Local(0, 0),
+        Op::Step,
+        Op::Try(0, 3),
+        Op::Step,
+    ]?;
+    Ok(Row {
+        ops,
+        texts,
+        parameters: 1,
+        names: 0,
     })
 }
 
@@ -255,6 +314,13 @@ fn what_is_thrown_leaves_the_outermost(rt: HostRuntime) -> Result<(), Fail> {
 #[test]
 fn a_throw_of_a_callee_leaves_its_caller(rt: HostRuntime) -> Result<(), Fail> {
     let told = called(rt.alloc(), 2, "a")?;
-    assert!(rt; !gives(&told, "a"));
+    assert!(rt; throws(&told, "g"));
+    Ok(())
+}
+
+#[test]
+fn a_second_call_gives_its_value(rt: HostRuntime) -> Result<(), Fail> {
+    let told = called(rt.alloc(), 3, "a")?;
+    assert!(rt; gives(&told, "a!"));
     Ok(())
 }

@@ -1,9 +1,20 @@
-use Rattle.std.proofs.Common.{◌∙◌}
-use Rattle.esm_body.specs.Inner.Names.{found_reading}
-use Rattle.esm_body.proofs.RowPlans.{reads_own}
+use Rattle.std.proofs.Common.{ap, ◌∙◌}
+use Rattle.esm_values.specs.Code.{value_of}
+use Rattle.esm_env.specs.Cells.{Reading as reading}
+use Rattle.esm_body.proofs.RowPlans.{reads_own, reads_value}
 use Rattle.esm_body.proofs.outside.InsideOutside.read_own.Goals as goal
+
+pub returns-in-Ok : goal.returns-in-Ok
+returns-in-Ok g c =
+    reads_value g.I.Importer.seen g.I.Importer.modules g.I.Importer.linked g.I.Importer.fits g.I.Importer.begins g.met.I.Importer.lawful c.shared_set.ensures.agrees c.shared_set.ensures.ends c.args.self.now c.args.m.0 c.args.place c.in-Ok.value c.reads_right.ensures
+    (λ x there. ap (λ v. reading.Value (value_of v)) c.in-Ok.ensures ∙ (rw c.in-Value.is at c.value.ensures x there))
 
 pub returns-in-Ok-tell : goal.returns-in-Ok-tell
 returns-in-Ok-tell g c =
-    reads_own g.I.Importer.seen g.I.Importer.modules g.I.Importer.linked g.I.Importer.fits g.I.Importer.begins g.met.I.Importer.lawful c.shared_set.ensures.agrees c.shared_set.ensures.ends c.args.self.now c.args.m.0 c.args.place c.name_at.result.now (found_reading c.in-Ok.found) c.in-Ok-tell.out c.tell.new.errors c.reads_right.ensures
-    c.name_at.ensures (λ x there. c.in-Ok.ensures ∙ c.value.ensures x there) c.in-Ok-tell.ensures
+    reads_own g.I.Importer.seen g.I.Importer.modules g.I.Importer.linked g.I.Importer.fits g.I.Importer.begins g.met.I.Importer.lawful c.shared_set.ensures.agrees c.shared_set.ensures.ends c.args.self.now c.args.m.0 c.args.place c.name_at.result.now reading.Unset c.in-Ok-tell.out c.tell.new.errors c.reads_right.ensures
+    c.name_at.ensures (λ x there. rw c.in-Unset.is at c.value.ensures x there) c.in-Ok-tell.ensures
+
+pub returns-in-Ok-tell-in-Undeclared : goal.returns-in-Ok-tell-in-Undeclared
+returns-in-Ok-tell-in-Undeclared g c =
+    reads_own g.I.Importer.seen g.I.Importer.modules g.I.Importer.linked g.I.Importer.fits g.I.Importer.begins g.met.I.Importer.lawful c.shared_set.ensures.agrees c.shared_set.ensures.ends c.args.self.now c.args.m.0 c.args.place c.name_at-in-Undeclared.result.now reading.Undeclared c.in-Ok-tell-in-Undeclared.out c.tell-in-Undeclared.new.errors c.reads_right.ensures
+    c.name_at-in-Undeclared.ensures (λ x there. rw c.in-Undeclared.is at c.value.ensures x there) c.in-Ok-tell-in-Undeclared.ensures
