@@ -14,7 +14,7 @@ returns-in-Ok-tell g c =
     reads_own g.I.Importer.seen g.I.Importer.modules g.I.Importer.linked g.I.Importer.fits g.I.Importer.begins g.met.I.Importer.lawful c.shared_set.ensures.agrees c.shared_set.ensures.ends c.args.self.now c.args.m.0 c.args.place c.name_at.result.now reading.Unset c.in-Ok-tell.out c.tell.new.errors c.reads_right.ensures
     c.name_at.ensures (λ x there. rw c.in-Unset.is at c.value.ensures x there) c.in-Ok-tell.ensures
 
-pub returns-in-Ok-tell-in-Undeclared : goal.returns-in-Ok-tell-in-Undeclared
-returns-in-Ok-tell-in-Undeclared g c =
-    reads_own g.I.Importer.seen g.I.Importer.modules g.I.Importer.linked g.I.Importer.fits g.I.Importer.begins g.met.I.Importer.lawful c.shared_set.ensures.agrees c.shared_set.ensures.ends c.args.self.now c.args.m.0 c.args.place c.name_at-in-Undeclared.result.now reading.Undeclared c.in-Ok-tell-in-Undeclared.out c.tell-in-Undeclared.new.errors c.reads_right.ensures
-    c.name_at-in-Undeclared.ensures (λ x there. rw c.in-Undeclared.is at c.value.ensures x there) c.in-Ok-tell-in-Undeclared.ensures
+pub returns-in-Ok-tell-2 : goal.returns-in-Ok-tell-2
+returns-in-Ok-tell-2 g c =
+    reads_own g.I.Importer.seen g.I.Importer.modules g.I.Importer.linked g.I.Importer.fits g.I.Importer.begins g.met.I.Importer.lawful c.shared_set.ensures.agrees c.shared_set.ensures.ends c.args.self.now c.args.m.0 c.args.place c.name_at-in-Undeclared.result.now reading.Undeclared c.in-Ok-tell-2.out c.tell-in-Undeclared.new.errors c.reads_right.ensures
+    c.name_at-in-Undeclared.ensures (λ x there. rw c.in-Undeclared.is at c.value.ensures x there) c.in-Ok-tell-2.ensures
