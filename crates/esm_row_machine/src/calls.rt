@@ -1,5 +1,5 @@
 // Calls of functions.
-ghost use Rattle.std.specs.Prelude.{◌≡◌, ◌++◌, ◌∷◌, [], drop, IfOk, OnOk};
+ghost use Rattle.std.specs.Prelude.{◌≡◌, ◌<◌, ◌-◌, ◌++◌, ◌∷◌, [], drop, replicate, take, IfOk, OnOk};
 ghost use Rattle.esm_values.specs.Code.{value_of, values_of};
 ghost use Rattle.esm_rewriting.specs.Scopes.{argument_of};
 ghost use Rattle.esm_row_machine.specs.Stacks.{names_on};
@@ -45,6 +45,46 @@ fn pass(names: &mut Vec<Option<Value>>, values: &[Value], parameters: u32) -> Re
     Ok(())
 }
 
+/// The same, where there may be no parameters.
+#[inline(always)]
+fn pass_any(
+    names: &mut Vec<Option<Value>>,
+    values: &[Value],
+    parameters: u32,
+) -> Result<(), Memory>
+    ensures { OnOk result (names_on names.new.items
+        ≡ names_on names.old.items ++ passed parameters (values_of values.now)) }
+{
+    if parameters == 0 {
+        return Ok(());
+    }
+    pass(names, values, parameters)
+}
+
+/// So many names begin, unset, where there may be none.
+#[inline(always)]
+fn begin_any(names: &mut Vec<Option<Value>>, count: u32) -> Result<(), Memory>
+    ensures { OnOk result (names.new.items ≡ names.old.items ++ replicate count None) }
+{
+    if count == 0 {
+        return Ok(());
+    }
+    begin_names(names, count)
+}
+
+/// The callee goes, which stands below its arguments, and they go.
+#[inline(always)]
+fn take_callee(operands: &mut Vec<Value>, first: usize)
+    requires { 0 < first }
+    ensures { operands.new.items ≡ take (first - 1) operands.old.items }
+{
+    if operands.len() == first {
+        let _callee = operands.pop();
+    } else {
+        operands.truncate(first - 1);
+    }
+}
+
 /// A function begins: its arguments and the callee are taken, and its names begin.
 #[inline(always)]
 pub(crate) fn enter(
@@ -62,13 +102,13 @@ pub(crate) fn enter(
         let names = machine.names.len();
         let handlers = machine.handlers.len();
         let left = row.ops.len();
-        pass(
+        pass_any(
             &mut machine.names,
             &machine.operands[first..],
             row.parameters,
         )?;
-        begin_names(&mut machine.names, row.names)?;
-        machine.operands.truncate(first - 1);
+        begin_any(&mut machine.names, row.names)?;
+        take_callee(&mut machine.operands, first);
         Ok(Frame {
             at: function.module,
             function: function.index,
@@ -91,7 +131,10 @@ fn function_of(value: &Value) -> Option<FuncId>
         Value::Undefined => None,
         Value::Bool(_) => None,
         Value::Text(_) => None,
-        Value::Func(id) => Some(*id),
+        Value::Func(id) => Some(FuncId {
+            module: id.module,
+            index: id.index,
+        }),
         Value::Error(_) => None,
         Value::Namespace(_) => None,
         Value::Promise(_) => None,
@@ -132,6 +175,20 @@ fn refuse<W: Outside>(
 /// One function more waits.
 #[inline(always)]
 pub(crate) fn push_frame(frames: &mut Vec<Frame>, frame: Frame) -> Result<(), Memory>
+    ensures { OnOk result (frames.new.items ≡ frames.old.items ++ frame ∷ []) }
+{
+    if frames.len() < frames.capacity() {
+        frames.push_reserved(frame);
+        Ok(())
+    } else {
+        push_frame_growing(frames, frame)
+    }
+}
+
+/// The same where the stack has to grow.
+#[cold]
+#[inline(never)]
+fn push_frame_growing(frames: &mut Vec<Frame>, frame: Frame) -> Result<(), Memory>
     ensures { OnOk result (frames.new.items ≡ frames.old.items ++ frame ∷ []) }
 {
     frames.push(frame)?;

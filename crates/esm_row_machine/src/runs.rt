@@ -9,10 +9,10 @@ use crate::ending::give_back;
 use crate::machine::{Frame, Machine};
 use crate::outside::Outside;
 use crate::rows::Rows;
-use crate::shortcuts::{Went, follow_here, op_at, put_own};
+use crate::shortcuts::{Went, follow_here, op_at, operate_at, put_own};
 use crate::stacks::pop;
 use crate::throws::throw;
-use crate::turn::{Turn, operate};
+use crate::turn::Turn;
 use esm_base::Memory;
 use esm_rewriting::Stop;
 use esm_rows::{Op, Row};
@@ -74,7 +74,7 @@ fn turns<W: Outside>(
             },
             Op::Call(arguments) => return Ok(Turn::Calls(arguments, left)),
             Op::End => return Ok(Turn::Returns(Value::Undefined)),
-            _ => match operate(world, machine, frame, row, op, left) {
+            _ => match operate_at(world, machine, frame, row, left) {
                 Ok(told) => match told {
                     Turn::On(next) => {
                         if next > left {

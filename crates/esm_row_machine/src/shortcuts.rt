@@ -1,8 +1,9 @@
 // What the loop over a row does itself: the value of a name of the module, calls of functions whose rows are there, and
 // ends of functions for which others wait. The frame that runs is changed where it stands.
-ghost use Rattle.std.specs.Prelude.{◌≡◌, ◌<◌, length, slice_get, Some};
+ghost use Rattle.std.specs.Prelude.{◌≡◌, ◌<◌, ◌+◌, length, slice_get, Some};
 ghost use Rattle.esm_row_machine.specs.Outside as said;
 ghost use Rattle.esm_row_machine.specs.Asking.{HeardOrThrown, PutOrThrown, TookOrThrown};
+ghost use Rattle.esm_row_machine.specs.Turns.{TurnsOn};
 ghost use Rattle.esm_row_machine.specs.Shortcuts.{BeginsFrom, CallsFrom, EndsFrom, EntersHere, FollowsFrom, FoundFrom, GivenHere, at_left};
 
 use crate::calls::{callee, enter, push_frame};
@@ -10,7 +11,7 @@ use crate::machine::{Frame, Machine};
 use crate::outside::Outside;
 use crate::rows::Rows;
 use crate::stacks::{keep_handlers, keep_names, push};
-use crate::turn::Turn;
+use crate::turn::{Turn, operate};
 use esm_base::{MAX_CALL_DEPTH, Memory, ModuleId};
 use esm_expr_eval::Out;
 use esm_rewriting::Stop;
@@ -33,6 +34,23 @@ pub(crate) fn op_at(row: &Row, place: usize) -> Op
     ensures { slice_get row.now.ops.items place ≡ Some result }
 {
     row.ops[place]
+}
+
+/// The operation at a place of its row is done.
+// Not inlined, so that the loop over a row stays small.
+#[inline(never)]
+pub(crate) fn operate_at<W: Outside>(
+    world: &mut W,
+    machine: &mut Machine,
+    frame: Frame,
+    row: &Row,
+    left: usize,
+) -> Result<Turn, Stop>
+    requires { left < length row.now.ops.items }
+    ensures { TurnsOn W.state W.modules W.linked W.begins W.ready W.keeps W.owns
+        world.old machine.old frame (left + 1) row.now result world.new machine.new }
+{
+    operate(world, machine, frame, row, op_at(row, left), left)
 }
 
 /// A value is put on top.

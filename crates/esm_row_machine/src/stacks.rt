@@ -11,6 +11,20 @@ use esm_values::Value;
 pub(crate) fn push(operands: &mut Vec<Value>, value: Value) -> Result<(), Memory>
     ensures { OnOk result (operands.new.items ≡ operands.old.items ++ value ∷ []) }
 {
+    if operands.len() < operands.capacity() {
+        operands.push_reserved(value);
+        Ok(())
+    } else {
+        push_growing(operands, value)
+    }
+}
+
+/// The same where the stack has to grow.
+#[cold]
+#[inline(never)]
+fn push_growing(operands: &mut Vec<Value>, value: Value) -> Result<(), Memory>
+    ensures { OnOk result (operands.new.items ≡ operands.old.items ++ value ∷ []) }
+{
     operands.push(value)?;
     Ok(())
 }

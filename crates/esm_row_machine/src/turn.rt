@@ -121,8 +121,6 @@ fn put_url<W: Outside>(
 }
 
 /// One operation, behind which so many are left. The loop over a row does five of them itself, as is done here.
-// Not inlined, so that the loop over a row stays small.
-#[inline(never)]
 pub(crate) fn operate<W: Outside>(
     world: &mut W,
     machine: &mut Machine,

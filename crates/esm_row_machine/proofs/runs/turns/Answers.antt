@@ -11,6 +11,9 @@ turning-init g c = amid_starts g.W.Outside.state g.W.Outside.modules g.W.Outside
 pub op_at-op-requires : goal.op_at-op-requires
 op_at-op-requires g c = omega (arith, c.turning-test.true, c.turning.invariant.within)
 
+pub operate_at-requires : goal.operate_at-requires
+operate_at-requires g c = omega (arith, c.turning-test.true, c.turning.invariant.within)
+
 pub turning-preserved-in-Ok : goal.turning-preserved-in-Ok
 turning-preserved-in-Ok g c =
     let e : c.turning.left - 1 + 1 ≡ c.turning.left = omega (arith, c.turning-test.true) in
@@ -54,14 +57,14 @@ returns-in-End g c =
 pub turning-preserved : goal.turning-preserved
 turning-preserved g c =
     let e : c.turning.left - 1 + 1 ≡ c.turning.left = omega (arith, c.turning-test.true) in
-    amid_goes g.W.Outside.state g.W.Outside.modules g.W.Outside.linked g.W.Outside.begins g.W.Outside.ready g.W.Outside.keeps g.W.Outside.owns (record { itself = g.met.W.Outside.keeps_itself; both = g.met.W.Outside.keeps_both; stays = g.met.W.Outside.stays }) c.args.world.now c.args.machine.now c.args.frame c.args.row.now c.turning.left c.turning.world c.turning.machine c.turning.invariant c.in-On.next c.operate.new.world c.operate.new.machine (omega (arith, c.turning-test.true, c.if-next-left.false)) (turn_any g.W.Outside.state g.W.Outside.modules g.W.Outside.linked g.W.Outside.begins g.W.Outside.ready g.W.Outside.keeps g.W.Outside.owns (record { itself = g.met.W.Outside.keeps_itself; both = g.met.W.Outside.keeps_both; stays = g.met.W.Outside.stays }) c.turning.world c.turning.machine c.args.frame c.turning.left (c.turning.left - 1) c.args.row.now e (Ok (turn.On c.in-On.next)) c.operate.new.world c.operate.new.machine (rw c.in-On.is at c.in-Ok-operate.ensures c.op_at-op.ensures))
+    amid_goes g.W.Outside.state g.W.Outside.modules g.W.Outside.linked g.W.Outside.begins g.W.Outside.ready g.W.Outside.keeps g.W.Outside.owns (record { itself = g.met.W.Outside.keeps_itself; both = g.met.W.Outside.keeps_both; stays = g.met.W.Outside.stays }) c.args.world.now c.args.machine.now c.args.frame c.args.row.now c.turning.left c.turning.world c.turning.machine c.turning.invariant c.in-On.next c.operate_at.new.world c.operate_at.new.machine (omega (arith, c.turning-test.true, c.if-next-left.false)) (turn_any g.W.Outside.state g.W.Outside.modules g.W.Outside.linked g.W.Outside.begins g.W.Outside.ready g.W.Outside.keeps g.W.Outside.owns (record { itself = g.met.W.Outside.keeps_itself; both = g.met.W.Outside.keeps_both; stays = g.met.W.Outside.stays }) c.turning.world c.turning.machine c.args.frame c.turning.left (c.turning.left - 1) c.args.row.now e (Ok (turn.On c.in-On.next)) c.operate_at.new.world c.operate_at.new.machine (rw c.in-On.is at c.in-Ok-operate_at.ensures))
 
 pub returns-in_default-told : goal.returns-in_default-told
 returns-in_default-told g c =
     let e : c.turning.left - 1 + 1 ≡ c.turning.left = omega (arith, c.turning-test.true) in
-    amid_ends g.W.Outside.state g.W.Outside.modules g.W.Outside.linked g.W.Outside.begins g.W.Outside.ready g.W.Outside.keeps g.W.Outside.owns (record { itself = g.met.W.Outside.keeps_itself; both = g.met.W.Outside.keeps_both; stays = g.met.W.Outside.stays }) c.args.world.now c.args.machine.now c.args.frame c.args.row.now c.turning.left c.turning.world c.turning.machine c.turning.invariant (Ok c.in-Ok-operate.told) c.operate.new.world c.operate.new.machine (turn_any g.W.Outside.state g.W.Outside.modules g.W.Outside.linked g.W.Outside.begins g.W.Outside.ready g.W.Outside.keeps g.W.Outside.owns (record { itself = g.met.W.Outside.keeps_itself; both = g.met.W.Outside.keeps_both; stays = g.met.W.Outside.stays }) c.turning.world c.turning.machine c.args.frame c.turning.left (c.turning.left - 1) c.args.row.now e (Ok c.in-Ok-operate.told) c.operate.new.world c.operate.new.machine (c.in-Ok-operate.ensures c.op_at-op.ensures))
+    amid_ends g.W.Outside.state g.W.Outside.modules g.W.Outside.linked g.W.Outside.begins g.W.Outside.ready g.W.Outside.keeps g.W.Outside.owns (record { itself = g.met.W.Outside.keeps_itself; both = g.met.W.Outside.keeps_both; stays = g.met.W.Outside.stays }) c.args.world.now c.args.machine.now c.args.frame c.args.row.now c.turning.left c.turning.world c.turning.machine c.turning.invariant (Ok c.in-Ok-operate_at.told) c.operate_at.new.world c.operate_at.new.machine (turn_any g.W.Outside.state g.W.Outside.modules g.W.Outside.linked g.W.Outside.begins g.W.Outside.ready g.W.Outside.keeps g.W.Outside.owns (record { itself = g.met.W.Outside.keeps_itself; both = g.met.W.Outside.keeps_both; stays = g.met.W.Outside.stays }) c.turning.world c.turning.machine c.args.frame c.turning.left (c.turning.left - 1) c.args.row.now e (Ok c.in-Ok-operate_at.told) c.operate_at.new.world c.operate_at.new.machine (c.in-Ok-operate_at.ensures))
 
-pub returns-in-Err-operate : goal.returns-in-Err-operate
-returns-in-Err-operate g c =
+pub returns-in-Err-operate_at : goal.returns-in-Err-operate_at
+returns-in-Err-operate_at g c =
     let e : c.turning.left - 1 + 1 ≡ c.turning.left = omega (arith, c.turning-test.true) in
-    amid_ends g.W.Outside.state g.W.Outside.modules g.W.Outside.linked g.W.Outside.begins g.W.Outside.ready g.W.Outside.keeps g.W.Outside.owns (record { itself = g.met.W.Outside.keeps_itself; both = g.met.W.Outside.keeps_both; stays = g.met.W.Outside.stays }) c.args.world.now c.args.machine.now c.args.frame c.args.row.now c.turning.left c.turning.world c.turning.machine c.turning.invariant (Err c.in-Err-operate.stop) c.operate.new.world c.operate.new.machine (turn_any g.W.Outside.state g.W.Outside.modules g.W.Outside.linked g.W.Outside.begins g.W.Outside.ready g.W.Outside.keeps g.W.Outside.owns (record { itself = g.met.W.Outside.keeps_itself; both = g.met.W.Outside.keeps_both; stays = g.met.W.Outside.stays }) c.turning.world c.turning.machine c.args.frame c.turning.left (c.turning.left - 1) c.args.row.now e (Err c.in-Err-operate.stop) c.operate.new.world c.operate.new.machine (c.in-Err-operate.ensures c.op_at-op.ensures))
+    amid_ends g.W.Outside.state g.W.Outside.modules g.W.Outside.linked g.W.Outside.begins g.W.Outside.ready g.W.Outside.keeps g.W.Outside.owns (record { itself = g.met.W.Outside.keeps_itself; both = g.met.W.Outside.keeps_both; stays = g.met.W.Outside.stays }) c.args.world.now c.args.machine.now c.args.frame c.args.row.now c.turning.left c.turning.world c.turning.machine c.turning.invariant (Err c.in-Err-operate_at.stop) c.operate_at.new.world c.operate_at.new.machine (turn_any g.W.Outside.state g.W.Outside.modules g.W.Outside.linked g.W.Outside.begins g.W.Outside.ready g.W.Outside.keeps g.W.Outside.owns (record { itself = g.met.W.Outside.keeps_itself; both = g.met.W.Outside.keeps_both; stays = g.met.W.Outside.stays }) c.turning.world c.turning.machine c.args.frame c.turning.left (c.turning.left - 1) c.args.row.now e (Err c.in-Err-operate_at.stop) c.operate_at.new.world c.operate_at.new.machine (c.in-Err-operate_at.ensures))
