@@ -1,6 +1,8 @@
--- Operations that are done in the loop over a row, and calls and ends of functions where the frame is changed in its place.
-use Rattle.std.proofs.Common.{◌≡◌, ◌<◌, ◌≤◌, ℕ, ◌+◌, Bool, List, [], ◌∷◌, ◌++◌, length, take, Some, refl, sym, subst, arith}
-use Rattle.std.specs.Prelude.{Result, Ok, Err, slice_get}
+-- Operations that are done in the loop over rows, and calls and ends of functions where the frame is changed in its place.
+use Rattle.std.proofs.Common.{◌≡◌, ◌<◌, ◌≤◌, ℕ, ◌+◌, Bool, List, [], ◌∷◌, ◌++◌, length, take, Some, refl, sym, subst, ◌∙◌, arith}
+use Rattle.std.specs.Prelude.{Result, Ok, Err, Option, None, slice_get}
+use Rattle.std.specs.Borrow.{Bor}
+use Rattle.esm_base.specs.declared.limits.Limit.{Limit}
 use Rattle.esm_base.specs.declared.limits.TheConstants.{MAX_CALL_DEPTH}
 use Rattle.esm_env.specs.Modules.{Modules}
 use Rattle.esm_values.specs.Code.{value_of}
@@ -8,20 +10,21 @@ use Rattle.esm_values.specs.declared.value.FuncId.{FuncId}
 use Rattle.esm_values.specs.declared.value.Value.{Value}
 use Rattle.esm_values.specs.declared.value.Value.TheVariants as values
 use Rattle.esm_rewriting.specs.State.{State, Importing}
-use Rattle.esm_rewriting.specs.Segment.{Active}
+use Rattle.esm_rewriting.specs.Segment.{Active, Ended}
+use Rattle.esm_rewriting.specs.Segment.{Ended as ended}
 use Rattle.esm_rewriting.specs.declared.stop.Stop.{Stop}
 use Rattle.esm_rewriting.specs.declared.stop.Stop.TheVariants as stops
 use Rattle.esm_rows.specs.declared.op.Op.{Op}
 use Rattle.esm_rows.specs.declared.op.Op.TheVariants as op
 use Rattle.esm_rows.specs.declared.row.Row.{Row}
-use Rattle.esm_row_machine.specs.Functions.{Here, Waiter}
+use Rattle.esm_row_machine.specs.Functions.{Here, Waiter, moved, callers}
 use Rattle.esm_row_machine.specs.Tables.{row_in}
 use Rattle.esm_row_machine.specs.Outside.{Steps, ReadsPlace}
 use Rattle.esm_row_machine.specs.Asking.{Heard}
-use Rattle.esm_row_machine.specs.Entering.{EntersAs, IsCallee}
+use Rattle.esm_row_machine.specs.Entering.{Begun, IsCallee}
 use Rattle.esm_row_machine.specs.Turns.{Stands, CallsHere, GivesBack, Turned, TurnsOn}
-use Rattle.esm_row_machine.specs.Follows.{FollowsOn, FollowsTurn, RowsFit}
-use Rattle.esm_row_machine.specs.Shortcuts.{at_left, EntersHere, GivenHere, Gone, GoesFrom}
+use Rattle.esm_row_machine.specs.Follows.{Followed, FollowsOn, FollowsTurn, HaltsAll, RowsFit, SegmentOf}
+use Rattle.esm_row_machine.specs.Shortcuts.{at_left, HasRow, IsRowFor, Entered, EntersHere, GivenHere, Gone, InPlace, Reaches, GoesFrom}
 use Rattle.esm_row_machine.specs.declared.machine.Frame.{Frame}
 use Rattle.esm_row_machine.specs.declared.machine.Machine.{Machine}
 use Rattle.esm_row_machine.specs.declared.rows.Rows.{Rows}
@@ -29,13 +32,9 @@ use Rattle.esm_row_machine.specs.declared.turn.Turn.{Turn}
 use Rattle.esm_row_machine.specs.declared.turn.Turn.TheVariants as turn
 use Rattle.esm_row_machine.specs.declared.runs.Next.{Next}
 use Rattle.esm_row_machine.specs.declared.runs.Next.TheVariants as next
-use Rattle.esm_row_machine.specs.declared.shortcuts.Went.{Went}
-use Rattle.esm_row_machine.specs.declared.shortcuts.Went.TheVariants as went
 use Rattle.esm_row_machine.proofs.Going.{IsLawful}
 use Rattle.esm_row_machine.proofs.Coming.{Comes, comes}
 use Rattle.esm_row_machine.proofs.Literals.{with_operands}
-use Rattle.esm_row_machine.proofs.Onway.{Onway}
-use Rattle.esm_row_machine.proofs.Onway as onway
 use Rattle.esm_row_machine.proofs.Followed as followed
 use Rattle.esm_row_machine.proofs.Returned as returned
 use Rattle.esm_row_machine.proofs.Called as called
@@ -45,22 +44,29 @@ use Rattle.esm_row_machine.proofs.Deciding as deciding
 use Rattle.esm_row_machine.proofs.Leaving as leaving
 use Rattle.esm_row_machine.proofs.AtCall as at_call
 
--- ---- a function begins in the place of the one that called it
+-- ---- the row of a function that begins in the place of the one that called it
 
-module _ (s mid : Machine) (row : Row) (f : Frame) (function : FuncId) (count : ℕ) (g : Frame) (enters : EntersAs s function row count g mid) (late : Machine) where
-  -- nothing but the functions that wait is changed behind its beginning
-  pub enters_here : late.operands.items ≡ mid.operands.items → late.names.items ≡ mid.names.items → late.handlers.items ≡ mid.handlers.items → late.frames.items ≡ mid.frames.items ++ f ∷ []
-      → EntersHere s row f function count (Ok went.Moves) g late
-  enters_here operands names handlers frames rows there =
-      record { row = row; there = there; mid = mid; enters = enters; operands = operands; names = names; handlers = handlers; frames = frames }
+pub has_row : (s : Machine) (row : Row) (f : Frame) (function : FuncId) (count : ℕ) (g : Frame) (late : Machine) → Entered s row f function count g late
+    → (rows : Rows) → row_in rows function.module.0 function.index ≡ Some row → HasRow rows g row
+has_row s row f function count g late e rows there = record {
+  there = (λ i. row_in rows (e.enters.home i).0 (e.enters.number i)) ∙ there;
+  within = omega (arith, e.enters.left);
+}
 
--- ---- the loop over a row
+pub begun_so : (s : Machine) (row : Row) (f : Frame) (function : FuncId) (count : ℕ) (g : Frame) (late : Machine) → Entered s row f function count g late
+    → (rows : Rows) → row_in rows function.module.0 function.index ≡ Some row → Begun s rows f function count g late
+begun_so s row f function count g late e rows there =
+    record { row = row; there = there; mid = e.mid; enters = e.enters; operands = e.operands; names = e.names; handlers = e.handlers; frames = e.frames }
+
+-- ---- the loop over rows
 
 module _ {W S : Type 0} (state : W → State ℕ S) (modules : S → Modules ℕ) (linked : S → ℕ → Bool) (begins : Importing ℕ S)
     (Ready : W → Type 0) (Keeps : W → W → Type 0) (owns : S → ℕ → List (List ℕ)) where
-  -- what is left leads where the whole leads, and stands in the row
-  pub record Amid (w : W) (s : Machine) (f : Frame) (row : Row) (left : ℕ) (now : W) (late : Machine) : Type 0 where
-    pub way : Onway state modules linked begins Ready Keeps owns w s f row left now late
+  -- the function that runs, and what is left of its row, lead where the whole leads
+  pub record Amid (w : W) (s : Machine) (rows : Rows) (f g : Frame) (row : Row) (left : ℕ) (now : W) (late : Machine) : Type 0 where
+    pub way : (h : Here) (ws : List Waiter) (body : Active ℕ) → Stands state modules linked begins Ready Keeps owns w s f f.left h ws
+        → RowsFit state modules linked begins Ready Keeps owns w rows → Reaches state modules linked begins Ready Keeps owns w h ws body g left now late
+    pub there : row_in rows g.at.0 g.function ≡ Some row
     pub within : left ≤ length row.ops.items
 
 module _ {W S : Type 0} (state : W → State ℕ S) (modules : S → Modules ℕ) (linked : S → ℕ → Bool) (begins : Importing ℕ S)
@@ -74,8 +80,11 @@ module _ {W S : Type 0} (state : W → State ℕ S) (modules : S → Modules ℕ
   abbrev Fit : W → Rows → Type 0
   Fit w rows = RowsFit state modules linked begins Ready Keeps owns w rows
 
-  abbrev Went_so : W → Here → List Waiter → Active ℕ → Frame → Result Went Stop → W → Machine → Frame → Type 0
-  Went_so w h ws body f result after late g = Gone state modules linked begins Ready Keeps owns w h ws body f result after late g
+  abbrev Gone_so : W → Here → List Waiter → Active ℕ → Frame → Turn → Result (Option (Bor Row)) Stop → W → Machine → Frame → Type 0
+  Gone_so w h ws body f t result after late g = Gone state modules linked begins Ready Keeps owns w h ws body f t result after late g
+
+  abbrev Leads_in : W → Here → List Waiter → W → Here → List Waiter → Active ℕ → Type 0
+  Leads_in w h ws from there waiters body = (how : Ended ℕ) (end : State ℕ S) → SegmentOf state modules linked begins Ready Keeps owns from there waiters body how end → SegmentOf state modules linked begins Ready Keeps owns w h ws body how end
 
   abbrev Takes : W → Result (Unit {0}) Stop → W → Type 0
   Takes w result after = Steps state modules linked begins Ready Keeps w result after
@@ -126,22 +135,6 @@ module _ {W S : Type 0} (state : W → State ℕ S) (modules : S → Modules ℕ
     pub turn_any : (result : Result Turn Stop) (after : W) (late : Machine) → Turns w s f (behind + 1) row result after late → Turns w s f left row result after late
     turn_any result after late t = subst (λ (n : ℕ). Turns w s f n row result after late) e t
 
-  -- ---- the loop over a row
-
-  module _ (w : W) (s : Machine) (f : Frame) (row : Row) where
-    pub amid_starts : f.left ≤ length row.ops.items → Amid state modules linked begins Ready Keeps owns w s f row f.left w s
-    amid_starts few = record { way = onway.onway_starts state modules linked begins Ready Keeps owns lawful w s f row; within = few }
-
-    module _ (left : ℕ) (now : W) (late : Machine) (m : Amid state modules linked begins Ready Keeps owns w s f row left now late) where
-      pub amid_goes : (n : ℕ) (after : W) (end : Machine) → n ≤ left → Turns now late f left row (Ok (turn.On n)) after end → Amid state modules linked begins Ready Keeps owns w s f row n after end
-      amid_goes n after end few t = record {
-        way = onway.onway_goes state modules linked begins Ready Keeps owns lawful w s f row left now late m.way n after end t;
-        within = omega (arith, few, m.within);
-      }
-
-      pub amid_ends : (result : Result Turn Stop) (after : W) (end : Machine) → Turns now late f left row result after end → Turns w s f f.left row result after end
-      amid_ends result after end t = onway.turned_on state modules linked begins Ready Keeps owns lawful w s f row left now late m.way result after end t
-
   -- ---- calls
 
   module _ (w0 : W) (h : Here) (ws : List Waiter) (body : Active ℕ) (w : W) (s : Machine) (f : Frame) (count left : ℕ) (c : CallsHere state modules linked begins Ready Keeps owns w0 f h ws count left w s) where
@@ -149,64 +142,182 @@ module _ {W S : Type 0} (state : W → State ℕ S) (modules : S → Modules ℕ
     waits_at = followed.calls_left state modules linked begins Ready Keeps owns w0 f h ws count left w s c
 
     -- its step is one too many
-    pub call_stops : (stop : Stop) (after : W) (late : Machine) (g : Frame) → Takes w (Err stop) after → Went_so w0 h ws body f (Err stop) after late g
+    pub call_stops : (stop : Stop) (after : W) (late : Machine) (g : Frame) → Takes w (Err stop) after → Gone_so w0 h ws body f (turn.Calls count left) (Err stop) after late g
     call_stops (stops.Limit why) after late g t =
         called.step_stops state modules linked begins Ready Keeps owns lawful w0 h ws body w s (at_left f left) count waits_at (stops.Limit why) after late t
     call_stops stops.Memory after late g t = tt
 
     -- the function begins
     pub call_begins : (mid : W) → Takes w (Ok tt) mid → (id : FuncId) → IsCallee s.operands.items count (Some id) → length s.frames.items + 1 < MAX_CALL_DEPTH → (rows : Rows) → Fit w rows → (row : Row)
-        → row_in rows id.module.0 id.index ≡ Some row → (result : Result Went Stop) (g : Frame) (late : Machine) → EntersHere s row (at_left f left) id count result g late → Went_so w0 h ws body f result mid late g
-    call_begins mid t id k few rows fit row there (Ok went.Moves) g late enters =
+        → row_in rows id.module.0 id.index ≡ Some row → (r : Bor Row) (g : Frame) (late : Machine) → Entered s row (at_left f left) id count g late
+        → Gone_so w0 h ws body f (turn.Calls count left) (Ok (Some r)) mid late g
+    call_begins mid t id k few rows fit row there r g late enters =
         let u = t c.fits.is_ready in
         (called.called_follows state modules linked begins Ready Keeps owns lawful w0 h ws body w s (at_left f left) count waits_at mid u.0 u.1 id k.0 k.1 k.2 k.3 few rows rows fit (Ok (next.Goes g)) late
-        (enters rows there, λ ready home fits. fits)).0
-    call_begins mid t id k few rows fit row there (Ok (went.Leaves u)) g late enters = absurd enters
-    call_begins mid t id k few rows fit row there (Err (stops.Limit why)) g late enters = absurd enters
-    call_begins mid t id k few rows fit row there (Err stops.Memory) g late enters = tt
+        (begun_so s row (at_left f left) id count g late enters rows there, λ ready home fits. fits)).0
+
+  -- nothing but want of memory keeps it from beginning
+  pub call_lacks : (w0 : W) (h : Here) (ws : List Waiter) (body : Active ℕ) (f : Frame) (t : Turn) (s : Machine) (row : Row) (f1 : Frame) (id : FuncId) (count : ℕ) (stop : Stop) (after : W) (g : Frame) (late : Machine)
+      → EntersHere s row f1 id count (Err stop) g late → Gone_so w0 h ws body f t (Err stop) after late g
+  call_lacks w0 h ws body f t s row f1 id count (stops.Limit why) after g late enters = absurd enters
+  call_lacks w0 h ws body f t s row f1 id count stops.Memory after g late enters = tt
 
   -- ---- ends
 
   module _ (w0 w : W) (h : Here) (ws : List Waiter) (body : Active ℕ) (s late : Machine) (f : Frame) (v : Value) (names : late.names.items ≡ take f.names s.names.items)
       (handlers : late.handlers.items ≡ take f.handlers s.handlers.items) (gives : GivesBack state modules linked begins Ready Keeps owns w0 f h ws (value_of v) w s) where
     -- a function waited for the value, and goes on
-    pub end_goes_on : (q : Frame) → s.frames.items ≡ late.frames.items ++ q ∷ [] → (result : Result Went Stop) (g : Frame) → GivenHere s.operands.items q v result g late.operands.items → Went_so w0 h ws body f result w late g
-    end_goes_on q frames (Ok went.Moves) g p = returned.to_caller state modules linked begins Ready Keeps owns w0 w h ws body s late f v names handlers gives q frames (Ok (next.Goes g)) p
-    end_goes_on q frames (Ok (went.Leaves t)) g p = absurd p
-    end_goes_on q frames (Err (stops.Limit why)) g p = absurd p
-    end_goes_on q frames (Err stops.Memory) g p = tt
+    pub end_goes_on : (q : Frame) → s.frames.items ≡ late.frames.items ++ q ∷ [] → (rows : Rows) (result : Result (Option (Bor Row)) Stop) (g : Frame) → GivenHere rows s.operands.items q v result g late.operands.items
+        → Gone_so w0 h ws body f (turn.Returns v) result w late g
+    end_goes_on q frames rows (Ok (Some r)) g p = returned.to_caller state modules linked begins Ready Keeps owns w0 w h ws body s late f v names handlers gives q frames (Ok (next.Goes g)) (p.0, p.1)
+    end_goes_on q frames rows (Ok None) g p = absurd p
+    end_goes_on q frames rows (Err (stops.Limit why)) g p = absurd p
+    end_goes_on q frames rows (Err stops.Memory) g p = tt
 
-  -- ---- what follows a row
+  pub given_row : (rows : Rows) (us : List Value) (q : Frame) (v : Value) (result : Result (Option (Bor Row)) Stop) (g : Frame) (vs : List Value) → GivenHere rows us q v result g vs → IsRowFor rows g result
+  given_row rows us q v (Ok (Some r)) g vs p = p.2
+  given_row rows us q v (Ok None) g vs p = tt
+  given_row rows us q v (Err stop) g vs p = tt
 
-  -- a limit in a row is one of all
-  pub gone_stops : (w : W) (h : Here) (ws : List Waiter) (body : Active ℕ) (f : Frame) (stop : Stop) (after : W) (late : Machine) (g : Frame) → Turned state modules linked begins Ready Keeps owns w f h ws (Err stop) after late
-      → Went_so w h ws body f (Err stop) after late g
-  gone_stops w h ws body f (stops.Limit why) after late g t = followed.halts_all state modules linked begins Ready Keeps owns w f h ws body (stops.Limit why) after late late t
-  gone_stops w h ws body f stops.Memory after late g t = tt
+  -- ---- the loop over rows
+
+  pub amid_starts : (w : W) (s : Machine) (rows : Rows) (f : Frame) (row : Row) → HasRow rows f row → Amid state modules linked begins Ready Keeps owns w s rows f f row f.left w s
+  amid_starts w s rows f row k = record {
+    way = λ h ws body st fit. record { there = h; waiters = ws; stands = st; leads = λ how end seg. seg; keeps = lawful.itself w };
+    there = k.there;
+    within = k.within;
+  }
+
+  -- a limit behind what was before
+  halts_behind : (w : W) (h : Here) (ws : List Waiter) (body : Active ℕ) (from : W) (there : Here) (waiters : List Waiter) → Leads_in w h ws from there waiters body → Keeps w from → (why : Limit) (after : W)
+      → HaltsAll state modules linked begins Ready Keeps owns from there waiters body why after → HaltsAll state modules linked begins Ready Keeps owns w h ws body why after
+  halts_behind w h ws body from there waiters leads keeps why after k = record { stops = leads (ended.Stopped why) (state after) k.stops; keeps = lawful.both w from after keeps k.keeps }
+
+  module _ (w : W) (s : Machine) (rows : Rows) (f g : Frame) (row : Row) (left : ℕ) (now : W) (late : Machine) (m : Amid state modules linked begins Ready Keeps owns w s rows f g row left now late) where
+    abbrev Goes_from : Result Turn Stop → W → Machine → Frame → Type 0
+    Goes_from result after end q = GoesFrom state modules linked begins Ready Keeps owns w s rows f result after end q
+
+    abbrev Way : Here → List Waiter → Active ℕ → Type 0
+    Way h ws body = Reaches state modules linked begins Ready Keeps owns w h ws body g left now late
+
+    abbrev Place : Turn → Result (Option (Bor Row)) Stop → W → Machine → Frame → Type 0
+    Place t result after end q = InPlace state modules linked begins Ready Keeps owns t now late rows g result after end q
+
+    fit_now : (h : Here) (ws : List Waiter) (body : Active ℕ) → Way h ws body → Fit w rows → Fit now rows
+    fit_now h ws body p fit = followed.rows_stay state modules linked begins Ready Keeps owns lawful w now rows p.keeps fit
+
+    -- what an operation comes to, where the function stands now
+    turned_at : (h : Here) (ws : List Waiter) (body : Active ℕ) (p : Way h ws body) → Fit w rows → (result : Result Turn Stop) (after : W) (end : Machine) → Turns now late g left row result after end
+        → Turned state modules linked begins Ready Keeps owns now g p.there p.waiters result after end
+    turned_at h ws body p fit result after end t =
+        t p.there p.waiters p.stands
+        (followed.row_of state modules linked begins Ready Keeps owns now late g left p.there p.waiters rows row p.stands (fit_now h ws body p fit) m.there)
+
+    -- the function goes on
+    pub amid_goes : (n : ℕ) (after : W) (end : Machine) → n ≤ left → Turns now late g left row (Ok (turn.On n)) after end → Amid state modules linked begins Ready Keeps owns w s rows f g row n after end
+    amid_goes n after end few t = record {
+      way = λ h ws body st fit.
+          let p = m.way h ws body st fit in
+          let u = turned_at h ws body p fit (Ok (turn.On n)) after end t in
+          record {
+            there = moved p.there u.spot u.vss u.values;
+            waiters = p.waiters;
+            stands = u.stands;
+            leads = λ how end seg. p.leads how end (u.leads (callers modules begins p.waiters ++ body ∷ []) how end seg);
+            keeps = lawful.both w now after p.keeps u.keeps;
+          };
+      there = m.there;
+      within = omega (arith, few, m.within);
+    }
+
+    -- it leaves its row
+    pub amid_leaves : (t : Turn) (after : W) (end : Machine) → Turns now late g left row (Ok t) after end → Goes_from (Ok t) after end g
+    amid_leaves t after end u h ws body st fit =
+        let p = m.way h ws body st fit in
+        record { from = now; there = p.there; waiters = p.waiters; turned = turned_at h ws body p fit (Ok t) after end u; leads = p.leads; keeps = p.keeps }
+
+    pub amid_stops : (stop : Stop) (after : W) (end : Machine) → Turns now late g left row (Err stop) after end → Goes_from (Err stop) after end g
+    amid_stops (stops.Limit why) after end u h ws body st fit =
+        let p = m.way h ws body st fit in
+        halts_behind w h ws body now p.there p.waiters p.leads p.keeps why after
+        (followed.halts_all state modules linked begins Ready Keeps owns now g p.there p.waiters body (stops.Limit why) after end end (turned_at h ws body p fit (Err (stops.Limit why)) after end u))
+    amid_stops stops.Memory after end u h ws body st fit = tt
+
+    -- another function runs from here on
+    pub amid_follows : (t : Turn) → Turns now late g left row (Ok t) now late → (r : Bor Row) (after : W) (end : Machine) (q : Frame) → Place t (Ok (Some r)) after end q
+        → Amid state modules linked begins Ready Keeps owns w s rows f q r.now q.left after end
+    amid_follows t u r after end q k = record {
+      way = λ h ws body st fit.
+          let p = m.way h ws body st fit in
+          let x = k.1 now p.there p.waiters body (turned_at h ws body p fit (Ok t) now late u) (fit_now h ws body p fit) in
+          record {
+            there = x.there;
+            waiters = x.waiters;
+            stands = x.stands;
+            leads = λ how end seg. p.leads how end (x.leads how end seg);
+            keeps = lawful.both w now after p.keeps x.keeps;
+          };
+      there = k.0.there;
+      within = k.0.within;
+    }
+
+    -- nothing followed in place
+    pub amid_declines : (t : Turn) → Turns now late g left row (Ok t) now late → (after : W) (end : Machine) (q : Frame) → Place t (Ok None) after end q → Goes_from (Ok t) after end q
+    amid_declines t u after end q k h ws body st fit =
+        let p = m.way h ws body st fit in
+        let x = k.1 now p.there p.waiters body (turned_at h ws body p fit (Ok t) now late u) (fit_now h ws body p fit) in
+        record {
+          from = now;
+          there = p.there;
+          waiters = p.waiters;
+          turned = subst (λ (q : Frame). Turned state modules linked begins Ready Keeps owns now q p.there p.waiters (Ok t) after end) (sym x.1) x.0;
+          leads = p.leads;
+          keeps = p.keeps;
+        }
+
+    pub amid_halts : (t : Turn) → Turns now late g left row (Ok t) now late → (stop : Stop) (after : W) (end : Machine) (q : Frame) → Place t (Err stop) after end q → Goes_from (Err stop) after end q
+    amid_halts t u (stops.Limit why) after end q k h ws body st fit =
+        let p = m.way h ws body st fit in
+        halts_behind w h ws body now p.there p.waiters p.leads p.keeps why after
+        (k.1 now p.there p.waiters body (turned_at h ws body p fit (Ok t) now late u) (fit_now h ws body p fit))
+    amid_halts t u stops.Memory after end q k h ws body st fit = tt
+
+  -- ---- what follows, behind what was before
+
+  follows_behind : (w : W) (h : Here) (ws : List Waiter) (body : Active ℕ) (from : W) (there : Here) (waiters : List Waiter) → Leads_in w h ws from there waiters body → Keeps w from
+      → (result : Result Next Stop) (after : W) (late : Machine) → Followed state modules linked begins Ready Keeps owns from there waiters body result after late
+      → Followed state modules linked begins Ready Keeps owns w h ws body result after late
+  follows_behind w h ws body from there waiters leads keeps (Ok (next.Goes g)) after late q = record {
+    there = q.there;
+    waiters = q.waiters;
+    stands = q.stands;
+    leads = λ how end seg. leads how end (q.leads how end seg);
+    keeps = lawful.both w from after keeps q.keeps;
+  }
+  follows_behind w h ws body from there waiters leads keeps (Ok (next.Gave v)) after late q =
+      record { leads = λ how end seg. leads how end (q.leads how end seg); known = q.known; is_ready = q.is_ready; keeps = lawful.both w from after keeps q.keeps }
+  follows_behind w h ws body from there waiters leads keeps (Ok (next.Thrown v)) after late q =
+      record { leads = λ how end seg. leads how end (q.leads how end seg); known = q.known; is_ready = q.is_ready; keeps = lawful.both w from after keeps q.keeps }
+  follows_behind w h ws body from there waiters leads keeps (Err (stops.Limit why)) after late q = halts_behind w h ws body from there waiters leads keeps why after q
+  follows_behind w h ws body from there waiters leads keeps (Err stops.Memory) after late q = tt
 
   module _ (w : W) (s : Machine) (rows : Rows) (f g : Frame) (mid : W) (m : Machine) where
-    abbrev Goes : Result Went Stop → Type 0
+    abbrev Goes : Result Turn Stop → Type 0
     Goes result = GoesFrom state modules linked begins Ready Keeps owns w s rows f result mid m g
 
     abbrev On : Result Next Stop → W → Machine → Rows → Type 0
     On result after late tables = FollowsOn state modules linked begins Ready Keeps owns w s rows f result after late tables
-
-    -- functions go on
-    pub moves_on : Goes (Ok went.Moves) → On (Ok (next.Goes g)) mid m rows
-    moves_on k h ws body st fit =
-        let p = k h ws body st fit in
-        (p, followed.rows_stay state modules linked begins Ready Keeps owns lawful w mid rows p.keeps fit)
 
     -- a limit was passed
     pub stops_on : (stop : Stop) → Goes (Err stop) → On (Err stop) mid m rows
     stops_on (stops.Limit why) k h ws body st fit = (k h ws body st fit, tt)
     stops_on stops.Memory k h ws body st fit = (tt, tt)
 
-    -- the function has left its row, and this follows
-    pub leaves_on : (t : Turn) → Goes (Ok (went.Leaves t)) → (result : Result Next Stop) (after : W) (late : Machine) (tables : Rows)
+    -- a function has left its row, and this follows
+    pub leaves_on : (t : Turn) → Goes (Ok t) → (result : Result Next Stop) (after : W) (late : Machine) (tables : Rows)
         → FollowsTurn state modules linked begins Ready Keeps owns mid m rows g t result after late tables → On result after late tables
     leaves_on t k result after late tables follows h ws body st fit =
         let p = k h ws body st fit in
-        let here : Turned state modules linked begins Ready Keeps owns w g h ws (Ok t) mid m = subst (λ (q : Frame). Turned state modules linked begins Ready Keeps owns w q h ws (Ok t) mid m) (sym p.1) p.0 in
-        follows w h ws body here
-        (followed.rows_stay state modules linked begins Ready Keeps owns lawful w mid rows (followed.turned_keeps state modules linked begins Ready Keeps owns w f h ws t mid m p.0) fit)
+        let kept : Keeps w mid = lawful.both w p.from mid p.keeps (followed.turned_keeps state modules linked begins Ready Keeps owns p.from g p.there p.waiters t mid m p.turned) in
+        let q = follows p.from p.there p.waiters body p.turned (followed.rows_stay state modules linked begins Ready Keeps owns lawful w mid rows kept fit) in
+        (follows_behind w h ws body p.from p.there p.waiters p.leads p.keeps result after late q.0, q.1)

@@ -1,15 +1,14 @@
 // A function that a body calls runs to its end, with all that it calls.
 ghost use Rattle.esm_values.specs.Code.{values_of};
-ghost use Rattle.esm_row_machine.specs.Turns.{TurnsOn};
 ghost use Rattle.esm_row_machine.specs.Follows.{CalledBy, FollowsTurn, Runs};
-ghost use Rattle.esm_row_machine.specs.Shortcuts.{GoesFrom};
+ghost use Rattle.esm_row_machine.specs.Shortcuts.{GoesFrom, HasRow};
 
 use crate::calls::{call_value, first};
 use crate::ending::give_back;
 use crate::machine::{Frame, Machine};
 use crate::outside::Outside;
 use crate::rows::Rows;
-use crate::shortcuts::{Went, follow_here, op_at, operate_at, put_own};
+use crate::shortcuts::{call_here, end_here, op_at, operate_at, put_own, row_here};
 use crate::stacks::pop;
 use crate::throws::throw;
 use crate::turn::Turn;
@@ -38,55 +37,79 @@ pub enum Ending {
     Thrown(Value),
 }
 
-/// Operations of one row, up to one that leaves it. Those that calls are made of are done here, all others by `operate`.
-#[inline(always)]
-fn turns<W: Outside>(
+/// Functions run, from an operation of the one with this row on, up to an operation that leaves its row where nothing follows
+/// in place: what calls are made of is done here, all else by `operate`.
+#[inline(never)]
+fn turns<'a, W: Outside>(
     world: &mut W,
     machine: &mut Machine,
-    frame: Frame,
-    row: &Row,
+    rows: &'a Rows,
+    first: &'a Row,
+    frame: &mut Frame,
 ) -> Result<Turn, Stop>
-    ensures { TurnsOn W.state W.modules W.linked W.begins W.ready W.keeps W.owns
-        world.old machine.old frame frame.left row.now result world.new machine.new }
+    requires { HasRow rows.now frame.old first.now }
+    ensures { GoesFrom W.state W.modules W.linked W.begins W.ready W.keeps W.owns
+        world.old machine.old rows.now frame.old result world.new machine.new frame.new }
 {
+    let mut row = first;
     let mut left = frame.left;
-    if left > row.ops.len() {
-        return Err(Stop::Memory);
-    }
-    'turning: while left > 0 {
-        left = left - 1;
-        let op = op_at(row, left);
-        match op {
-            Op::Step => match world.step() {
-                Ok(()) => continue,
-                Err(stop) => return Err(stop),
-            },
-            Op::Own(place) => match put_own(world, &mut machine.operands, frame.at, place) {
-                Ok(thrown) => match thrown {
-                    None => continue,
-                    Some(error) => return Ok(Turn::Throws(error)),
+    'functions: for _ in 0..u64::MAX {
+        'turning: while left > 0 {
+            left = left - 1;
+            let op = op_at(row, left);
+            match op {
+                Op::Step => match world.step() {
+                    Ok(()) => continue,
+                    Err(stop) => return Err(stop),
                 },
-                Err(stop) => return Err(stop),
-            },
-            Op::Drop => match pop(&mut machine.operands) {
-                Ok(_value) => continue,
-                Err(Memory) => return Err(Stop::Memory),
-            },
-            Op::Call(arguments) => return Ok(Turn::Calls(arguments, left)),
-            Op::End => return Ok(Turn::Returns(Value::Undefined)),
-            _ => match operate_at(world, machine, frame, row, left) {
-                Ok(told) => match told {
-                    Turn::On(next) => {
-                        if next > left {
-                            return Err(Stop::Memory);
+                Op::Own(place) => match put_own(world, &mut machine.operands, frame.at, place) {
+                    Ok(thrown) => match thrown {
+                        None => continue,
+                        Some(error) => return Ok(Turn::Throws(error)),
+                    },
+                    Err(stop) => return Err(stop),
+                },
+                Op::Drop => match pop(&mut machine.operands) {
+                    Ok(_value) => continue,
+                    Err(Memory) => return Err(Stop::Memory),
+                },
+                Op::Call(arguments) => match call_here(world, machine, rows, frame, arguments, left) {
+                    Ok(called) => match called {
+                        Some(callee) => {
+                            row = callee;
+                            left = frame.left;
+                            continue 'functions;
                         }
-                        left = next;
-                    }
-                    _ => return Ok(told),
+                        None => return Ok(Turn::Calls(arguments, left)),
+                    },
+                    Err(stop) => return Err(stop),
                 },
-                Err(stop) => return Err(stop),
-            },
+                Op::End => match end_here(world, machine, rows, frame, Value::Undefined) {
+                    Ok(ended) => match ended {
+                        Some(caller) => {
+                            row = caller;
+                            left = frame.left;
+                            continue 'functions;
+                        }
+                        None => return Ok(Turn::Returns(Value::Undefined)),
+                    },
+                    Err(stop) => return Err(stop),
+                },
+                _ => match operate_at(world, machine, *frame, row, left) {
+                    Ok(told) => match told {
+                        Turn::On(next) => {
+                            if next > left {
+                                return Err(Stop::Memory);
+                            }
+                            left = next;
+                        }
+                        _ => return Ok(told),
+                    },
+                    Err(stop) => return Err(stop),
+                },
+            }
         }
+        return Err(Stop::Memory);
     }
     Err(Stop::Memory)
 }
@@ -114,22 +137,18 @@ fn follow<W: Outside>(
     }
 }
 
-/// One row, up to what leaves it, and what follows where no row has to be made.
-#[inline(always)]
+/// Functions run, from the one that the frame tells on, up to an operation that leaves its row where nothing follows in place.
 fn go_on<W: Outside>(
     world: &mut W,
     machine: &mut Machine,
     rows: &Rows,
     frame: &mut Frame,
-) -> Result<Went, Stop>
+) -> Result<Turn, Stop>
     ensures { GoesFrom W.state W.modules W.linked W.begins W.ready W.keeps W.owns
         world.old machine.old rows.now frame.old result world.new machine.new frame.new }
 {
-    match rows.find(frame.at, frame.function) {
-        Some(row) => match turns(world, machine, *frame, row) {
-            Ok(turn) => follow_here(world, machine, rows, frame, turn),
-            Err(stop) => Err(stop),
-        },
+    match row_here(rows, *frame) {
+        Some(row) => turns(world, machine, rows, row, frame),
         None => Err(Stop::Memory),
     }
 }
@@ -147,16 +166,13 @@ fn run<W: Outside>(
     let mut here = frame;
     'running: for _ in 0..u64::MAX {
         match go_on(world, machine, rows, &mut here) {
-            Ok(went) => match went {
-                Went::Moves => continue,
-                Went::Leaves(turn) => match follow(world, machine, rows, here, turn) {
-                    Ok(next) => match next {
-                        Next::Goes(frame) => here = frame,
-                        Next::Gave(value) => return Ok(Ending::Value(value)),
-                        Next::Thrown(value) => return Ok(Ending::Thrown(value)),
-                    },
-                    Err(stop) => return Err(stop),
+            Ok(turn) => match follow(world, machine, rows, here, turn) {
+                Ok(next) => match next {
+                    Next::Goes(frame) => here = frame,
+                    Next::Gave(value) => return Ok(Ending::Value(value)),
+                    Next::Thrown(value) => return Ok(Ending::Thrown(value)),
                 },
+                Err(stop) => return Err(stop),
             },
             Err(stop) => return Err(stop),
         }

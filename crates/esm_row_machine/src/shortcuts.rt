@@ -4,7 +4,7 @@ ghost use Rattle.std.specs.Prelude.{◌≡◌, ◌<◌, ◌+◌, length, slice_g
 ghost use Rattle.esm_row_machine.specs.Outside as said;
 ghost use Rattle.esm_row_machine.specs.Asking.{HeardOrThrown, PutOrThrown, TookOrThrown};
 ghost use Rattle.esm_row_machine.specs.Turns.{TurnsOn};
-ghost use Rattle.esm_row_machine.specs.Shortcuts.{BeginsFrom, CallsFrom, EndsFrom, EntersHere, FollowsFrom, FoundFrom, GivenHere, at_left};
+ghost use Rattle.esm_row_machine.specs.Shortcuts.{BeginsFrom, EntersHere, FoundFrom, GivenHere, InPlace, IsRowHere, at_left};
 
 use crate::calls::{callee, enter, push_frame};
 use crate::machine::{Frame, Machine};
@@ -18,13 +18,20 @@ use esm_rewriting::Stop;
 use esm_rows::{Op, Row};
 use esm_values::{FuncId, Value};
 
-/// What operations of a row come to.
-#[derive(Drop)]
-pub(crate) enum Went {
-    /// Functions go on, from where the frame tells.
-    Moves,
-    /// The function that runs has left its row by this, and nothing has followed yet.
-    Leaves(Turn),
+/// The row of a function, if it was made and has as many operations as are left.
+#[inline(always)]
+pub(crate) fn row_here(rows: &Rows, frame: Frame) -> Option<&Row>
+    ensures { IsRowHere rows.now frame result }
+{
+    match rows.find(frame.at, frame.function) {
+        Some(row) => {
+            if frame.left > row.ops.len() {
+                return None;
+            }
+            Some(row)
+        }
+        None => None,
+    }
 }
 
 /// The operation at a place of a row.
@@ -102,7 +109,7 @@ fn enter_here(
     function: FuncId,
     arguments: usize,
     left: usize,
-) -> Result<Went, Stop>
+) -> Result<(), Stop>
     ensures { EntersHere machine.old row.now (at_left frame.old left) function arguments result
         frame.new machine.new }
 {
@@ -112,7 +119,7 @@ fn enter_here(
             match push_frame(&mut machine.frames, caller) {
                 Ok(()) => {
                     *frame = callee;
-                    Ok(Went::Moves)
+                    Ok(())
                 }
                 Err(Memory) => Err(Stop::Memory),
             }
@@ -123,36 +130,39 @@ fn enter_here(
 
 /// The call takes its step, and the function with this row begins.
 #[inline(always)]
-fn begin_here<W: Outside>(
+fn begin_here<'a, W: Outside>(
     world: &mut W,
     machine: &mut Machine,
-    row: &Row,
+    row: &'a Row,
     frame: &mut Frame,
     function: FuncId,
     arguments: usize,
     left: usize,
-) -> Result<Went, Stop>
+) -> Result<Option<&'a Row>, Stop>
     ensures { BeginsFrom W.state W.modules W.linked W.begins W.ready W.keeps W.owns world.old
         machine.old row.now frame.old function arguments left result world.new machine.new
         frame.new }
 {
     match world.step() {
-        Ok(()) => enter_here(machine, row, frame, function, arguments, left),
+        Ok(()) => match enter_here(machine, row, frame, function, arguments, left) {
+            Ok(()) => Ok(Some(row)),
+            Err(stop) => Err(stop),
+        },
         Err(stop) => Err(stop),
     }
 }
 
 /// This function is called, where its row is there. Else nothing is done.
 #[inline(always)]
-fn call_found<W: Outside>(
+fn call_found<'a, W: Outside>(
     world: &mut W,
     machine: &mut Machine,
-    rows: &Rows,
+    rows: &'a Rows,
     frame: &mut Frame,
     function: FuncId,
     arguments: u32,
     left: usize,
-) -> Result<Went, Stop>
+) -> Result<Option<&'a Row>, Stop>
     ensures { FoundFrom W.state W.modules W.linked W.begins W.ready W.keeps W.owns world.old
         machine.old rows.now frame.old function arguments left result world.new machine.new
         frame.new }
@@ -169,7 +179,7 @@ fn call_found<W: Outside>(
                 left,
             )
         }
-        None => Ok(Went::Leaves(Turn::Calls(arguments, left))),
+        None => Ok(None),
     }
 }
 
@@ -178,84 +188,71 @@ fn call_found<W: Outside>(
 ///
 /// ECMA-262, EvaluateCall.
 #[inline(always)]
-fn call_here<W: Outside>(
+pub(crate) fn call_here<'a, W: Outside>(
     world: &mut W,
     machine: &mut Machine,
-    rows: &Rows,
+    rows: &'a Rows,
     frame: &mut Frame,
     arguments: u32,
     left: usize,
-) -> Result<Went, Stop>
-    ensures { CallsFrom W.state W.modules W.linked W.begins W.ready W.keeps W.owns world.old
-        machine.old rows.now frame.old arguments left result world.new machine.new frame.new }
+) -> Result<Option<&'a Row>, Stop>
+    ensures { InPlace W.state W.modules W.linked W.begins W.ready W.keeps W.owns
+        (Turn.Calls arguments left) world.old machine.old rows.now frame.old result world.new
+        machine.new frame.new }
 {
     if machine.frames.len() + 1 >= MAX_CALL_DEPTH as usize {
-        return Ok(Went::Leaves(Turn::Calls(arguments, left)));
+        return Ok(None);
     }
     match callee(machine.operands.as_slice(), arguments as usize) {
         Some(function) => call_found(world, machine, rows, frame, function, arguments, left),
-        None => Ok(Went::Leaves(Turn::Calls(arguments, left))),
+        None => Ok(None),
     }
 }
 
 /// A value is put on top for the function that waited, which is the one that runs from now on.
 #[inline(always)]
-fn give_here(
+fn give_here<'a>(
     operands: &mut Vec<Value>,
+    rows: &'a Rows,
     frame: &mut Frame,
     caller: Frame,
     value: Value,
-) -> Result<Went, Stop>
-    ensures { GivenHere operands.old.items caller value result frame.new operands.new.items }
+) -> Result<Option<&'a Row>, Stop>
+    ensures { GivenHere rows.now operands.old.items caller value result frame.new
+        operands.new.items }
 {
     match push(operands, value) {
-        Ok(()) => {
-            *frame = caller;
-            Ok(Went::Moves)
-        }
+        Ok(()) => match row_here(rows, caller) {
+            Some(row) => {
+                *frame = caller;
+                Ok(Some(row))
+            }
+            None => Err(Stop::Memory),
+        },
         Err(Memory) => Err(Stop::Memory),
     }
 }
 
 /// A function is over, and its value is given to the function that waits for it. Where none waits, nothing is done.
 #[inline(always)]
-fn end_here<W: Outside>(
+pub(crate) fn end_here<'a, W: Outside>(
     _world: &W,
     machine: &mut Machine,
+    rows: &'a Rows,
     frame: &mut Frame,
     value: Value,
-) -> Result<Went, Stop>
-    ensures { EndsFrom W.state W.modules W.linked W.begins W.ready W.keeps W.owns _world.now
-        machine.old frame.old value result machine.new frame.new }
+) -> Result<Option<&'a Row>, Stop>
+    ensures { InPlace W.state W.modules W.linked W.begins W.ready W.keeps W.owns
+        (Turn.Returns value) _world.now machine.old rows.now frame.old result _world.now
+        machine.new frame.new }
 {
     if machine.frames.is_empty() {
-        return Ok(Went::Leaves(Turn::Returns(value)));
+        return Ok(None);
     }
     keep_names(&mut machine.names, frame.names);
     keep_handlers(&mut machine.handlers, frame.handlers);
     match machine.frames.pop() {
-        Some(caller) => give_here(&mut machine.operands, frame, caller, value),
+        Some(caller) => give_here(&mut machine.operands, rows, frame, caller, value),
         None => Err(Stop::Memory),
-    }
-}
-
-/// What follows operations that left their row, where a function whose row is there begins, or one that waited goes on.
-/// Else nothing is done.
-#[inline(always)]
-pub(crate) fn follow_here<W: Outside>(
-    world: &mut W,
-    machine: &mut Machine,
-    rows: &Rows,
-    frame: &mut Frame,
-    turn: Turn,
-) -> Result<Went, Stop>
-    ensures { FollowsFrom W.state W.modules W.linked W.begins W.ready W.keeps W.owns world.old
-        machine.old rows.now frame.old turn result world.new machine.new frame.new }
-{
-    match turn {
-        Turn::On(left) => Ok(Went::Leaves(Turn::On(left))),
-        Turn::Calls(arguments, left) => call_here(world, machine, rows, frame, arguments, left),
-        Turn::Returns(value) => end_here(world, machine, frame, value),
-        Turn::Throws(value) => Ok(Went::Leaves(Turn::Throws(value))),
     }
 }

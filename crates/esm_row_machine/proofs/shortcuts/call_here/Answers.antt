@@ -2,10 +2,12 @@ use Rattle.std.proofs.Common.{refl, arith}
 use Rattle.esm_row_machine.proofs.shortcuts.call_here.Goals as goal
 
 pub returns-then-len : goal.returns-then-len
-returns-then-len g c = λ w0 h ws body calls fit. (calls, refl)
+returns-then-len g c = (tt, λ w0 h ws body calls fit. (calls, refl))
 
 pub returns-in-Some : goal.returns-in-Some
-returns-in-Some g c = c.call_found.ensures (rw c.as_slice.ensures.value at c.in-Some.ensures) (omega (arith, c.if-len.false, c.len.ensures, c.args.machine.now.frames.ok.0))
+returns-in-Some g c =
+    let k = c.call_found.ensures in
+    (k.0, k.1 (rw c.as_slice.ensures.value at c.in-Some.ensures) (omega (arith, c.if-len.false, c.len.ensures, c.args.machine.now.frames.ok.0)))
 
 pub returns-in-None : goal.returns-in-None
-returns-in-None g c = λ w0 h ws body calls fit. (calls, refl)
+returns-in-None g c = (tt, λ w0 h ws body calls fit. (calls, refl))
