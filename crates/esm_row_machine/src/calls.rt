@@ -47,11 +47,7 @@ fn pass(names: &mut Vec<Option<Value>>, values: &[Value], parameters: u32) -> Re
 
 /// The same, where there may be no parameters.
 #[inline(always)]
-fn pass_any(
-    names: &mut Vec<Option<Value>>,
-    values: &[Value],
-    parameters: u32,
-) -> Result<(), Memory>
+fn pass_any(names: &mut Vec<Option<Value>>, values: &[Value], parameters: u32) -> Result<(), Memory>
     ensures { OnOk result (names_on names.new.items
         ≡ names_on names.old.items ++ passed parameters (values_of values.now)) }
 {

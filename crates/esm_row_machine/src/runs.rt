@@ -73,7 +73,9 @@ fn turns<'a, W: Outside>(
                     Ok(_value) => continue,
                     Err(Memory) => return Err(Stop::Memory),
                 },
-                Op::Call(arguments) => match call_here(world, machine, rows, frame, arguments, left) {
+                Op::Call(arguments) => match call_here(
+                    world, machine, rows, frame, arguments, left,
+                ) {
                     Ok(called) => match called {
                         Some(callee) => {
                             row = callee;
