@@ -21,10 +21,11 @@ use Rattle.esm_row_machine.specs.Functions.{Here, Waiter, moved, callers}
 use Rattle.esm_row_machine.specs.Tables.{row_in}
 use Rattle.esm_row_machine.specs.Outside.{Steps, ReadsPlace}
 use Rattle.esm_row_machine.specs.Asking.{Heard}
+use Rattle.esm_row_machine.specs.Changes.{OperandsAre, Popped, Gives}
 use Rattle.esm_row_machine.specs.Entering.{Begun, IsCallee}
 use Rattle.esm_row_machine.specs.Turns.{Stands, CallsHere, GivesBack, Turned, TurnsOn}
 use Rattle.esm_row_machine.specs.Follows.{Followed, FollowsOn, FollowsTurn, HaltsAll, RowsFit, SegmentOf}
-use Rattle.esm_row_machine.specs.Shortcuts.{at_left, HasRow, IsRowFor, Entered, EntersHere, GivenHere, Gone, InPlace, Reaches, GoesFrom}
+use Rattle.esm_row_machine.specs.Shortcuts.{at_left, HasRow, IsRowFor, Entered, EntersHere, GivenHere, Gone, InPlace, IsFollowed, Resumes, ReturnsFrom, Reaches, GoesFrom}
 use Rattle.esm_row_machine.specs.declared.machine.Frame.{Frame}
 use Rattle.esm_row_machine.specs.declared.machine.Machine.{Machine}
 use Rattle.esm_row_machine.specs.declared.rows.Rows.{Rows}
@@ -131,6 +132,11 @@ module _ {W S : Type 0} (state : W → State ℕ S) (modules : S → Modules ℕ
         by_op w s f left behind row op.End e at (Ok (turn.Returns values.Undefined)) w s
         (λ h ws c. leaving.end state modules linked begins Ready Keeps owns lawful w s f behind h ws row.texts.items c)
 
+    pub turn_returns : slice_get row.ops.items behind ≡ Some op.Return → (late : Machine) → with_operands s late → (result : Result Turn Stop) → Popped s.operands.items (λ items u r. Gives items u r late.operands.items) result → Turns w s f left row result w late
+    turn_returns at late same result p =
+        by_op w s f left behind row op.Return e at result w late
+        (λ h ws c. leaving.give state modules linked begins Ready Keeps owns lawful w s f behind h ws row.texts.items c late same result p)
+
     -- what any operation comes to, where so many are left with it
     pub turn_any : (result : Result Turn Stop) (after : W) (late : Machine) → Turns w s f (behind + 1) row result after late → Turns w s f left row result after late
     turn_any result after late t = subst (λ (n : ℕ). Turns w s f n row result after late) e t
@@ -173,6 +179,20 @@ module _ {W S : Type 0} (state : W → State ℕ S) (modules : S → Modules ℕ
     end_goes_on q frames rows (Ok None) g p = absurd p
     end_goes_on q frames rows (Err (stops.Limit why)) g p = absurd p
     end_goes_on q frames rows (Err stops.Memory) g p = tt
+
+  pub given_some : (rows : Rows) (us : List Value) (q : Frame) (v : Value) (result : Result (Option (Bor Row)) Stop) (g : Frame) (vs : List Value) → GivenHere rows us q v result g vs → IsFollowed result
+  given_some rows us q v (Ok (Some r)) g vs p = tt
+  given_some rows us q v (Ok None) g vs p = absurd p
+  given_some rows us q v (Err (stops.Limit why)) g vs p = absurd p
+  given_some rows us q v (Err stops.Memory) g vs p = tt
+
+  -- the value on top was given
+  pub returns_top : (w : W) (s mid : Machine) (rows : Rows) (f : Frame) (v : Value) → OperandsAre s mid.operands.items mid → s.operands.items ≡ mid.operands.items ++ v ∷ [] → (result : Result (Option (Bor Row)) Stop) (late : Machine) (g : Frame)
+      → Resumes state modules linked begins Ready Keeps owns v w mid rows f result late g → ReturnsFrom state modules linked begins Ready Keeps owns w s rows f result late g
+  returns_top w s mid rows f v are popped (Ok (Some r)) late g k = record { value = v; mid = mid; are = are; popped = popped; place = k.place }
+  returns_top w s mid rows f v are popped (Ok None) late g k = absurd k.follows
+  returns_top w s mid rows f v are popped (Err (stops.Limit why)) late g k = absurd k.follows
+  returns_top w s mid rows f v are popped (Err stops.Memory) late g k = tt
 
   pub given_row : (rows : Rows) (us : List Value) (q : Frame) (v : Value) (result : Result (Option (Bor Row)) Stop) (g : Frame) (vs : List Value) → GivenHere rows us q v result g vs → IsRowFor rows g result
   given_row rows us q v (Ok (Some r)) g vs p = p.2
@@ -243,13 +263,17 @@ module _ {W S : Type 0} (state : W → State ℕ S) (modules : S → Modules ℕ
         (followed.halts_all state modules linked begins Ready Keeps owns now g p.there p.waiters body (stops.Limit why) after end end (turned_at h ws body p fit (Err (stops.Limit why)) after end u))
     amid_stops stops.Memory after end u h ws body st fit = tt
 
+    pub amid_over : (result : Result Turn Stop) (after : W) (end : Machine) → Turns now late g left row result after end → Goes_from result after end g
+    amid_over (Ok t) after end u = amid_leaves t after end u
+    amid_over (Err stop) after end u = amid_stops stop after end u
+
     -- another function runs from here on
-    pub amid_follows : (t : Turn) → Turns now late g left row (Ok t) now late → (r : Bor Row) (after : W) (end : Machine) (q : Frame) → Place t (Ok (Some r)) after end q
-        → Amid state modules linked begins Ready Keeps owns w s rows f q r.now q.left after end
-    amid_follows t u r after end q k = record {
+    pub amid_moves : (t : Turn) (mid : Machine) → Turns now late g left row (Ok t) now mid → (r : Bor Row) (after : W) (end : Machine) (q : Frame)
+        → InPlace state modules linked begins Ready Keeps owns t now mid rows g (Ok (Some r)) after end q → Amid state modules linked begins Ready Keeps owns w s rows f q r.now q.left after end
+    amid_moves t mid u r after end q k = record {
       way = λ h ws body st fit.
           let p = m.way h ws body st fit in
-          let x = k.1 now p.there p.waiters body (turned_at h ws body p fit (Ok t) now late u) (fit_now h ws body p fit) in
+          let x = k.1 now p.there p.waiters body (turned_at h ws body p fit (Ok t) now mid u) (fit_now h ws body p fit) in
           record {
             there = x.there;
             waiters = x.waiters;
@@ -260,6 +284,10 @@ module _ {W S : Type 0} (state : W → State ℕ S) (modules : S → Modules ℕ
       there = k.0.there;
       within = k.0.within;
     }
+
+    pub amid_follows : (t : Turn) → Turns now late g left row (Ok t) now late → (r : Bor Row) (after : W) (end : Machine) (q : Frame) → Place t (Ok (Some r)) after end q
+        → Amid state modules linked begins Ready Keeps owns w s rows f q r.now q.left after end
+    amid_follows t u r after end q k = amid_moves t late u r after end q k
 
     -- nothing followed in place
     pub amid_declines : (t : Turn) → Turns now late g left row (Ok t) now late → (after : W) (end : Machine) (q : Frame) → Place t (Ok None) after end q → Goes_from (Ok t) after end q
@@ -281,6 +309,20 @@ module _ {W S : Type 0} (state : W → State ℕ S) (modules : S → Modules ℕ
         halts_behind w h ws body now p.there p.waiters p.leads p.keeps why after
         (k.1 now p.there p.waiters body (turned_at h ws body p fit (Ok t) now late u) (fit_now h ws body p fit))
     amid_halts t u stops.Memory after end q k h ws body st fit = tt
+
+    -- it returns its value where nothing was done, in the same stacks and the same frame
+    pub amid_gives : ((end : Machine) → with_operands late end → (result : Result Turn Stop) → Popped late.operands.items (λ items u r. Gives items u r end.operands.items) result → Turns now late g left row result now end)
+        → (mid : Machine) → mid ≡ late → (q : Frame) → q ≡ g → (end : Machine) → with_operands mid end → (result : Result Turn Stop) → Popped mid.operands.items (λ items u r. Gives items u r end.operands.items) result
+        → Goes_from result now end q
+    amid_gives gives mid a q b end same result p =
+        subst (λ (q : Frame). Goes_from result now end q) (sym b)
+        (amid_over result now end
+        ((subst (λ (mid : Machine). with_operands mid end → Popped mid.operands.items (λ items u r. Gives items u r end.operands.items) result → Turns now late g left row result now end) (sym a) (λ x y. gives end x result y)) same p))
+
+    -- nothing but want of memory keeps it from returning
+    pub lacks : (stop : Stop) (mid end : Machine) (q : Frame) → ReturnsFrom state modules linked begins Ready Keeps owns now mid rows g (Err stop) end q → Goes_from (Err stop) now end q
+    lacks (stops.Limit why) mid end q k h ws body st fit = absurd k
+    lacks stops.Memory mid end q k h ws body st fit = tt
 
   -- ---- what follows, behind what was before
 

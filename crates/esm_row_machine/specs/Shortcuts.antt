@@ -13,6 +13,7 @@ use Rattle.esm_rewriting.specs.declared.stop.Stop.TheVariants as stops
 use Rattle.esm_rows.specs.declared.row.Row.{Row}
 use Rattle.esm_row_machine.specs.Functions.{Here, Waiter}
 use Rattle.esm_row_machine.specs.Tables.{row_in}
+use Rattle.esm_row_machine.specs.Changes.{OperandsAre}
 use Rattle.esm_row_machine.specs.Entering.{EntersAs, IsCallee}
 use Rattle.esm_row_machine.specs.Turns.{Stands, Turned}
 use Rattle.esm_row_machine.specs.Follows.{HaltsAll, Proceeds, RowsFit, SegmentOf}
@@ -40,6 +41,13 @@ IsRowHere rows f (Some r) = HasRow rows f r.now
 abbrev pub IsRowFor : Rows → Frame → Result (Option (Bor Row)) Stop → Type 0
 IsRowFor rows f (Ok told) = IsRowHere rows f told
 IsRowFor rows f (Err stop) = Unit {0}
+
+-- something follows: nothing but want of memory keeps it
+abbrev pub IsFollowed : Result (Option (Bor Row)) Stop → Type 0
+IsFollowed (Ok (Some r)) = Unit {0}
+IsFollowed (Ok None) = ⊥
+IsFollowed (Err (stops.Limit why)) = ⊥
+IsFollowed (Err stops.Memory) = Unit {0}
 
 -- ---- calls and ends, on the stacks
 
@@ -83,6 +91,28 @@ module _ {W S : Type 0} (state : W → State ℕ S) (modules : S → Modules ℕ
   -- it follows in place: where functions go on, the row of the one that runs is there
   abbrev pub InPlace : Turn → W → Machine → Rows → Frame → Result (Option (Bor Row)) Stop → W → Machine → Frame → Type 0
   InPlace t w s rows f result after late g = IsRowFor rows g result × FollowsAs t w s rows f result after late g
+
+  -- this value is given to the function that waits, which goes on
+  pub record Resumes (v : Value) (w : W) (s : Machine) (rows : Rows) (f : Frame) (result : Result (Option (Bor Row)) Stop) (late : Machine)
+      (g : Frame) : Type 0 where
+    pub follows : IsFollowed result
+    pub place : InPlace (turn.Returns v) w s rows f result w late g
+
+  -- so was the value on top, which was taken
+  pub record ReturnsTop (w : W) (s : Machine) (rows : Rows) (f : Frame) (result : Result (Option (Bor Row)) Stop) (late : Machine)
+      (g : Frame) : Type 0 where
+    pub value : Value
+    pub mid : Machine
+    pub are : OperandsAre s mid.operands.items mid
+    pub popped : s.operands.items ≡ mid.operands.items ++ value ∷ []
+    pub place : InPlace (turn.Returns value) w mid rows f result w late g
+
+  -- or nothing was done
+  abbrev pub ReturnsFrom : W → Machine → Rows → Frame → Result (Option (Bor Row)) Stop → Machine → Frame → Type 0
+  ReturnsFrom w s rows f (Ok (Some r)) late g = ReturnsTop w s rows f (Ok (Some r)) late g
+  ReturnsFrom w s rows f (Ok None) late g = (late ≡ s) × (g ≡ f)
+  ReturnsFrom w s rows f (Err (stops.Limit why)) late g = ⊥
+  ReturnsFrom w s rows f (Err stops.Memory) late g = Unit {0}
 
   -- a call of this function with so many arguments, where fewer are active than may be
   abbrev pub FoundFrom : W → Machine → Rows → Frame → FuncId → ℕ → ℕ → Result (Option (Bor Row)) Stop → W → Machine → Frame → Type 0

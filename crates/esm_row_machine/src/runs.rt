@@ -8,10 +8,11 @@ use crate::ending::give_back;
 use crate::machine::{Frame, Machine};
 use crate::outside::Outside;
 use crate::rows::Rows;
-use crate::shortcuts::{call_here, end_here, op_at, operate_at, put_own, row_here};
+use crate::shortcuts::{call_here, end_here, op_at, operate_at, put_own, return_here, row_here};
 use crate::stacks::pop;
 use crate::throws::throw;
 use crate::turn::Turn;
+use crate::uses::give;
 use esm_base::Memory;
 use esm_rewriting::Stop;
 use esm_rows::{Op, Row};
@@ -83,6 +84,17 @@ fn turns<'a, W: Outside>(
                             continue 'functions;
                         }
                         None => return Ok(Turn::Calls(arguments, left)),
+                    },
+                    Err(stop) => return Err(stop),
+                },
+                Op::Return => match return_here(world, machine, rows, frame) {
+                    Ok(returned) => match returned {
+                        Some(caller) => {
+                            row = caller;
+                            left = frame.left;
+                            continue 'functions;
+                        }
+                        None => return give(&mut machine.operands),
                     },
                     Err(stop) => return Err(stop),
                 },

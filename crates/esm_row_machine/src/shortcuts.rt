@@ -4,13 +4,13 @@ ghost use Rattle.std.specs.Prelude.{◌≡◌, ◌<◌, ◌+◌, length, slice_g
 ghost use Rattle.esm_row_machine.specs.Outside as said;
 ghost use Rattle.esm_row_machine.specs.Asking.{HeardOrThrown, PutOrThrown, TookOrThrown};
 ghost use Rattle.esm_row_machine.specs.Turns.{TurnsOn};
-ghost use Rattle.esm_row_machine.specs.Shortcuts.{BeginsFrom, EntersHere, FoundFrom, GivenHere, InPlace, IsRowHere, at_left};
+ghost use Rattle.esm_row_machine.specs.Shortcuts.{BeginsFrom, EntersHere, FoundFrom, GivenHere, InPlace, IsRowHere, Resumes, ReturnsFrom, at_left};
 
 use crate::calls::{callee, enter, push_frame};
 use crate::machine::{Frame, Machine};
 use crate::outside::Outside;
 use crate::rows::Rows;
-use crate::stacks::{keep_handlers, keep_names, push};
+use crate::stacks::{keep_handlers, keep_names, pop, push};
 use crate::turn::{Turn, operate};
 use esm_base::{MAX_CALL_DEPTH, Memory, ModuleId};
 use esm_expr_eval::Out;
@@ -233,6 +233,26 @@ fn give_here<'a>(
     }
 }
 
+/// A function is over, and its value is given to the function that waits for it.
+#[inline(always)]
+fn resume_here<'a, W: Outside>(
+    _world: &W,
+    machine: &mut Machine,
+    rows: &'a Rows,
+    frame: &mut Frame,
+    value: Value,
+) -> Result<Option<&'a Row>, Stop>
+    ensures { Resumes W.state W.modules W.linked W.begins W.ready W.keeps W.owns value
+        _world.now machine.old rows.now frame.old result machine.new frame.new }
+{
+    keep_names(&mut machine.names, frame.names);
+    keep_handlers(&mut machine.handlers, frame.handlers);
+    match machine.frames.pop() {
+        Some(caller) => give_here(&mut machine.operands, rows, frame, caller, value),
+        None => Err(Stop::Memory),
+    }
+}
+
 /// A function is over, and its value is given to the function that waits for it. Where none waits, nothing is done.
 #[inline(always)]
 pub(crate) fn end_here<'a, W: Outside>(
@@ -249,10 +269,25 @@ pub(crate) fn end_here<'a, W: Outside>(
     if machine.frames.is_empty() {
         return Ok(None);
     }
-    keep_names(&mut machine.names, frame.names);
-    keep_handlers(&mut machine.handlers, frame.handlers);
-    match machine.frames.pop() {
-        Some(caller) => give_here(&mut machine.operands, rows, frame, caller, value),
-        None => Err(Stop::Memory),
+    resume_here(_world, machine, rows, frame, value)
+}
+
+/// The value on top is given to the function that waits for it. Where none waits, nothing is done.
+#[inline(always)]
+pub(crate) fn return_here<'a, W: Outside>(
+    world: &W,
+    machine: &mut Machine,
+    rows: &'a Rows,
+    frame: &mut Frame,
+) -> Result<Option<&'a Row>, Stop>
+    ensures { ReturnsFrom W.state W.modules W.linked W.begins W.ready W.keeps W.owns world.now
+        machine.old rows.now frame.old result machine.new frame.new }
+{
+    if machine.frames.is_empty() {
+        return Ok(None);
+    }
+    match pop(&mut machine.operands) {
+        Ok(value) => resume_here(world, machine, rows, frame, value),
+        Err(Memory) => Err(Stop::Memory),
     }
 }

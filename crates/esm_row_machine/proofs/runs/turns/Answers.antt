@@ -2,7 +2,7 @@ use Rattle.std.proofs.Common.{◌≡◌, ◌+◌, ◌-◌, refl, arith}
 use Rattle.std.specs.Prelude.{Ok, Err}
 use Rattle.esm_values.specs.declared.value.Value.TheVariants as values
 use Rattle.esm_row_machine.specs.declared.turn.Turn.TheVariants as turn
-use Rattle.esm_row_machine.proofs.AtOnce.{amid_starts, amid_goes, amid_leaves, amid_stops, amid_follows, amid_declines, amid_halts, turn_steps, turn_stops, turn_reads, turn_drops, turn_calls, turn_ends, turn_any}
+use Rattle.esm_row_machine.proofs.AtOnce.{amid_starts, amid_goes, amid_leaves, amid_stops, amid_follows, amid_declines, amid_halts, amid_moves, amid_gives, lacks, turn_steps, turn_stops, turn_reads, turn_drops, turn_calls, turn_ends, turn_any, turn_returns}
 use Rattle.esm_row_machine.proofs.runs.turns.Goals as goal
 
 pub op_at-op-requires : goal.op_at-op-requires
@@ -91,3 +91,18 @@ pub returns-in-Err-end_here : goal.returns-in-Err-end_here
 returns-in-Err-end_here g c =
     let e : c.turning.left - 1 + 1 ≡ c.turning.left = omega (arith, c.turning-test.true) in
     amid_halts g.W.Outside.state g.W.Outside.modules g.W.Outside.linked g.W.Outside.begins g.W.Outside.ready g.W.Outside.keeps g.W.Outside.owns (record { itself = g.met.W.Outside.keeps_itself; both = g.met.W.Outside.keeps_both; stays = g.met.W.Outside.stays }) c.args.world.now c.args.machine.now c.args.rows.now c.args.frame.now c.turning.frame c.turning.row.now c.turning.left c.turning.world c.turning.machine c.turning.invariant (turn.Returns values.Undefined) (turn_ends g.W.Outside.state g.W.Outside.modules g.W.Outside.linked g.W.Outside.begins g.W.Outside.ready g.W.Outside.keeps g.W.Outside.owns (record { itself = g.met.W.Outside.keeps_itself; both = g.met.W.Outside.keeps_both; stays = g.met.W.Outside.stays }) c.turning.world c.turning.machine c.turning.frame c.turning.left (c.turning.left - 1) c.turning.row.now e (rw c.in-End.is at c.op_at-op.ensures)) c.in-Err-end_here.stop c.turning.world c.end_here.new.machine c.end_here.new.frame c.in-Err-end_here.ensures
+
+pub functions-preserved-in-Some-returned : goal.functions-preserved-in-Some-returned
+functions-preserved-in-Some-returned g c =
+    let e : c.turning.left - 1 + 1 ≡ c.turning.left = omega (arith, c.turning-test.true) in
+    let k = rw c.in-Some-returned.is at c.in-Ok-return_here.ensures in
+    amid_moves g.W.Outside.state g.W.Outside.modules g.W.Outside.linked g.W.Outside.begins g.W.Outside.ready g.W.Outside.keeps g.W.Outside.owns (record { itself = g.met.W.Outside.keeps_itself; both = g.met.W.Outside.keeps_both; stays = g.met.W.Outside.stays }) c.args.world.now c.args.machine.now c.args.rows.now c.args.frame.now c.turning.frame c.turning.row.now c.turning.left c.turning.world c.turning.machine c.turning.invariant (turn.Returns k.value) k.mid (turn_returns g.W.Outside.state g.W.Outside.modules g.W.Outside.linked g.W.Outside.begins g.W.Outside.ready g.W.Outside.keeps g.W.Outside.owns (record { itself = g.met.W.Outside.keeps_itself; both = g.met.W.Outside.keeps_both; stays = g.met.W.Outside.stays }) c.turning.world c.turning.machine c.turning.frame c.turning.left (c.turning.left - 1) c.turning.row.now e (rw c.in-Return.is at c.op_at-op.ensures) k.mid (k.are.names, k.are.handlers, k.are.frames) (Ok (turn.Returns k.value)) (k.mid.operands.items, k.value, k.popped, (refl, refl))) c.in-Some-returned.caller c.turning.world c.return_here.new.machine c.return_here.new.frame k.place
+
+pub returns-in-None-returned : goal.returns-in-None-returned
+returns-in-None-returned g c =
+    let e : c.turning.left - 1 + 1 ≡ c.turning.left = omega (arith, c.turning-test.true) in
+    let k = rw c.in-None-returned.is at c.in-Ok-return_here.ensures in
+    amid_gives g.W.Outside.state g.W.Outside.modules g.W.Outside.linked g.W.Outside.begins g.W.Outside.ready g.W.Outside.keeps g.W.Outside.owns (record { itself = g.met.W.Outside.keeps_itself; both = g.met.W.Outside.keeps_both; stays = g.met.W.Outside.stays }) c.args.world.now c.args.machine.now c.args.rows.now c.args.frame.now c.turning.frame c.turning.row.now c.turning.left c.turning.world c.turning.machine c.turning.invariant (λ late same result p. turn_returns g.W.Outside.state g.W.Outside.modules g.W.Outside.linked g.W.Outside.begins g.W.Outside.ready g.W.Outside.keeps g.W.Outside.owns (record { itself = g.met.W.Outside.keeps_itself; both = g.met.W.Outside.keeps_both; stays = g.met.W.Outside.stays }) c.turning.world c.turning.machine c.turning.frame c.turning.left (c.turning.left - 1) c.turning.row.now e (rw c.in-Return.is at c.op_at-op.ensures) late same result p) c.return_here.new.machine k.0 c.return_here.new.frame k.1 (record c.return_here.new.machine { operands = c.give.new.operands }) (refl, refl, refl) c.give.result c.give.ensures
+
+pub returns-in-Err-return_here : goal.returns-in-Err-return_here
+returns-in-Err-return_here g c = lacks g.W.Outside.state g.W.Outside.modules g.W.Outside.linked g.W.Outside.begins g.W.Outside.ready g.W.Outside.keeps g.W.Outside.owns (record { itself = g.met.W.Outside.keeps_itself; both = g.met.W.Outside.keeps_both; stays = g.met.W.Outside.stays }) c.args.world.now c.args.machine.now c.args.rows.now c.args.frame.now c.turning.frame c.turning.row.now c.turning.left c.turning.world c.turning.machine c.turning.invariant c.in-Err-return_here.stop c.turning.machine c.return_here.new.machine c.return_here.new.frame c.in-Err-return_here.ensures

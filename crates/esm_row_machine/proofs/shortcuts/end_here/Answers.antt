@@ -1,14 +1,8 @@
 use Rattle.std.proofs.Common.{refl}
-use Rattle.esm_row_machine.proofs.AtOnce.{end_goes_on, given_row}
 use Rattle.esm_row_machine.proofs.shortcuts.end_here.Goals as goal
 
 pub returns-then-is_empty : goal.returns-then-is_empty
 returns-then-is_empty g c = (tt, λ w0 h ws body gives fit. (gives, refl))
 
-pub returns-in-Some : goal.returns-in-Some
-returns-in-Some g c = (
-  given_row g.W.Outside.state g.W.Outside.modules g.W.Outside.linked g.W.Outside.begins g.W.Outside.ready g.W.Outside.keeps g.W.Outside.owns (record { itself = g.met.W.Outside.keeps_itself; both = g.met.W.Outside.keeps_both; stays = g.met.W.Outside.stays }) c.args.rows.now c.args.machine.now.operands.items c.in-Some.caller c.args.value c.give_here.result c.give_here.new.frame c.give_here.new.operands.items c.give_here.ensures,
-  λ w0 h ws body gives fit.
-      end_goes_on g.W.Outside.state g.W.Outside.modules g.W.Outside.linked g.W.Outside.begins g.W.Outside.ready g.W.Outside.keeps g.W.Outside.owns (record { itself = g.met.W.Outside.keeps_itself; both = g.met.W.Outside.keeps_both; stays = g.met.W.Outside.stays }) w0 c.args._world.now h ws body c.args.machine.now (record c.args.machine.now { operands = c.give_here.new.operands; names = c.keep_names.new.names; handlers = c.keep_handlers.new.handlers; frames = c.pop.new.self })
-      c.args.frame.now c.args.value c.keep_names.ensures c.keep_handlers.ensures gives c.in-Some.caller c.in-Some.ensures.items c.args.rows.now c.give_here.result c.give_here.new.frame c.give_here.ensures,
-)
+pub returns-else-is_empty : goal.returns-else-is_empty
+returns-else-is_empty g c = c.resume_here.ensures.place
