@@ -129,7 +129,7 @@ fn turns<'a, W: Outside>(
 }
 
 /// What follows operations of one row.
-// Not inlined, so that the loop over a row stays small.
+// Not inlined, so that the loop over rows stays small.
 #[inline(never)]
 fn follow<W: Outside>(
     world: &mut W,

@@ -1,4 +1,4 @@
-// What the loop over a row does itself: the value of a name of the module, calls of functions whose rows are there, and
+// What the loop over rows does itself: the value of a name of the module, calls of functions whose rows are there, and
 // ends of functions for which others wait. The frame that runs is changed where it stands.
 ghost use Rattle.std.specs.Prelude.{◌≡◌, ◌<◌, ◌+◌, length, slice_get, Some};
 ghost use Rattle.esm_row_machine.specs.Outside as said;
@@ -44,7 +44,7 @@ pub(crate) fn op_at(row: &Row, place: usize) -> Op
 }
 
 /// The operation at a place of its row is done.
-// Not inlined, so that the loop over a row stays small.
+// Not inlined, so that the loop over rows stays small.
 #[inline(never)]
 pub(crate) fn operate_at<W: Outside>(
     world: &mut W,

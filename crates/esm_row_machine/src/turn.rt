@@ -120,7 +120,7 @@ fn put_url<W: Outside>(
     }
 }
 
-/// One operation, behind which so many are left. The loop over a row does five of them itself, as is done here.
+/// One operation, behind which so many are left. The loop over rows does six of them itself, as is done here.
 pub(crate) fn operate<W: Outside>(
     world: &mut W,
     machine: &mut Machine,

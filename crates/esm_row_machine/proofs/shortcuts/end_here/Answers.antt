@@ -4,5 +4,5 @@ use Rattle.esm_row_machine.proofs.shortcuts.end_here.Goals as goal
 pub returns-then-is_empty : goal.returns-then-is_empty
 returns-then-is_empty g c = (tt, λ w0 h ws body gives fit. (gives, refl))
 
-pub returns-else-is_empty : goal.returns-else-is_empty
-returns-else-is_empty g c = c.resume_here.ensures.place
+pub returns : goal.returns
+returns g c = c.resume_here.ensures.place
