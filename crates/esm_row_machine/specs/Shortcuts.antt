@@ -29,7 +29,7 @@ at_left f n = record f { left = n }
 
 -- ---- the row of the function that runs
 
--- it stands in the table, and as many operations are left as it may have
+-- it stands in the table, and has at least as many operations as are left
 pub record HasRow (rows : Rows) (f : Frame) (row : Row) : Type 0 where
   pub there : row_in rows f.at.0 f.function ≡ Some row
   pub within : f.left ≤ length row.ops.items
@@ -74,8 +74,8 @@ GivenHere rows vs f v (Err stops.Memory) g us = Unit {0}
 
 module _ {W S : Type 0} (state : W → State ℕ S) (modules : S → Modules ℕ) (linked : S → ℕ → Bool) (begins : Importing ℕ S)
     (Ready : W → Type 0) (Keeps : W → W → Type 0) (owns : S → ℕ → List (List ℕ)) where
-  -- functions go on from where the frame g tells; or nothing was done, where this turn leads; or a limit was passed; where memory ran
-  -- out nothing is said
+  -- functions go on from where the frame g tells; or this turn is still to be followed, by the same frame; or a limit was passed;
+  -- where memory ran out nothing is said
   abbrev pub Gone : W → Here → List Waiter → Active ℕ → Frame → Turn → Result (Option (Bor Row)) Stop → W → Machine → Frame → Type 0
   Gone w h ws body f t (Ok (Some r)) after late g = Proceeds state modules linked begins Ready Keeps owns w h ws body g after late
   Gone w h ws body f t (Ok None) after late g = Turned state modules linked begins Ready Keeps owns w f h ws (Ok t) after late × (g ≡ f)
@@ -107,7 +107,7 @@ module _ {W S : Type 0} (state : W → State ℕ S) (modules : S → Modules ℕ
     pub popped : s.operands.items ≡ mid.operands.items ++ value ∷ []
     pub place : InPlace (turn.Returns value) w mid rows f result w late g
 
-  -- or nothing was done
+  -- the same, or nothing was done; where memory ran out nothing is said
   abbrev pub ReturnsFrom : W → Machine → Rows → Frame → Result (Option (Bor Row)) Stop → Machine → Frame → Type 0
   ReturnsFrom w s rows f (Ok (Some r)) late g = ReturnsTop w s rows f (Ok (Some r)) late g
   ReturnsFrom w s rows f (Ok None) late g = (late ≡ s) × (g ≡ f)
@@ -155,7 +155,7 @@ module _ {W S : Type 0} (state : W → State ℕ S) (modules : S → Modules ℕ
   Left w h ws body (Err (stops.Limit why)) after late g = HaltsAll state modules linked begins Ready Keeps owns w h ws body why after
   Left w h ws body (Err stops.Memory) after late g = Unit {0}
 
-  -- what operations of the function that runs come to, and of those that it calls
+  -- what operations come to: of the function that runs, of those that it calls, and of those that wait for it
   abbrev pub GoesFrom : W → Machine → Rows → Frame → Result Turn Stop → W → Machine → Frame → Type 0
   GoesFrom w s rows f result after late g = (h : Here) (ws : List Waiter) (body : Active ℕ)
       → Stands state modules linked begins Ready Keeps owns w s f f.left h ws

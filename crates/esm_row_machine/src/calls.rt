@@ -45,7 +45,7 @@ fn pass(names: &mut Vec<Option<Value>>, values: &[Value], parameters: u32) -> Re
     Ok(())
 }
 
-/// The same, where there may be no parameters.
+/// The same, without a call where there are no parameters.
 #[inline(always)]
 fn pass_any(names: &mut Vec<Option<Value>>, values: &[Value], parameters: u32) -> Result<(), Memory>
     ensures { OnOk result (names_on names.new.items
@@ -57,7 +57,7 @@ fn pass_any(names: &mut Vec<Option<Value>>, values: &[Value], parameters: u32) -
     pass(names, values, parameters)
 }
 
-/// So many names begin, unset, where there may be none.
+/// So many names begin, unset; where there are none, without a call.
 #[inline(always)]
 fn begin_any(names: &mut Vec<Option<Value>>, count: u32) -> Result<(), Memory>
     ensures { OnOk result (names.new.items ≡ names.old.items ++ replicate count None) }
@@ -68,7 +68,7 @@ fn begin_any(names: &mut Vec<Option<Value>>, count: u32) -> Result<(), Memory>
     begin_names(names, count)
 }
 
-/// The callee goes, which stands below its arguments, and they go.
+/// The callee and its arguments go, the first of which stands, or would stand, at this place.
 #[inline(always)]
 fn take_callee(operands: &mut Vec<Value>, first: usize)
     requires { 0 < first }

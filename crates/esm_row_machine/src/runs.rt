@@ -38,8 +38,8 @@ pub enum Ending {
     Thrown(Value),
 }
 
-/// Functions run, from an operation of the one with this row on, up to an operation that leaves its row where nothing follows
-/// in place: what calls are made of is done here, all else by `operate`.
+/// Functions run, the one with this row first, up to an operation that leaves its row and that nothing follows in place.
+/// What calls are made of is done here, all else by `operate`.
 #[inline(never)]
 fn turns<'a, W: Outside>(
     world: &mut W,
@@ -52,6 +52,7 @@ fn turns<'a, W: Outside>(
     ensures { GoesFrom W.state W.modules W.linked W.begins W.ready W.keeps W.owns
         world.old machine.old rows.now frame.old result world.new machine.new frame.new }
 {
+    // While a row runs, `left` tells how many operations are left; the frame tells how many were when it was last changed.
     let mut row = first;
     let mut left = frame.left;
     'functions: for _ in 0..u64::MAX {
@@ -128,8 +129,8 @@ fn turns<'a, W: Outside>(
     Err(Stop::Memory)
 }
 
-/// What follows operations of one row.
-// Not inlined, so that the loop over rows stays small.
+/// What follows an operation that left its row.
+// Not inlined, so that the loop of `run` stays small.
 #[inline(never)]
 fn follow<W: Outside>(
     world: &mut W,
@@ -151,7 +152,8 @@ fn follow<W: Outside>(
     }
 }
 
-/// Functions run, from the one that the frame tells on, up to an operation that leaves its row where nothing follows in place.
+/// Functions run, the one that the frame tells first, up to an operation that leaves its row and that nothing follows in
+/// place.
 fn go_on<W: Outside>(
     world: &mut W,
     machine: &mut Machine,

@@ -1,5 +1,5 @@
-// What the loop over rows does itself: the value of a name of the module, calls of functions whose rows are there, and
-// ends of functions for which others wait. The frame that runs is changed where it stands.
+// How the loop over rows reads them, and what it does itself: the value of a name of the module, calls of functions whose
+// rows are there, and ends and returns of functions for which others wait. The frame that runs is changed where it stands.
 ghost use Rattle.std.specs.Prelude.{◌≡◌, ◌<◌, ◌+◌, length, slice_get, Some};
 ghost use Rattle.esm_row_machine.specs.Outside as said;
 ghost use Rattle.esm_row_machine.specs.Asking.{HeardOrThrown, PutOrThrown, TookOrThrown};
@@ -272,7 +272,7 @@ pub(crate) fn end_here<'a, W: Outside>(
     resume_here(_world, machine, rows, frame, value)
 }
 
-/// The value on top is given to the function that waits for it. Where none waits, nothing is done.
+/// A function is over, and the value on top is given to the function that waits for it. Where none waits, nothing is done.
 #[inline(always)]
 pub(crate) fn return_here<'a, W: Outside>(
     world: &W,
