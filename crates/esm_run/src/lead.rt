@@ -16,7 +16,7 @@ ghost use Rattle.esm_machine.specs.Represents.{Represents, RepresentsOn, asks_of
 ghost use Rattle.esm_record.specs.Delivered.{deliveries_of};
 ghost use Rattle.esm_run.specs.Inner.Leading.{HasTicket, IsLed, IsNew, IsShared, Leads, LeadsOn};
 
-use crate::tickets::{Queue, Ticket, ask_open, choose, hear};
+use crate::tickets::{Queue, Ticket, ask_open, choose, hear_next};
 use esm_ast::Outcome;
 use esm_base::{Memory, Text};
 use esm_fetch::{Bell, Posted, Turned, fetch_one};
@@ -197,7 +197,7 @@ fn advance<R: Wait, S: Source>(
     let Ok(()) = ask_open(rt, modules, bell, caller, machine, &mut queue.tickets) else {
         return Err(Memory);
     };
-    let Ok(()) = hear(rt, modules, caller, queue) else {
+    let Ok(()) = hear_next(rt, modules, caller, queue) else {
         return Err(Memory);
     };
     match choose(queue) {

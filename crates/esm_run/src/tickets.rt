@@ -25,6 +25,9 @@ use std::sync::Wait;
 /// How many URLs are asked of the map and not delivered, at the most.
 pub(crate) const WINDOW: usize = 32;
 
+/// Behind how many of them nothing more is asked: workers are woken for half a window at once, and not for each URL.
+const REFILL: usize = 16;
+
 /// An open ask of the machine that the map was asked for, and its number there.
 #[derive(Drop)]
 pub(crate) struct Ticket {
@@ -164,7 +167,8 @@ fn ask_next<R: Wait>(
     Ok(true)
 }
 
-/// Asks the map for the machine's open asks in their order, up to the window. The tickets are those of the first of them.
+/// Asks the map for the machine's open asks in their order, up to the window, where no more than half of it is full. The
+/// tickets are those of the first of them.
 pub(crate) fn ask_open<R: Wait>(
     rt: &R,
     modules: &ModuleMap<Posted>,
@@ -191,6 +195,9 @@ pub(crate) fn ask_open<R: Wait>(
         tickets.new.items) }
     ensures window { length tickets.old.items ≤ 32 → length tickets.new.items ≤ 32 }
 {
+    if tickets.len() > REFILL {
+        return Ok(());
+    }
     for _ in 0..WINDOW {
         let Ok(more) = ask_next(rt, modules, bell, caller, machine, tickets) else {
             return Err(Memory);
@@ -278,4 +285,31 @@ pub(crate) fn hear<R: Wait>(
         queue.known = known;
     }
     unreachable!()
+}
+
+/// The same where nothing is known that isn't delivered. Else nothing is done, so that the lock is entered once for all that
+/// was posted meanwhile.
+pub(crate) fn hear_next<R: Wait>(
+    rt: &R,
+    modules: &ModuleMap<Posted>,
+    caller: &mut Caller<Posted>,
+    queue: &mut Queue,
+) -> Result<(), Memory>
+    requires own { table_of modules.now.lock.table.shared.table_id caller.old.pass
+        ≡ modules.now.lock.table.shared.table_id }
+    ensures own { table_of modules.now.lock.table.shared.table_id caller.new.pass
+        ≡ modules.now.lock.table.shared.table_id }
+    ensures same { Same (view_in caller.old.pass) (view_in caller.new.pass)
+        × (caller.new.number ≡ caller.old.number) }
+    ensures says { Stays weight caller.old.number (view_in caller.old.pass).seen
+        (view_in caller.new.pass).seen }
+    ensures tickets { queue.new.tickets ≡ queue.old.tickets }
+    ensures order { HearsMore (view_in caller.new.pass).seen queue.old.known queue.old.posted.items
+        queue.new.known queue.new.posted.items }
+{
+    if queue.posted.is_empty() {
+        hear(rt, modules, caller, queue)
+    } else {
+        Ok(())
+    }
 }
