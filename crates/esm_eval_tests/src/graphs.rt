@@ -321,3 +321,30 @@ fn throw_stops_the_walk(rt: HostRuntime) -> Result<(), Fail> {
     assert!(rt; has_run(&host, &[1]));
     Ok(())
 }
+
+// A body that was told to have ended ends once: what comes for a module that is evaluated changes nothing.
+#[test]
+fn later_ends_change_nothing(rt: HostRuntime) -> Result<(), Fail> {
+    let alloc = rt.alloc();
+    let mut host = opened(alloc, diamond(alloc)?)?;
+    let promise = evaluated(&mut host, alloc, 0)?;
+    ended(&mut host, 3)?;
+    ended(&mut host, 3)?;
+    failed(&mut host, 3)?;
+    assert!(rt; has_run(&host, &[3, 1, 2, 0]));
+    assert!(rt; is_fulfilled(&host, promise));
+    Ok(())
+}
+
+// The same where it ended by a throw.
+#[test]
+fn later_ends_behind_a_throw_change_nothing(rt: HostRuntime) -> Result<(), Fail> {
+    let alloc = rt.alloc();
+    let mut host = opened(alloc, diamond(alloc)?)?;
+    let promise = evaluated(&mut host, alloc, 0)?;
+    failed(&mut host, 3)?;
+    ended(&mut host, 3)?;
+    assert!(rt; has_run(&host, &[3]));
+    assert!(rt; is_rejected(&host, promise, false) && is_evaluated(&host, 0));
+    Ok(())
+}
