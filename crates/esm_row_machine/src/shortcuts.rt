@@ -4,7 +4,7 @@ ghost use Rattle.std.specs.Prelude.{◌≡◌, ◌<◌, ◌+◌, length, slice_g
 ghost use Rattle.esm_row_machine.specs.Outside as said;
 ghost use Rattle.esm_row_machine.specs.Asking.{HeardOrThrown, PutOrThrown, TookOrThrown};
 ghost use Rattle.esm_row_machine.specs.Turns.{TurnsOn};
-ghost use Rattle.esm_row_machine.specs.Shortcuts.{BeginsFrom, EntersHere, FoundFrom, GivenHere, InPlace, IsRowHere, Resumes, ReturnsFrom, at_left};
+ghost use Rattle.esm_row_machine.specs.Shortcuts.{BeginsFrom, CallsFrom, DoneHere, EndsFrom, EntersHere, FoundFrom, GivenHere, IsOnward, IsRowHere, LeadsOn, LeavesFrom, ResumesFrom, ReturnsFrom, at_left};
 
 use crate::calls::{callee, enter, push_frame};
 use crate::machine::{Frame, Machine};
@@ -43,7 +43,7 @@ pub(crate) fn op_at(row: &Row, place: usize) -> Op
     row.ops[place]
 }
 
-/// The operation at a place of its row is done.
+/// The operation at a place of its row is done. It leads no further back than it stands.
 // Not inlined, so that the loop over rows stays small.
 #[inline(never)]
 pub(crate) fn operate_at<W: Outside>(
@@ -54,10 +54,32 @@ pub(crate) fn operate_at<W: Outside>(
     left: usize,
 ) -> Result<Turn, Stop>
     requires { left < length row.now.ops.items }
-    ensures { TurnsOn W.state W.modules W.linked W.begins W.ready W.keeps W.owns
+    ensures turns { TurnsOn W.state W.modules W.linked W.begins W.ready W.keeps W.owns
         world.old machine.old frame (left + 1) row.now result world.new machine.new }
+    ensures leads { LeadsOn left result }
 {
-    operate(world, machine, frame, row, op_at(row, left), left)
+    match operate(world, machine, frame, row, op_at(row, left), left) {
+        Ok(turn) => onward(turn, left),
+        Err(stop) => Err(stop),
+    }
+}
+
+/// The same turn, where no more operations are left than so many.
+#[inline(always)]
+fn onward(turn: Turn, left: usize) -> Result<Turn, Stop>
+    ensures { IsOnward left turn result }
+{
+    match turn {
+        Turn::On(next) => {
+            if next > left {
+                return Err(Stop::Memory);
+            }
+            Ok(Turn::On(next))
+        }
+        Turn::Calls(arguments, behind) => Ok(Turn::Calls(arguments, behind)),
+        Turn::Returns(value) => Ok(Turn::Returns(value)),
+        Turn::Throws(value) => Ok(Turn::Throws(value)),
+    }
 }
 
 /// A value is put on top.
@@ -97,6 +119,31 @@ pub(crate) fn put_own<W: Outside>(
     match world.read_own(m, place) {
         Ok(out) => take_value(operands, out),
         Err(stop) => Err(stop),
+    }
+}
+
+/// A step, a name of the module that is put on top, or a value that goes; what is thrown is given.
+#[inline(always)]
+pub(crate) fn do_here<W: Outside>(
+    world: &mut W,
+    machine: &mut Machine,
+    m: ModuleId,
+    op: Op,
+) -> Result<Option<Value>, Stop>
+    ensures { DoneHere W.state W.modules W.linked W.begins W.ready W.keeps W.owns world.old
+        machine.old m.0 op result world.new machine.new }
+{
+    match op {
+        Op::Step => match world.step() {
+            Ok(()) => Ok(None),
+            Err(stop) => Err(stop),
+        },
+        Op::Own(place) => put_own(world, &mut machine.operands, m, place),
+        Op::Drop => match pop(&mut machine.operands) {
+            Ok(_value) => Ok(None),
+            Err(Memory) => Err(Stop::Memory),
+        },
+        _ => Err(Stop::Memory),
     }
 }
 
@@ -188,7 +235,7 @@ fn call_found<'a, W: Outside>(
 ///
 /// ECMA-262, EvaluateCall.
 #[inline(always)]
-pub(crate) fn call_here<'a, W: Outside>(
+fn call_here<'a, W: Outside>(
     world: &mut W,
     machine: &mut Machine,
     rows: &'a Rows,
@@ -196,9 +243,8 @@ pub(crate) fn call_here<'a, W: Outside>(
     arguments: u32,
     left: usize,
 ) -> Result<Option<&'a Row>, Stop>
-    ensures { InPlace W.state W.modules W.linked W.begins W.ready W.keeps W.owns
-        (Turn.Calls arguments left) world.old machine.old rows.now frame.old result world.new
-        machine.new frame.new }
+    ensures { CallsFrom W.state W.modules W.linked W.begins W.ready W.keeps W.owns world.old
+        machine.old rows.now frame.old arguments left result world.new machine.new frame.new }
 {
     if machine.frames.len() + 1 >= MAX_CALL_DEPTH as usize {
         return Ok(None);
@@ -224,7 +270,7 @@ fn give_here<'a>(
     match push(operands, value) {
         Ok(()) => match row_here(rows, caller) {
             Some(row) => {
-                *frame = caller;
+                set_frame(frame, caller);
                 Ok(Some(row))
             }
             None => Err(Stop::Memory),
@@ -242,8 +288,8 @@ fn resume_here<'a, W: Outside>(
     frame: &mut Frame,
     value: Value,
 ) -> Result<Option<&'a Row>, Stop>
-    ensures { Resumes W.state W.modules W.linked W.begins W.ready W.keeps W.owns value
-        _world.now machine.old rows.now frame.old result machine.new frame.new }
+    ensures { ResumesFrom W.state W.modules W.linked W.begins W.ready W.keeps W.owns
+        _world.now machine.old rows.now frame.old value result machine.new frame.new }
 {
     keep_names(&mut machine.names, frame.names);
     keep_handlers(&mut machine.handlers, frame.handlers);
@@ -253,28 +299,22 @@ fn resume_here<'a, W: Outside>(
     }
 }
 
-/// A function is over, and its value is given to the function that waits for it. Where none waits, nothing is done.
+/// This function runs from now on. Its fields are set one by one, since what reads them next does so too.
 #[inline(always)]
-pub(crate) fn end_here<'a, W: Outside>(
-    _world: &W,
-    machine: &mut Machine,
-    rows: &'a Rows,
-    frame: &mut Frame,
-    value: Value,
-) -> Result<Option<&'a Row>, Stop>
-    ensures { InPlace W.state W.modules W.linked W.begins W.ready W.keeps W.owns
-        (Turn.Returns value) _world.now machine.old rows.now frame.old result _world.now
-        machine.new frame.new }
+fn set_frame(frame: &mut Frame, to: Frame)
+    ensures { frame.new ≡ to }
 {
-    if machine.frames.is_empty() {
-        return Ok(None);
-    }
-    resume_here(_world, machine, rows, frame, value)
+    frame.at = to.at;
+    frame.function = to.function;
+    frame.left = to.left;
+    frame.names = to.names;
+    frame.operands = to.operands;
+    frame.handlers = to.handlers;
 }
 
 /// A function is over, and the value on top is given to the function that waits for it. Where none waits, nothing is done.
 #[inline(always)]
-pub(crate) fn return_here<'a, W: Outside>(
+fn return_here<'a, W: Outside>(
     world: &W,
     machine: &mut Machine,
     rows: &'a Rows,
@@ -289,5 +329,43 @@ pub(crate) fn return_here<'a, W: Outside>(
     match pop(&mut machine.operands) {
         Ok(value) => resume_here(world, machine, rows, frame, value),
         Err(Memory) => Err(Stop::Memory),
+    }
+}
+
+/// A function is over, and undefined is given to the function that waits for it. Where none waits, nothing is done.
+#[inline(always)]
+fn end_here<'a, W: Outside>(
+    world: &W,
+    machine: &mut Machine,
+    rows: &'a Rows,
+    frame: &mut Frame,
+) -> Result<Option<&'a Row>, Stop>
+    ensures { EndsFrom W.state W.modules W.linked W.begins W.ready W.keeps W.owns world.now
+        machine.old rows.now frame.old result machine.new frame.new }
+{
+    if machine.frames.is_empty() {
+        return Ok(None);
+    }
+    resume_here(world, machine, rows, frame, Value::Undefined)
+}
+
+/// A call, a return or an end: where another function runs from now on, this is its row. Else nothing is done.
+#[inline(always)]
+pub(crate) fn leave_here<'a, W: Outside>(
+    world: &mut W,
+    machine: &mut Machine,
+    rows: &'a Rows,
+    frame: &mut Frame,
+    op: Op,
+    left: usize,
+) -> Result<Option<&'a Row>, Stop>
+    ensures { LeavesFrom W.state W.modules W.linked W.begins W.ready W.keeps W.owns world.old
+        machine.old rows.now frame.old op left result world.new machine.new frame.new }
+{
+    match op {
+        Op::Call(arguments) => call_here(world, machine, rows, frame, arguments, left),
+        Op::Return => return_here(world, machine, rows, frame),
+        Op::End => end_here(world, machine, rows, frame),
+        _ => Ok(None),
     }
 }

@@ -3,7 +3,7 @@ use Rattle.esm_row_machine.proofs.AtOnce.{returns_top}
 use Rattle.esm_row_machine.proofs.shortcuts.return_here.Goals as goal
 
 pub returns-then-is_empty : goal.returns-then-is_empty
-returns-then-is_empty g c = (refl, refl)
+returns-then-is_empty g c = record { world = refl; stacks = refl; frame = refl }
 
 pub returns-in-Ok : goal.returns-in-Ok
 returns-in-Ok g c =
