@@ -21,11 +21,11 @@ use Rattle.esm_row_machine.specs.Functions.{Here, Waiter, moved, callers}
 use Rattle.esm_row_machine.specs.Tables.{row_in}
 use Rattle.esm_row_machine.specs.Outside.{Steps, ReadsPlace}
 use Rattle.esm_row_machine.specs.Asking.{Heard}
-use Rattle.esm_row_machine.specs.Changes.{OperandsAre, Popped, Gives}
-use Rattle.esm_row_machine.specs.Entering.{Begun, IsCallee}
+use Rattle.esm_row_machine.specs.Changes.{Popped, Gives}
+use Rattle.esm_row_machine.specs.Entering.{Begun, Entered, IsCallee}
 use Rattle.esm_row_machine.specs.Turns.{Stands, CallsHere, GivesBack, Turned, TurnsOn}
 use Rattle.esm_row_machine.specs.Follows.{Followed, FollowsTurn, HaltsAll, RowsFit, SegmentOf}
-use Rattle.esm_row_machine.specs.Shortcuts.{at_left, HasRow, IsOnward, LeadsOn, IsTold, IsFollowed, Entered, EntersHere, GivenHere, Gone, FollowsAs, FollowsOp, ResumesFrom, ReturnsFrom, LeavesFrom, GoesFrom}
+use Rattle.esm_row_machine.specs.Shortcuts.{at_left, some_row, HasRow, IsOnward, LeadsOn, IsTold, EntersHere, GivenHere, Gone, FollowsAs, FollowsOp, LeavesFrom, GoesFrom}
 use Rattle.esm_row_machine.specs.declared.machine.Frame.{Frame}
 use Rattle.esm_row_machine.specs.declared.machine.Machine.{Machine}
 use Rattle.esm_row_machine.specs.declared.rows.Rows.{Rows}
@@ -55,10 +55,11 @@ has_row s row f function count g late e rows there = record {
   within = omega (arith, e.enters.left);
 }
 
-pub begun_so : (s : Machine) (row : Row) (f : Frame) (function : FuncId) (count : ℕ) (g : Frame) (late : Machine) → Entered s row f function count g late
-    → (rows : Rows) → row_in rows function.module.0 function.index ≡ Some row → Begun s rows f function count g late
-begun_so s row f function count g late e rows there =
-    record { row = row; there = there; mid = e.mid; enters = e.enters; operands = e.operands; names = e.names; handlers = e.handlers; frames = e.frames }
+-- the row of the function that waited
+pub given_told : {W : Type 0} (w : W) (s : Machine) (f : Frame) (late : Machine) (rows : Rows) (us : List Value) (q : Frame) (v : Value) (result : Result (Bor Row) Stop) (g : Frame) (vs : List Value) → GivenHere rows us q v result g vs
+    → IsTold rows w s f (some_row result) w late g
+given_told w s f late rows us q v (Ok r) g vs p = p.1
+given_told w s f late rows us q v (Err stop) g vs p = tt
 
 -- ---- turns that lead no further than so many operations
 
@@ -189,8 +190,9 @@ module _ {W S : Type 0} (state : W → State ℕ S) (modules : S → Modules ℕ
         → Gone_so w0 h ws body (Ok (Some r)) mid late g
     call_begins mid t id k few rows fit row there r g late enters =
         let u = t c.fits.is_ready in
+        let b : Begun s rows (at_left f left) id count g late = record { row = row; there = there; entered = enters } in
         (called.called_follows state modules linked begins Ready Keeps owns lawful w0 h ws body w s (at_left f left) count waits_at mid u.0 u.1 id k.0 k.1 k.2 k.3 few rows rows fit (Ok (next.Goes g)) late
-        (begun_so s row (at_left f left) id count g late enters rows there, λ ready home fits. fits)).0
+        (b, λ ready home fits. fits)).0
 
   -- nothing but want of memory keeps it from beginning
   pub call_lacks : (w0 : W) (h : Here) (ws : List Waiter) (body : Active ℕ) (s : Machine) (row : Row) (f1 : Frame) (id : FuncId) (count : ℕ) (stop : Stop) (after : W) (g : Frame) (late : Machine)
@@ -203,60 +205,28 @@ module _ {W S : Type 0} (state : W → State ℕ S) (modules : S → Modules ℕ
   module _ (w0 w : W) (h : Here) (ws : List Waiter) (body : Active ℕ) (s late : Machine) (f : Frame) (v : Value) (names : late.names.items ≡ take f.names s.names.items)
       (handlers : late.handlers.items ≡ take f.handlers s.handlers.items) (gives : GivesBack state modules linked begins Ready Keeps owns w0 f h ws (value_of v) w s) where
     -- a function waited for the value, and goes on
-    pub end_goes_on : (q : Frame) → s.frames.items ≡ late.frames.items ++ q ∷ [] → (rows : Rows) (result : Result (Option (Bor Row)) Stop) (g : Frame) → GivenHere rows s.operands.items q v result g late.operands.items
-        → Gone_so w0 h ws body result w late g
-    end_goes_on q frames rows (Ok (Some r)) g p = returned.to_caller state modules linked begins Ready Keeps owns w0 w h ws body s late f v names handlers gives q frames (Ok (next.Goes g)) (p.0, p.1)
-    end_goes_on q frames rows (Ok None) g p = absurd p
-    end_goes_on q frames rows (Err (stops.Limit why)) g p = absurd p
+    pub end_goes_on : (q : Frame) → s.frames.items ≡ late.frames.items ++ q ∷ [] → (rows : Rows) (result : Result (Bor Row) Stop) (g : Frame) → GivenHere rows s.operands.items q v result g late.operands.items
+        → Gone_so w0 h ws body (some_row result) w late g
+    end_goes_on q frames rows (Ok r) g p = returned.to_caller state modules linked begins Ready Keeps owns w0 w h ws body s late f v names handlers gives q frames (Ok (next.Goes g)) p.0
+    end_goes_on q frames rows (Err (stops.Limit why)) g p = absurd p.0
     end_goes_on q frames rows (Err stops.Memory) g p = tt
-
-  pub given_some : (rows : Rows) (us : List Value) (q : Frame) (v : Value) (result : Result (Option (Bor Row)) Stop) (g : Frame) (vs : List Value) → GivenHere rows us q v result g vs → IsFollowed result
-  given_some rows us q v (Ok (Some r)) g vs p = tt
-  given_some rows us q v (Ok None) g vs p = absurd p
-  given_some rows us q v (Err (stops.Limit why)) g vs p = absurd p
-  given_some rows us q v (Err stops.Memory) g vs p = tt
-
-  pub given_told : (w : W) (s : Machine) (f : Frame) (late : Machine) (rows : Rows) (us : List Value) (q : Frame) (v : Value) (result : Result (Option (Bor Row)) Stop) (g : Frame) (vs : List Value) → GivenHere rows us q v result g vs
-      → IsTold rows w s f result w late g
-  given_told w s f late rows us q v (Ok (Some r)) g vs p = p.2
-  given_told w s f late rows us q v (Ok None) g vs p = absurd p
-  given_told w s f late rows us q v (Err stop) g vs p = tt
-
-  abbrev Return_so : W → Machine → Rows → Frame → Result (Option (Bor Row)) Stop → Machine → Frame → Type 0
-  Return_so w s rows f result late g = ReturnsFrom state modules linked begins Ready Keeps owns w s rows f result late g
 
   abbrev Op_so : W → Machine → Rows → Frame → Op → ℕ → Result (Option (Bor Row)) Stop → W → Machine → Frame → Type 0
   Op_so w s rows f o left result after late g = FollowsOp state modules linked begins Ready Keeps owns w s rows f o left result after late g
 
-  -- the value on top was given
-  pub returns_top : (w : W) (s mid : Machine) (rows : Rows) (f : Frame) (v : Value) → OperandsAre s mid.operands.items mid → s.operands.items ≡ mid.operands.items ++ v ∷ [] → (result : Result (Option (Bor Row)) Stop) (late : Machine) (g : Frame)
-      → ResumesFrom state modules linked begins Ready Keeps owns w mid rows f v result late g → Return_so w s rows f result late g
-  returns_top w s mid rows f v are popped (Ok (Some r)) late g k = record { value = v; mid = mid; are = are; popped = popped; resumes = k }
-  returns_top w s mid rows f v are popped (Ok None) late g k = absurd k.done
-  returns_top w s mid rows f v are popped (Err (stops.Limit why)) late g k = absurd k.done
-  returns_top w s mid rows f v are popped (Err stops.Memory) late g k = tt
-
-  pub returns_told : (w : W) (s : Machine) (rows : Rows) (f : Frame) (result : Result (Option (Bor Row)) Stop) (late : Machine) (g : Frame) → Return_so w s rows f result late g → IsTold rows w s f result w late g
-  returns_told w s rows f (Ok (Some r)) late g k = k.resumes.told
-  returns_told w s rows f (Ok None) late g k = k
-  returns_told w s rows f (Err stop) late g k = tt
-
-  -- what follows the operation, wherever it stands
-  pub returns_op : (w : W) (s : Machine) (rows : Rows) (f : Frame) (left : ℕ) (result : Result (Option (Bor Row)) Stop) (late : Machine) (g : Frame) → Return_so w s rows f result late g → Op_so w s rows f op.Return left result w late g
-  returns_op w s rows f left (Ok (Some r)) late g k row h ws body at st is fit =
-      k.resumes.follows w h ws body
-      (turn_returns w s f (left + 1) left row refl at k.mid (k.are.names, k.are.handlers, k.are.frames) (Ok (turn.Returns k.value)) (k.mid.operands.items, k.value, k.popped, (refl, refl)) h ws st is) fit
-  returns_op w s rows f left (Ok None) late g k row h ws body at st is fit = tt
-  returns_op w s rows f left (Err (stops.Limit why)) late g k row h ws body at st is fit = absurd k
-  returns_op w s rows f left (Err stops.Memory) late g k row h ws body at st is fit = tt
+  -- the value on top is given
+  pub returns_op : (w : W) (s mid : Machine) (rows : Rows) (f : Frame) (v : Value) → with_operands s mid → s.operands.items ≡ mid.operands.items ++ v ∷ [] → (result : Result (Option (Bor Row)) Stop) (late : Machine) (g : Frame)
+      → FollowsAs state modules linked begins Ready Keeps owns (turn.Returns v) w mid rows f result w late g → (left : ℕ) → Op_so w s rows f op.Return left result w late g
+  returns_op w s mid rows f v same popped result late g k left row h ws body at st is fit =
+      k w h ws body (turn_returns w s f (left + 1) left row refl at mid same (Ok (turn.Returns v)) (mid.operands.items, v, popped, (refl, refl)) h ws st is) fit
 
   pub calls_op : (w : W) (s : Machine) (rows : Rows) (f : Frame) (count left : ℕ) (result : Result (Option (Bor Row)) Stop) (after : W) (late : Machine) (g : Frame)
       → FollowsAs state modules linked begins Ready Keeps owns (turn.Calls count left) w s rows f result after late g → Op_so w s rows f (op.Call count) left result after late g
   calls_op w s rows f count left result after late g k row h ws body at st is fit = k w h ws body (turn_calls w s f (left + 1) left row refl count at h ws st is) fit
 
-  pub ends_op : (w : W) (s : Machine) (rows : Rows) (f : Frame) (left : ℕ) (result : Result (Option (Bor Row)) Stop) (late : Machine) (g : Frame)
-      → FollowsAs state modules linked begins Ready Keeps owns (turn.Returns values.Undefined) w s rows f result w late g → Op_so w s rows f op.End left result w late g
-  ends_op w s rows f left result late g k row h ws body at st is fit = k w h ws body (turn_ends w s f (left + 1) left row refl at h ws st is) fit
+  pub ends_op : (w : W) (s : Machine) (rows : Rows) (f : Frame) (result : Result (Option (Bor Row)) Stop) (late : Machine) (g : Frame)
+      → FollowsAs state modules linked begins Ready Keeps owns (turn.Returns values.Undefined) w s rows f result w late g → (left : ℕ) → Op_so w s rows f op.End left result w late g
+  ends_op w s rows f result late g k left row h ws body at st is fit = k w h ws body (turn_ends w s f (left + 1) left row refl at h ws st is) fit
 
   -- ---- the loop over rows
 

@@ -1,28 +1,29 @@
 -- What is done where the frame of the function that runs is changed in its place: calls of functions whose rows are there, and ends
 -- of functions for which others wait.
-use Rattle.std.specs.Prelude.{◌≡◌, ◌<◌, ◌≤◌, ℕ, ◌+◌, Bool, List, [], ◌∷◌, ◌++◌, length, slice_get, Option, Some, None, Result, Ok, Err}
+use Rattle.std.specs.Prelude.{◌≡◌, ◌<◌, ◌≤◌, ℕ, ◌+◌, Bool, List, length, slice_get, Option, Some, None, Result, Ok, Err, IfOk}
 use Rattle.std.specs.Borrow.{Bor}
 use Rattle.esm_base.specs.declared.limits.TheConstants.{MAX_CALL_DEPTH}
 use Rattle.esm_env.specs.Modules.{Modules}
 use Rattle.esm_values.specs.declared.value.FuncId.{FuncId}
 use Rattle.esm_values.specs.declared.value.Value.{Value}
-use Rattle.esm_values.specs.declared.value.Value.TheVariants as values
 use Rattle.esm_rewriting.specs.State.{State, Importing}
 use Rattle.esm_rewriting.specs.Segment.{Active, Ended}
 use Rattle.esm_rewriting.specs.declared.stop.Stop.{Stop}
 use Rattle.esm_rewriting.specs.declared.stop.Stop.TheVariants as stops
 use Rattle.esm_rows.specs.declared.op.Op.{Op}
+use Rattle.esm_rows.specs.declared.op.Op.TheVariants as ops
 use Rattle.esm_rows.specs.declared.row.Row.{Row}
 use Rattle.esm_row_machine.specs.Functions.{Here, Waiter}
 use Rattle.esm_row_machine.specs.Tables.{row_in}
-use Rattle.esm_row_machine.specs.Changes.{OperandsAre}
-use Rattle.esm_row_machine.specs.Entering.{EntersAs, IsCallee}
+use Rattle.esm_row_machine.specs.Entering.{Entered, IsCallee}
 use Rattle.esm_row_machine.specs.Asking.{turn_of}
 use Rattle.esm_row_machine.specs.Turns.{Stands, IsRowOf, Turned, TurnsOn}
-use Rattle.esm_row_machine.specs.Follows.{HaltsAll, Proceeds, RowsFit, SegmentOf}
+use Rattle.esm_row_machine.specs.Follows.{GivenTo, HaltsAll, Proceeds, RowsFit, SegmentOf}
 use Rattle.esm_row_machine.specs.declared.machine.Frame.{Frame}
 use Rattle.esm_row_machine.specs.declared.machine.Machine.{Machine}
 use Rattle.esm_row_machine.specs.declared.rows.Rows.{Rows}
+use Rattle.esm_row_machine.specs.declared.runs.Next.{Next}
+use Rattle.esm_row_machine.specs.declared.runs.Next.TheVariants as next
 use Rattle.esm_row_machine.specs.declared.turn.Turn.{Turn}
 use Rattle.esm_row_machine.specs.declared.turn.Turn.TheVariants as turn
 
@@ -53,12 +54,15 @@ IsTold rows w s f (Ok (Some r)) after late g = HasRow rows g r.now
 IsTold rows w s f (Ok None) after late g = IsUndone w s f after late g
 IsTold rows w s f (Err stop) after late g = Unit {0}
 
--- something was done, if memory didn't run out
-abbrev pub IsFollowed : Result (Option (Bor Row)) Stop → Type 0
-IsFollowed (Ok (Some r)) = Unit {0}
-IsFollowed (Ok None) = ⊥
-IsFollowed (Err (stops.Limit why)) = ⊥
-IsFollowed (Err stops.Memory) = Unit {0}
+-- a row that is there, as what a call, a return or an end gives, which may have done nothing
+abbrev pub some_row : Result (Bor Row) Stop → Result (Option (Bor Row)) Stop
+some_row (Ok r) = Ok (Some r)
+some_row (Err stop) = Err stop
+
+-- the same as what follows an operation, where this is the frame of its function
+abbrev pub next_of : Frame → Result (Bor Row) Stop → Result Next Stop
+next_of g (Ok r) = Ok (next.Goes g)
+next_of g (Err stop) = Err stop
 
 -- a turn that leads no further than so many operations
 abbrev pub LeadsOn : ℕ → Result Turn Stop → Type 0
@@ -77,25 +81,14 @@ IsOnward left t (Err stops.Memory) = Unit {0}
 -- ---- calls and ends, on the stacks
 
 -- a function has begun with this row, and the one that called it waits
-pub record Entered (s : Machine) (row : Row) (f : Frame) (function : FuncId) (count : ℕ) (g : Frame) (late : Machine) : Type 0 where
-  pub mid : Machine
-  pub enters : EntersAs s function row count g mid
-  pub operands : late.operands.items ≡ mid.operands.items
-  pub names : late.names.items ≡ mid.names.items
-  pub handlers : late.handlers.items ≡ mid.handlers.items
-  pub frames : late.frames.items ≡ mid.frames.items ++ f ∷ []
-
 abbrev pub EntersHere : Machine → Row → Frame → FuncId → ℕ → Result (Unit {0}) Stop → Frame → Machine → Type 0
 EntersHere s row f function count (Ok u) g late = Entered s row f function count g late
 EntersHere s row f function count (Err (stops.Limit why)) g late = ⊥
 EntersHere s row f function count (Err stops.Memory) g late = Unit {0}
 
 -- a value was put on top for the function that waited, and that is the one that runs
-abbrev pub GivenHere : Rows → List Value → Frame → Value → Result (Option (Bor Row)) Stop → Frame → List Value → Type 0
-GivenHere rows vs f v (Ok (Some r)) g us = (g ≡ f) × (us ≡ vs ++ v ∷ []) × HasRow rows g r.now
-GivenHere rows vs f v (Ok None) g us = ⊥
-GivenHere rows vs f v (Err (stops.Limit why)) g us = ⊥
-GivenHere rows vs f v (Err stops.Memory) g us = Unit {0}
+abbrev pub GivenHere : Rows → List Value → Frame → Value → Result (Bor Row) Stop → Frame → List Value → Type 0
+GivenHere rows vs f v result g us = GivenTo vs f v (next_of g result) us × IfOk result (λ r. HasRow rows g r.now)
 
 module _ {W S : Type 0} (state : W → State ℕ S) (modules : S → Modules ℕ) (linked : S → ℕ → Bool) (begins : Importing ℕ S)
     (Ready : W → Type 0) (Keeps : W → W → Type 0) (owns : S → ℕ → List (List ℕ)) where
@@ -133,37 +126,15 @@ module _ {W S : Type 0} (state : W → State ℕ S) (modules : S → Modules ℕ
       → FollowsAs (turn.Calls count left) w s rows f result after late g)
 
   -- the same where this is its row
-  abbrev pub BeginsFrom : W → Machine → Row → Frame → FuncId → ℕ → ℕ → Result (Option (Bor Row)) Stop → W → Machine → Frame → Type 0
+  abbrev pub BeginsFrom : W → Machine → Row → Frame → FuncId → ℕ → ℕ → Result (Bor Row) Stop → W → Machine → Frame → Type 0
   BeginsFrom w s row f function count left result after late g = (rows : Rows)
-      → row_in rows function.module.0 function.index ≡ Some row → FoundFrom w s rows f function count left result after late g
+      → row_in rows function.module.0 function.index ≡ Some row
+      → FoundFrom w s rows f function count left (some_row result) after late g
 
   -- this value is given to the function that waits, which goes on
-  pub record ResumesFrom (w : W) (s : Machine) (rows : Rows) (f : Frame) (v : Value) (result : Result (Option (Bor Row)) Stop)
-      (late : Machine) (g : Frame) : Type 0 where
-    pub done : IsFollowed result
-    pub told : IsTold rows w s f result w late g
-    pub follows : FollowsAs (turn.Returns v) w s rows f result w late g
-
-  -- so is undefined, or nothing was done
-  abbrev pub EndsFrom : W → Machine → Rows → Frame → Result (Option (Bor Row)) Stop → Machine → Frame → Type 0
-  EndsFrom w s rows f result late g = IsTold rows w s f result w late g
-      × FollowsAs (turn.Returns values.Undefined) w s rows f result w late g
-
-  -- so is the value on top, which is taken
-  pub record ReturnsTop (w : W) (s : Machine) (rows : Rows) (f : Frame) (result : Result (Option (Bor Row)) Stop) (late : Machine)
-      (g : Frame) : Type 0 where
-    pub value : Value
-    pub mid : Machine
-    pub are : OperandsAre s mid.operands.items mid
-    pub popped : s.operands.items ≡ mid.operands.items ++ value ∷ []
-    pub resumes : ResumesFrom w mid rows f value result late g
-
-  -- or nothing was done; where memory ran out nothing is said
-  abbrev pub ReturnsFrom : W → Machine → Rows → Frame → Result (Option (Bor Row)) Stop → Machine → Frame → Type 0
-  ReturnsFrom w s rows f (Ok (Some r)) late g = ReturnsTop w s rows f (Ok (Some r)) late g
-  ReturnsFrom w s rows f (Ok None) late g = IsUndone w s f w late g
-  ReturnsFrom w s rows f (Err (stops.Limit why)) late g = ⊥
-  ReturnsFrom w s rows f (Err stops.Memory) late g = Unit {0}
+  abbrev pub ResumesFrom : W → Machine → Rows → Frame → Value → Result (Bor Row) Stop → Machine → Frame → Type 0
+  ResumesFrom w s rows f v result late g = IsTold rows w s f (some_row result) w late g
+      × FollowsAs (turn.Returns v) w s rows f (some_row result) w late g
 
   -- what follows this operation, wherever it stands
   abbrev pub FollowsOp : W → Machine → Rows → Frame → Op → ℕ → Result (Option (Bor Row)) Stop → W → Machine → Frame → Type 0
@@ -175,6 +146,13 @@ module _ {W S : Type 0} (state : W → State ℕ S) (modules : S → Modules ℕ
   abbrev pub LeavesFrom : W → Machine → Rows → Frame → Op → ℕ → Result (Option (Bor Row)) Stop → W → Machine → Frame → Type 0
   LeavesFrom w s rows f op left result after late g = IsTold rows w s f result after late g
       × FollowsOp w s rows f op left result after late g
+
+  -- the same of a return, and of an end, however many operations are left behind it
+  abbrev pub ReturnsFrom : W → Machine → Rows → Frame → Result (Option (Bor Row)) Stop → Machine → Frame → Type 0
+  ReturnsFrom w s rows f result late g = (left : ℕ) → LeavesFrom w s rows f ops.Return left result w late g
+
+  abbrev pub EndsFrom : W → Machine → Rows → Frame → Result (Option (Bor Row)) Stop → Machine → Frame → Type 0
+  EndsFrom w s rows f result late g = (left : ℕ) → LeavesFrom w s rows f ops.End left result w late g
 
   -- ---- functions run
 

@@ -249,7 +249,8 @@ fn call_function<W: Outside>(
     }
 }
 
-/// A value is called with so many arguments, which stand above it: the step, what it is, and how many functions are active.
+/// A value is called with so many arguments, which stand above it: the step, what it is, and how many functions are
+/// active.
 ///
 /// ECMA-262, EvaluateCall.
 pub(crate) fn call_value<W: Outside>(

@@ -36,8 +36,9 @@ pub enum Ending {
     Thrown(Value),
 }
 
-/// Functions run, the one with this row first, up to an operation that leaves its row and that nothing follows in place.
-/// What calls are made of is done here, all else by `operate`.
+/// Functions run, the one with this row first, up to an operation that leaves its row and that nothing follows in
+/// place. What calls are made of is done here, all else by `operate`. The frame tells how many operations were left when
+/// it was last changed.
 #[inline(always)]
 fn turns<'a, W: Outside>(
     world: &mut W,
@@ -50,7 +51,6 @@ fn turns<'a, W: Outside>(
     ensures { GoesFrom W.state W.modules W.linked W.begins W.ready W.keeps W.owns
         world.old machine.old rows.now frame.old result world.new machine.new frame.new }
 {
-    // While a row runs, `left` tells how many operations are left; the frame tells how many were when it was last changed.
     let mut row = start;
     let mut left = frame.left;
     'functions: for _ in 0..u64::MAX {
@@ -115,8 +115,8 @@ fn follow<W: Outside>(
     }
 }
 
-/// Functions run, the one that the frame tells first, up to an operation that leaves its row and that nothing follows in
-/// place.
+/// Functions run, the one that the frame tells first, up to an operation that leaves its row and that nothing follows
+/// in place.
 #[inline(always)]
 fn go_on<W: Outside>(
     world: &mut W,

@@ -1,8 +1,9 @@
-// How the loop over rows reads them, and what it does itself: the value of a name of the module, calls of functions whose
-// rows are there, and ends and returns of functions for which others wait. The frame that runs is changed where it stands.
+// How the loop over rows reads them, and what it does itself: the value of a name of the module, calls of functions
+// whose rows are there, and ends and returns of functions for which others wait. The frame that runs is changed where
+// it stands.
 ghost use Rattle.std.specs.Prelude.{◌≡◌, ◌<◌, ◌+◌, length, slice_get, Some};
 ghost use Rattle.esm_row_machine.specs.Outside as said;
-ghost use Rattle.esm_row_machine.specs.Asking.{HeardOrThrown, PutOrThrown, TookOrThrown};
+ghost use Rattle.esm_row_machine.specs.Asking.{HeardOrThrown};
 ghost use Rattle.esm_row_machine.specs.Turns.{TurnsOn};
 ghost use Rattle.esm_row_machine.specs.Shortcuts.{BeginsFrom, CallsFrom, DoneHere, EndsFrom, EntersHere, FoundFrom, GivenHere, IsOnward, IsRowHere, LeadsOn, LeavesFrom, ResumesFrom, ReturnsFrom, at_left};
 
@@ -82,28 +83,6 @@ fn onward(turn: Turn, left: usize) -> Result<Turn, Stop>
     }
 }
 
-/// A value is put on top.
-#[inline(always)]
-fn put_value(operands: &mut Vec<Value>, value: Value) -> Result<Option<Value>, Stop>
-    ensures { PutOrThrown operands.old.items value result operands.new.items }
-{
-    match push(operands, value) {
-        Ok(()) => Ok(None),
-        Err(Memory) => Err(Stop::Memory),
-    }
-}
-
-/// A value is put on top, or is to be thrown.
-#[inline(always)]
-fn take_value(operands: &mut Vec<Value>, told: Out) -> Result<Option<Value>, Stop>
-    ensures { TookOrThrown operands.old.items (Ok told) result operands.new.items }
-{
-    match told {
-        Out::Value(value) => put_value(operands, value),
-        Out::Thrown(value) => Ok(Some(value)),
-    }
-}
-
 /// The value of the name at a place of the module is put on top, or what is thrown is given.
 #[inline(always)]
 pub(crate) fn put_own<W: Outside>(
@@ -117,7 +96,13 @@ pub(crate) fn put_own<W: Outside>(
         operands.new.items }
 {
     match world.read_own(m, place) {
-        Ok(out) => take_value(operands, out),
+        Ok(out) => match out {
+            Out::Value(value) => match push(operands, value) {
+                Ok(()) => Ok(None),
+                Err(Memory) => Err(Stop::Memory),
+            },
+            Out::Thrown(error) => Ok(Some(error)),
+        },
         Err(stop) => Err(stop),
     }
 }
@@ -185,14 +170,14 @@ fn begin_here<'a, W: Outside>(
     function: FuncId,
     arguments: usize,
     left: usize,
-) -> Result<Option<&'a Row>, Stop>
+) -> Result<&'a Row, Stop>
     ensures { BeginsFrom W.state W.modules W.linked W.begins W.ready W.keeps W.owns world.old
         machine.old row.now frame.old function arguments left result world.new machine.new
         frame.new }
 {
     match world.step() {
         Ok(()) => match enter_here(machine, row, frame, function, arguments, left) {
-            Ok(()) => Ok(Some(row)),
+            Ok(()) => Ok(row),
             Err(stop) => Err(stop),
         },
         Err(stop) => Err(stop),
@@ -215,23 +200,24 @@ fn call_found<'a, W: Outside>(
         frame.new }
 {
     match rows.find(function.module, function.index) {
-        Some(row) => {
-            begin_here(
-                world,
-                machine,
-                row,
-                frame,
-                function,
-                arguments as usize,
-                left,
-            )
-        }
+        Some(row) => match begin_here(
+            world,
+            machine,
+            row,
+            frame,
+            function,
+            arguments as usize,
+            left,
+        ) {
+            Ok(begun) => Ok(Some(begun)),
+            Err(stop) => Err(stop),
+        },
         None => Ok(None),
     }
 }
 
-/// The value below so many arguments is called, where it is a function whose row is there, and fewer functions are active
-/// than may be. Else nothing is done.
+/// The value below so many arguments is called, where it is a function whose row is there, and fewer functions are
+/// active than may be. Else nothing is done.
 ///
 /// ECMA-262, EvaluateCall.
 #[inline(always)]
@@ -263,7 +249,7 @@ fn give_here<'a>(
     frame: &mut Frame,
     caller: Frame,
     value: Value,
-) -> Result<Option<&'a Row>, Stop>
+) -> Result<&'a Row, Stop>
     ensures { GivenHere rows.now operands.old.items caller value result frame.new
         operands.new.items }
 {
@@ -271,7 +257,7 @@ fn give_here<'a>(
         Ok(()) => match row_here(rows, caller) {
             Some(row) => {
                 set_frame(frame, caller);
-                Ok(Some(row))
+                Ok(row)
             }
             None => Err(Stop::Memory),
         },
@@ -287,7 +273,7 @@ fn resume_here<'a, W: Outside>(
     rows: &'a Rows,
     frame: &mut Frame,
     value: Value,
-) -> Result<Option<&'a Row>, Stop>
+) -> Result<&'a Row, Stop>
     ensures { ResumesFrom W.state W.modules W.linked W.begins W.ready W.keeps W.owns
         _world.now machine.old rows.now frame.old value result machine.new frame.new }
 {
@@ -312,7 +298,8 @@ fn set_frame(frame: &mut Frame, to: Frame)
     frame.handlers = to.handlers;
 }
 
-/// A function is over, and the value on top is given to the function that waits for it. Where none waits, nothing is done.
+/// A function is over, and the value on top is given to the function that waits for it. Where none waits, nothing is
+/// done.
 #[inline(always)]
 fn return_here<'a, W: Outside>(
     world: &W,
@@ -327,7 +314,10 @@ fn return_here<'a, W: Outside>(
         return Ok(None);
     }
     match pop(&mut machine.operands) {
-        Ok(value) => resume_here(world, machine, rows, frame, value),
+        Ok(value) => match resume_here(world, machine, rows, frame, value) {
+            Ok(row) => Ok(Some(row)),
+            Err(stop) => Err(stop),
+        },
         Err(Memory) => Err(Stop::Memory),
     }
 }
@@ -346,7 +336,10 @@ fn end_here<'a, W: Outside>(
     if machine.frames.is_empty() {
         return Ok(None);
     }
-    resume_here(world, machine, rows, frame, Value::Undefined)
+    match resume_here(world, machine, rows, frame, Value::Undefined) {
+        Ok(row) => Ok(Some(row)),
+        Err(stop) => Err(stop),
+    }
 }
 
 /// A call, a return or an end: where another function runs from now on, this is its row. Else nothing is done.

@@ -8,8 +8,8 @@ use esm_values::{ErrorId, FaultKind, FuncId, RcText, Value};
 use std::alloc::Global;
 use std::test::Fail;
 
-/// A world in which each name is the function with the number 1, and a name of the module that with the number of its place. It
-/// is never ready, so that its calls say nothing.
+/// A world in which each name is the function with the number 1, and a name of the module that with the number of its
+/// place. It is never ready, so that its calls say nothing.
 #[derive(Drop)]
 struct Fake {
     alloc: Global,
