@@ -11,7 +11,7 @@ use std::marker::Model;
 pub struct FrontVec<T> {
     /// The elements, behind those that were taken and wait to be dropped.
     items: Vec<T>,
-    /// How many wait: never more than there are elements.
+    /// How many wait: never more than are in the list.
     first: usize,
 }
 
@@ -89,8 +89,9 @@ impl<T: Drop> FrontVec<T> {
         Ok(())
     }
 
-    /// Drops the element at a place. It costs a move of the elements before it or of those behind it, whichever are fewer, and
-    /// over all calls a move for each of them.
+    /// Drops the element at a place. Those before it move or those behind it, whichever are fewer: near either end it costs
+    /// little, and in the middle half of the length. What waits at the front is dropped once it is more than half, at a
+    /// constant cost for each call.
     pub fn remove(&mut self, at: usize)
         requires { at < length self.old }
         ensures { self.new ≡ remove self.old at }

@@ -1,5 +1,5 @@
 -- An element is taken out from its nearer side.
-use Rattle.std.proofs.Common.{◌≡◌, ap, ◌∙◌, drop}
+use Rattle.std.proofs.Common.{ap, ◌∙◌, drop}
 use Rattle.esm_loads.proofs.Removals.{removed, written}
 use Rattle.esm_loads.proofs.front_vec.take_out.Goals as goal
 
