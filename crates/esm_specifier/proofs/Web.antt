@@ -6,7 +6,6 @@ use Rattle.std.proofs.lemmas.Bool.{not-true}
 use Rattle.std.proofs.lemmas.Slice.Eq.{bytes_eq-Decides}
 use Rattle.url.specs.Parts.{Parts, serialize, kind_of, IsValid}
 use Rattle.url.specs.Scheme.{scheme_type, is_special}
-
 use Rattle.url.specs.declared.scheme.SchemeType.{SchemeType}
 use Rattle.url.specs.declared.scheme.SchemeType.TheVariants.{File, SpecialNotFile, NotSpecial}
 use Rattle.url.proofs.SchemeLemmas.{file_from_scheme_type}
