@@ -1,5 +1,5 @@
 -- Reading the names of code under way.
-use Rattle.std.specs.Prelude.{◌≡◌, ◌≤◌, ℕ, suc, List, [], ◌∷◌, slice_get, Option, Some, None, Result, Ok, Err}
+use Rattle.std.specs.Prelude.{◌≡◌, ◌≤◌, ℕ, suc, List, slice_get, Option, Some, None, Result, Ok, Err}
 use Rattle.esm_values.specs.Value.{Error}
 use Rattle.esm_values.specs.Code.{CodeValue, value_of}
 use Rattle.esm_values.specs.Completion.{Completion, Normal, Throw}

@@ -1,4 +1,4 @@
-use Rattle.std.proofs.Common.{refl, ◌∙◌, ap, sym}
+use Rattle.std.proofs.Common.{◌∙◌, ap, sym}
 use Rattle.esm_body.specs.Inner.SlotPlaces.{slot_place}
 use Rattle.esm_body.proofs.SlotPlaces.{indexed_place}
 use Rattle.esm_body.proofs.slots.Slots.place.Goals as goal
