@@ -85,7 +85,7 @@ fn the_entry_is_asked_for_first(rt: HostRuntime) -> Result<(), Fail> {
 }
 
 // A machine to which an entry with this text was delivered; nothing where it asked for none.
-fn begun(alloc: Global, main: &str) -> Result<Option<Machine>, Memory> {
+pub(crate) fn begun(alloc: Global, main: &str) -> Result<Option<Machine>, Memory> {
     let mut machine = opened(alloc)?;
     match first_ask(&machine) {
         Ok(Some(url)) => match deliver(alloc, &mut machine, main, &url) {
