@@ -152,3 +152,18 @@ pub(crate) fn tell(
         }
     }
 }
+
+/// The same of what was read just now.
+#[cold]
+#[inline(never)]
+pub(crate) fn tell_read(
+    alloc: Global,
+    errors: &mut Errors,
+    name: &str,
+    read: Read<'_>,
+) -> Result<Out, Memory>
+    ensures { Tells name.now (told_read read.entry) errors.old result errors.new }
+{
+    let found = owned(read)?;
+    tell(alloc, errors, name, found)
+}

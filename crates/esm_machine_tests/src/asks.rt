@@ -3,7 +3,7 @@ ghost use Rattle.std.specs.Prelude.{◌≡◌, IfOk, IfSome};
 ghost use Rattle.esm_machine.specs.Machine.{state_of};
 ghost use Rattle.esm_machine.specs.Represents.{MayTake};
 
-use crate::site::begun;
+use crate::site::{deliver_first, opened};
 use esm_ast::Outcome;
 use esm_base::{Memory, Status, Text};
 use esm_machine::Machine;
@@ -69,11 +69,14 @@ fn all_keep_others(alloc: Global, machine: &mut Machine) -> Result<bool, Memory>
 
 // Whether all that a machine asks for ends so.
 fn order_is_kept(alloc: Global) -> Result<bool, Memory> {
-    match begun(alloc, TWELVE) {
-        Ok(Some(mut machine)) => all_keep_others(alloc, &mut machine),
-        Ok(None) => Ok(false),
+    let mut machine = opened(alloc)?;
+    let kept = match deliver_first(alloc, &mut machine, TWELVE, 1) {
+        Ok(true) => all_keep_others(alloc, &mut machine),
+        Ok(false) => Ok(false),
         Err(Memory) => Err(Memory),
-    }
+    };
+    let _log = machine.into_log();
+    kept
 }
 
 #[test]
