@@ -1,5 +1,5 @@
 -- Where a name stands among the levels of code under way.
-use Rattle.std.proofs.Common.{◌≡◌, ℕ, zero, suc, ◌+◌, ◌<◌, ◌≤◌, Bool, true, false, List, [], ◌∷◌, ◌++◌, map, length, refl, ap, subst, sym, ◌∙◌, arith, ◌⊎◌, inl, inr, get_or}
+use Rattle.std.proofs.Common.{◌≡◌, ℕ, zero, suc, ◌<◌, ◌≤◌, Bool, true, false, List, [], ◌∷◌, ◌++◌, map, length, refl, ap, subst, sym, ◌∙◌, arith, ◌⊎◌, inl, inr, get_or}
 use Rattle.std.specs.Prelude.{Option, Some, None, option_map, if◌then◌else◌}
 use Rattle.std.specs.Option.{option_or}
 use Rattle.std.specs.Str.{bytes_eq}
@@ -11,16 +11,10 @@ use Rattle.esm_rewriting.specs.Scopes.{Scope, cell_by, in_scope, in_scopes}
 use Rattle.esm_body.specs.Slots.{slot_of}
 use Rattle.esm_body.specs.Inner.Stack.{scopes_round}
 use Rattle.esm_body.specs.Code.{scope_of_level}
-use Rattle.esm_body.specs.Inner.Names.{slot_place, place_at, NoneFrom, IsFound}
+use Rattle.esm_body.specs.Inner.SlotPlaces.{slot_place}
+use Rattle.esm_body.specs.Inner.Names.{place_at, NoneFrom, IsFound}
 use Rattle.esm_body.specs.declared.work.Slot.{Slot}
 use Rattle.esm_body.specs.declared.work.Level.{Level}
-
-borrow_cases : (i at : ℕ) → i < at + 1 → (i < at) ⊎ (i ≡ at)
-borrow_cases i at h = by (eqb_tells i at)
-  where
-    by : ((eqb i at ≡ true) × (i ≡ at)) ⊎ ((eqb i at ≡ false) × (i ≡ at → ⊥)) → (i < at) ⊎ (i ≡ at)
-    by (inl e) = inr e.1
-    by (inr n) = inl (omega (arith, n.1, h))
 
 below_cases : (at i : ℕ) → at ≤ i → (at ≡ i) ⊎ (at < i)
 below_cases at i h = by (eqb_tells at i)
@@ -89,26 +83,26 @@ lacks [] x h = refl
 lacks (l ∷ ls) x h =
     scopes_last (rounds ls) (scope_of_level l) x
     ∙ ap (λ o. option_or o (in_scope (scope_of_level l) x)) (lacks ls x (λ i. h (suc i)))
-    ∙ cell_none l.slots.items x (h 0)
+    ∙ cell_none l.slots x (h 0)
 
 -- the innermost that declares it has it at this place
 abbrev pub Innermost : List Level → ℕ → ℕ → List ℕ → Type 0
 Innermost ls k j x = (place_at ls k x ≡ Some j) × ((i : ℕ) → k < i → place_at ls i x ≡ None)
 
-pub has : (ls : List Level) (k j : ℕ) (x : List ℕ) → Innermost ls k j x → (d : Level) (e : Slot) → in_scopes (rounds ls) x ≡ Some (cell_of (get_or (get_or ls k d).slots.items j e))
+pub has : (ls : List Level) (k j : ℕ) (x : List ℕ) → Innermost ls k j x → (d : Level) (e : Slot) → in_scopes (rounds ls) x ≡ Some (cell_of (get_or (get_or ls k d).slots j e))
 has [] k j x h d e = absurd cc
 has (l ∷ ls) zero j x h d e =
     scopes_last (rounds ls) (scope_of_level l) x
     ∙ ap (λ o. option_or o (in_scope (scope_of_level l) x)) (lacks ls x (λ i. h.1 (suc i) (omega arith)))
-    ∙ (subst (CellAt l.slots.items x) h.0 (cell_at_place l.slots.items x)).1 e
+    ∙ (subst (CellAt l.slots x) h.0 (cell_at_place l.slots x)).1 e
 has (l ∷ ls) (suc k) j x h d e =
     scopes_last (rounds ls) (scope_of_level l) x
     ∙ ap (λ o. option_or o (in_scope (scope_of_level l) x)) (has ls k j x (h.0, λ i lt. h.1 (suc i) (omega (arith, lt))) d e)
 
 -- where the place is
-pub place_bound : (ls : List Level) (k j : ℕ) (x : List ℕ) → place_at ls k x ≡ Some j → (k < length ls) × ((d : Level) → j < length (get_or ls k d).slots.items)
+pub place_bound : (ls : List Level) (k j : ℕ) (x : List ℕ) → place_at ls k x ≡ Some j → (k < length ls) × ((d : Level) → j < length (get_or ls k d).slots)
 place_bound [] k j x h = absurd cc
-place_bound (l ∷ ls) zero j x h = (omega arith, λ d. (subst (CellAt l.slots.items x) h (cell_at_place l.slots.items x)).0)
+place_bound (l ∷ ls) zero j x h = (omega arith, λ d. (subst (CellAt l.slots x) h (cell_at_place l.slots x)).0)
 place_bound (l ∷ ls) (suc k) j x h = let r = place_bound ls k j x h in let a = r.0 in (omega (arith, a), r.1)
 
 -- behind all levels there is none
@@ -118,7 +112,7 @@ place_behind (l ∷ ls) zero x h = absurd (omega (arith, h))
 place_behind (l ∷ ls) (suc i) x h = place_behind ls i x (omega (arith, h))
 
 -- the place in a level that is there
-pub place_there : (ls : List Level) (i : ℕ) (x : List ℕ) (d : Level) → i < length ls → place_at ls i x ≡ slot_place (get_or ls i d).slots.items x
+pub place_there : (ls : List Level) (i : ℕ) (x : List ℕ) (d : Level) → i < length ls → place_at ls i x ≡ slot_place (get_or ls i d).slots x
 place_there [] i x d h = absurd (omega (arith, h))
 place_there (l ∷ ls) zero x d h = refl
 place_there (l ∷ ls) (suc i) x d h = place_there ls i x d (omega (arith, h))
@@ -130,38 +124,10 @@ found_none [] x h = refl
 found_none (b ∷ ls) x h = rw (round_all b ls) (lacks ls x (λ i. h (suc i) (omega arith)))
 
 pub found_some : (ls : List Level) (x : List ℕ) (p : ℕ × ℕ) → IsFound ls x (Some p) → (d : Level) (e : Slot)
-    → in_scopes (scopes_round ls) x ≡ Some (cell_of (get_or (get_or ls p.0 d).slots.items p.1 e))
+    → in_scopes (scopes_round ls) x ≡ Some (cell_of (get_or (get_or ls p.0 d).slots p.1 e))
 found_some [] x p h d e = absurd (let k = h.1 in cc)
 found_some (b ∷ ls) x (zero, j) h d e = absurd (omega (arith, h.0))
 found_some (b ∷ ls) x (suc k, j) h d e = rw (round_all b ls) (has ls k j x (h.1, λ i lt. h.2 (suc i) (omega (arith, lt))) d e)
-
--- ---- the first place of a name
-
-abbrev pub NoneBefore : List Slot → ℕ → List ℕ → Type 0
-NoneBefore slots at x = (i : ℕ) → i < at → (d : Slot) → bytes_eq (get_or slots i d).name x ≡ false
-
-place_first_by : (b : Bool) (o : Option ℕ) (at : ℕ) → b ≡ false → o ≡ Some at → (if b then Some 0 else option_map suc o) ≡ Some (suc at)
-place_first_by b o at e h = rw (e, h) refl
-
-pub place_first : (slots : List Slot) (at : ℕ) (x : List ℕ) (d : Slot) → at < length slots → NoneBefore slots at x → bytes_eq (get_or slots at d).name x ≡ true → slot_place slots x ≡ Some at
-place_first [] at x d h n e = absurd (omega (arith, h))
-place_first (s ∷ ss) zero x d h n e = rw e refl
-place_first (s ∷ ss) (suc at) x d h n e =
-    place_first_by (bytes_eq s.name x) (slot_place ss x) at (n 0 (omega arith) d) (place_first ss at x d (omega (arith, h)) (λ i lt d. n (suc i) (omega (arith, lt)) d) e)
-
-place_no_by : (b : Bool) (o : Option ℕ) → b ≡ false → o ≡ None → (if b then Some 0 else option_map suc o) ≡ None
-place_no_by b o e h = rw (e, h) refl
-
-pub place_no : (slots : List Slot) (x : List ℕ) → NoneBefore slots (length slots) x → slot_place slots x ≡ None
-place_no [] x n = refl
-place_no (s ∷ ss) x n = place_no_by (bytes_eq s.name x) (slot_place ss x) (n 0 (omega arith) s) (place_no ss x (λ i lt d. n (suc i) (omega (arith, lt)) d))
-
-pub none_more : (slots : List Slot) (at : ℕ) (x : List ℕ) → NoneBefore slots at x → ((d : Slot) → bytes_eq (get_or slots at d).name x ≡ false) → NoneBefore slots (at + 1) x
-none_more slots at x n e i lt d = by (borrow_cases i at lt)
-  where
-    by : (i < at) ⊎ (i ≡ at) → bytes_eq (get_or slots i d).name x ≡ false
-    by (inl h) = n i h d
-    by (inr h) = rw h (e d)
 
 -- one level more has no such name
 pub none_down : (ls : List Level) (at : ℕ) (x : List ℕ) → NoneFrom ls (suc at) x → place_at ls at x ≡ None → NoneFrom ls at x

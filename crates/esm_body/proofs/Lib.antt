@@ -1,3 +1,4 @@
+pub mod SlotPlaces
 pub mod LevelNames
 pub mod Alike
 pub mod Levels

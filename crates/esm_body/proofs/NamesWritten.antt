@@ -33,8 +33,9 @@ use Rattle.esm_body.specs.View.{state_of}
 use Rattle.esm_body.specs.Slots.{slot_of, scope_of_slots}
 use Rattle.esm_body.specs.Inner.Stack.{scopes_round}
 use Rattle.esm_body.specs.Code.{scope_of_level}
-use Rattle.esm_body.specs.Inner.Names.{slot_place, place_at, IsFound}
-use Rattle.esm_body.specs.Inner.Written.{set_slot, SlotSet, LevelSet, OnlySlots, LevelWrote, slot_wrote, SlotWritten, SetWhere, TopSet, ScopesWrote, WritesAt, WritesTo, SetsAt, SetsTo, thrown, ThrowsNew, ThrowsWrote, Throws, IsLike, WritesName, SetsName}
+use Rattle.esm_body.specs.Inner.SlotPlaces.{slot_place, set_slot}
+use Rattle.esm_body.specs.Inner.Names.{place_at, IsFound}
+use Rattle.esm_body.specs.Inner.Written.{SlotSet, LevelSet, OnlySlots, LevelWrote, slot_wrote, SlotWritten, SetWhere, TopSet, ScopesWrote, WritesAt, WritesTo, SetsAt, SetsTo, thrown, ThrowsNew, ThrowsWrote, Throws, IsLike, WritesName, SetsName}
 use Rattle.esm_body.specs.Inner.World.{HasScopes}
 use Rattle.esm_body.specs.declared.inside.Inside.{Inside}
 use Rattle.esm_body.specs.declared.engine.Engine.{Engine}
@@ -43,11 +44,6 @@ use Rattle.esm_body.specs.declared.work.Level.{Level}
 use Rattle.esm_body.proofs.LevelNames.{rounds, round_all, cell_of, CellAt, cell_at_place, scopes_last, lacks, Innermost, place_bound, place_there, found_none, found_some}
 
 -- ---- levels
-
-pub slot_set : (ss : List Slot) (at : ℕ) (v : Value) (d : Slot) → at < length ss → slice_set ss at (record (get_or ss at d) { value = Some v }) ≡ set_slot ss at v
-slot_set [] at v d h = absurd (omega (arith, h))
-slot_set (s ∷ ss) zero v d h = refl
-slot_set (s ∷ ss) (suc at) v d h = ap (λ ss. s ∷ ss) (slot_set ss at v d (omega (arith, h)))
 
 pub level_set : (ls : List Level) (i at : ℕ) (d l : Level) (v : Value) → i < length ls → SlotSet (get_or ls i d) at v l → LevelSet ls i at v (slice_set ls i l)
 level_set [] i at d l v h s = absurd (omega (arith, h))
@@ -157,7 +153,7 @@ module _ (x : List ℕ) (v : CodeValue) where
 has_some : (ls : List Level) (k j : ℕ) (x : List ℕ) → Innermost ls k j x → (c : Cell CodeValue) × (in_scopes (rounds ls) x ≡ Some c)
 has_some [] k j x h = absurd (let a = h.0 in cc)
 has_some (l ∷ ls) zero j x h =
-    let c = place_some l.slots.items x j h.0 in (
+    let c = place_some l.slots x j h.0 in (
       c.0,
       scopes_last (rounds ls) (scope_of_level l) x
           ∙ ap (λ o. option_or o (in_scope (scope_of_level l) x)) (lacks ls x (λ i. h.1 (suc i) (omega arith))) ∙ c.1,
@@ -166,15 +162,15 @@ has_some (l ∷ ls) (suc k) j x h =
     let c = has_some ls k j x (h.0, λ i lt. h.1 (suc i) (omega (arith, lt))) in
     (c.0, scopes_last (rounds ls) (scope_of_level l) x ∙ ap (λ o. option_or o (in_scope (scope_of_level l) x)) c.1)
 
-level_is : (l m : Level) (x : List ℕ) (j : ℕ) (v : Value) → slot_place l.slots.items x ≡ Some j → SlotSet l j v m → scope_of_level m ≡ set_in (scope_of_level l) x (value_of v)
-level_is l m x j v p h = ap scope_of_slots h.2 ∙ scope_set l.slots.items x j v p
+level_is : (l m : Level) (x : List ℕ) (j : ℕ) (v : Value) → slot_place l.slots x ≡ Some j → SlotSet l j v m → scope_of_level m ≡ set_in (scope_of_level l) x (value_of v)
+level_is l m x j v p h = ap scope_of_slots h.2 ∙ scope_set l.slots x j v p
 
 -- the innermost level that declares the name is set
 rounds_set : (ls : List Level) (k j : ℕ) (x : List ℕ) (v : Value) (new : List Level) → Innermost ls k j x → LevelSet ls k j v new → rounds new ≡ set_in_scopes (rounds ls) x (value_of v)
 rounds_set [] k j x v new i h = absurd h
 rounds_set (l ∷ ls) k j x v [] i h = absurd (set_none l ls k j v h)
 rounds_set (l ∷ ls) zero j x v (m ∷ ms) i h =
-    let c = place_some l.slots.items x j i.0 in
+    let c = place_some l.slots x j i.0 in
     let one = level_is l m x j v i.0 h.0 in
     (λ t. rounds (h.1 t) ++ one t ∷ [])
     ∙ ap (λ one. rounds ls ++ one) (sym (one_by x (value_of v) (scope_of_level l) (in_scope (scope_of_level l) x) c.0 c.1))
@@ -221,7 +217,7 @@ top_some (l ∷ n ∷ ls) (suc k) j x v (m ∷ ms) e p h =
 
 top_none : (ls : List Level) (k : ℕ) (x : List ℕ) (v : Value) → suc k ≡ length ls → place_at ls k x ≡ None → rounds ls ≡ set_first (rounds ls) x (value_of v)
 top_none [] k x v e p = refl
-top_none (l ∷ []) zero x v e p = sym (ap (λ s. s ∷ []) (scope_unset l.slots.items x v p))
+top_none (l ∷ []) zero x v e p = sym (ap (λ s. s ∷ []) (scope_unset l.slots x v p))
 top_none (l ∷ n ∷ ls) zero x v e p = absurd (omega (arith, e))
 top_none (l ∷ []) (suc k) x v e p = absurd (omega (arith, e))
 top_none (l ∷ n ∷ ls) (suc k) x v e p =
@@ -259,23 +255,23 @@ sets_module (b ∷ c ∷ ls) e late m x v le h = absurd (omega (arith, le))
 -- ---- the place of a name in a level
 
 module _ (old : List Level) (level : ℕ) (x : List ℕ) (d : Level) (below : level < length old) where
-  pub top_place : (at : ℕ) → slot_place (get_or old level d).slots.items x ≡ Some at → (d : Level) → at < length (get_or old level d).slots.items
+  pub top_place : (at : ℕ) → slot_place (get_or old level d).slots x ≡ Some at → (d : Level) → at < length (get_or old level d).slots
   top_place at p = (place_bound old level at x (place_there old level x d below ∙ p)).1
 
-  pub top_set : (at : ℕ) (v : Value) (new : List Level) → slot_place (get_or old level d).slots.items x ≡ Some at → LevelSet old level at v new → TopSet old level x v new
+  pub top_set : (at : ℕ) (v : Value) (new : List Level) → slot_place (get_or old level d).slots x ≡ Some at → LevelSet old level at v new → TopSet old level x v new
   top_set at v new p h = subst (λ o. SetWhere o old level v new) (sym (place_there old level x d below ∙ p)) h
 
-  pub top_stays : (v : Value) → slot_place (get_or old level d).slots.items x ≡ None → TopSet old level x v old
+  pub top_stays : (v : Value) → slot_place (get_or old level d).slots x ≡ None → TopSet old level x v old
   top_stays v p = subst (λ o. SetWhere o old level v old) (sym (place_there old level x d below ∙ p)) refl
 
 -- the names of a level that was looked up
-pub place_as : (old : List Level) (level : ℕ) (x : List ℕ) (d l : Level) (ss : List Slot) (o : Option ℕ) → l ≡ get_or old level d → ss ≡ l.slots.items → slot_place ss x ≡ o
-    → slot_place (get_or old level d).slots.items x ≡ o
-place_as old level x d l ss o e q p = ap (λ ss. slot_place ss x) (sym (q ∙ ap (λ (l : Level). l.slots.items) e)) ∙ p
+pub place_as : (old : List Level) (level : ℕ) (x : List ℕ) (d l : Level) (o : Option ℕ) → l ≡ get_or old level d → slot_place l.slots x ≡ o
+    → slot_place (get_or old level d).slots x ≡ o
+place_as old level x d l o e p = ap (λ (l : Level). slot_place l.slots x) (sym e) ∙ p
 
 pub slot_written : (old : List Level) (level at : ℕ) (v : Value) (r result : Wrote) (new : List Level) (d l : Level) (s : Slot) → l ≡ get_or old level d
-    → r ≡ slot_wrote (get_or l.slots.items at s) → r ≡ result → LevelWrote old level at v result new → SlotWritten old level at v result new
-slot_written old level at v r result new d l s e w q h = ((d, s, sym q ∙ w ∙ ap (λ (l : Level). slot_wrote (get_or l.slots.items at s)) e), h)
+    → r ≡ slot_wrote (get_or l.slots at s) → r ≡ result → LevelWrote old level at v result new → SlotWritten old level at v result new
+slot_written old level at v r result new d l s e w q h = ((d, s, sym q ∙ w ∙ ap (λ (l : Level). slot_wrote (get_or l.slots at s)) e), h)
 
 pub throws_as : (x message : List ℕ) (kind : FaultKind) (r : Wrote) (old : Errors) (told : Result (Option Value) Memory) (new : Errors)
     → ((o : Option Value) → ThrowsNew kind message old o new → ThrowsWrote x r old o new) → IfOk told (λ o. ThrowsNew kind message old o new) → Throws x r old told new

@@ -49,7 +49,7 @@ chosen (x.IfElse e ss others) = uses.Chooses ss others
 chosen _ = uses.Drops
 
 abbrev pub scope_of_level : Level → Scope CodeValue
-scope_of_level l = scope_of_slots l.slots.items
+scope_of_level l = scope_of_slots l.slots
 
 module _ (stmts : List Statement) where
   abbrev pub use_of : Use → Purpose

@@ -1,5 +1,6 @@
 pub mod Log
 pub mod Stack
+pub mod SlotPlaces
 pub mod World
 pub mod Functions
 pub mod Names

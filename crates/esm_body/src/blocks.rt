@@ -10,12 +10,14 @@ ghost use Rattle.esm_expr_eval.specs.Terms.{term};
 ghost use Rattle.esm_rewriting.specs.Rest as rests;
 ghost use Rattle.esm_rewriting.specs.Rest.{more, end, whole};
 ghost use Rattle.esm_rewriting.specs.Rest.Part.{Does};
-ghost use Rattle.esm_body.specs.Slots.{scope_of_slots};
+ghost use Rattle.esm_env.specs.Declarations.{declared_in};
+ghost use Rattle.esm_body.specs.Slots.{scope_of_slots, unset_slots};
 ghost use Rattle.esm_rewriting.specs.Contexts.{placed};
 ghost use Rattle.esm_body.specs.Inner.Stack.{IsFront, AreNamed, Becomes, IsNodeOf, IsPopped, IsTaken};
 ghost use Rattle.esm_body.specs.Code.{in_front, innermost, contexts_of, context_by, part_of, awaited_by, use_of, IsUse, IsWork, AreWork, IsKind, AreLevels, name_in, bound_name, assigned};
 
 use crate::scopes::add_block;
+use crate::slots::Slots;
 use crate::work::{Doing, Kind, Level, Slot, Use, Work};
 use esm_base::Memory;
 use esm_expr_eval::ExprFrame;
@@ -54,6 +56,22 @@ pub(crate) fn is_begun(levels: &mut Vec<Level>, level: Level) -> bool
     levels.push(level).is_ok()
 }
 
+/// The names of a block of these statements, of which the first are these.
+fn block_slots(
+    alloc: Global,
+    tree: &Tree,
+    names: Vec<Slot>,
+    ids: &[StmtId],
+) -> Result<Slots, Memory>
+    requires { flat.AllStmtsBelow (length tree.now.stmts) ids.now }
+    ensures { IfOk result (λ slots. slots
+        ≡ names.items ++ unset_slots (declared_in (stmt_parts tree.now.stmts ids.now))) }
+{
+    let mut slots = names;
+    add_block(alloc, &mut slots, tree, ids)?;
+    Slots::of(alloc, slots)
+}
+
 /// Begins a block of these statements, whose first names are these.
 pub(crate) fn begin_block(
     alloc: Global,
@@ -76,11 +94,7 @@ pub(crate) fn begin_block(
         → OnOk result (AreLevels (length (arc_value tree.now).stmts) levels.new.items
         × (0 < length levels.new.items)) }
 {
-    let mut slots = names;
-    match add_block(alloc, &mut slots, tree, ids) {
-        Ok(()) => {}
-        Err(_) => return Err(Memory),
-    }
+    let slots = block_slots(alloc, tree, names, ids)?;
     match block_work(alloc, ids) {
         Ok(work) => {
             if is_begun(levels, Level { kind, slots, work }) {

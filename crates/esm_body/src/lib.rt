@@ -21,6 +21,7 @@ mod notes;
 mod outside;
 mod scopes;
 mod segment;
+mod slots;
 mod starts;
 mod turn;
 mod waits;

@@ -1,7 +1,7 @@
 // Names: read, set and written.
 ghost use Rattle.std.specs.Prelude.{◌≡◌, ◌++◌, IfOk};
 ghost use Rattle.esm_env.specs.Calls.{scopes_of, told_read};
-ghost use Rattle.esm_body.specs.Inner.Names.{IsFound, IsSlotPlace, found_reading, reading_in, IsThrown, Tells, seen_slot};
+ghost use Rattle.esm_body.specs.Inner.Names.{IsFound, found_reading, reading_in, IsThrown, Tells, seen_slot};
 ghost use Rattle.esm_body.specs.Inner.Stack.{scopes_round};
 
 use crate::work::{Level, Slot};
@@ -50,18 +50,6 @@ pub(crate) fn owned(read: Read<'_>) -> Result<Found, Memory>
     }
 }
 
-/// The place of a name among those of a block.
-pub(crate) fn place(slots: &[Slot], name: &str) -> Option<usize>
-    ensures { IsSlotPlace slots.now name.now result }
-{
-    for at in 0..slots.len() {
-        if slots[at].name.as_str() == name {
-            return Some(at);
-        }
-    }
-    None
-}
-
 /// The innermost block that declares a name, and the name's place there. The outermost level declares none.
 pub(crate) fn find(levels: &[Level], name: &str) -> Option<(usize, usize)>
     ensures { IsFound levels.now name.now result }
@@ -69,7 +57,7 @@ pub(crate) fn find(levels: &[Level], name: &str) -> Option<(usize, usize)>
     let mut at = levels.len();
     while at > 1 {
         at = at - 1;
-        match place(levels[at].slots.as_slice(), name) {
+        match levels[at].slots.place(name) {
             Some(found) => return Some((at, found)),
             None => {}
         }
@@ -103,7 +91,7 @@ pub(crate) fn read_name(
         ≡ reading_in (scopes_round levels.now) (scopes_of envs.now) at.0 name.now) }
 {
     match find(levels, name) {
-        Some((level, place)) => slot_value(&levels[level].slots[place]),
+        Some((level, place)) => slot_value(levels[level].slots.get(place)),
         None => owned(envs.read(at, name)),
     }
 }
@@ -163,4 +151,19 @@ pub(crate) fn tell(
             }
         }
     }
+}
+
+/// The same of what was read just now.
+#[cold]
+#[inline(never)]
+pub(crate) fn tell_read(
+    alloc: Global,
+    errors: &mut Errors,
+    name: &str,
+    read: Read<'_>,
+) -> Result<Out, Memory>
+    ensures { Tells name.now (told_read read.entry) errors.old result errors.new }
+{
+    let found = owned(read)?;
+    tell(alloc, errors, name, found)
 }

@@ -8,7 +8,7 @@ use crate::importer::Importer;
 use crate::imports::{begin_import, refuse_import};
 use crate::inside::Inside;
 use crate::members::member_of;
-use crate::names::{Found, copied, owned, tell, throw_named, throw_new};
+use crate::names::{copied, owned, tell, tell_read, throw_named, throw_new};
 use crate::world::print_line;
 use crate::writes::throw_wrote;
 use esm_base::{Memory, ModuleId};
@@ -115,21 +115,7 @@ impl<'a, I: Importer> Outside for Inside<'a, I> {
                 Ok(value) => Ok(Out::Value(value)),
                 Err(Memory) => Err(Stop::Memory),
             },
-            Read::Unset => match tell(
-                self.alloc,
-                self.errors,
-                self.envs.name_at(m, at),
-                Found::Unset,
-            ) {
-                Ok(out) => Ok(out),
-                Err(Memory) => Err(Stop::Memory),
-            },
-            Read::Undeclared => match tell(
-                self.alloc,
-                self.errors,
-                self.envs.name_at(m, at),
-                Found::Undeclared,
-            ) {
+            missing => match tell_read(self.alloc, self.errors, self.envs.name_at(m, at), missing) {
                 Ok(out) => Ok(out),
                 Err(Memory) => Err(Stop::Memory),
             },

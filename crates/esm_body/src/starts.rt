@@ -10,6 +10,7 @@ ghost use Rattle.esm_body.specs.Inner.Stack.{Becomes, IsNodeOf};
 ghost use Rattle.esm_body.specs.Code.{in_front, innermost, AreLevels, AreWork};
 
 use crate::blocks::{begin_block, is_begun, is_pushed};
+use crate::slots::Slots;
 use crate::work::{Activation, Kind, Level, Work};
 use esm_base::{Memory, ModuleId};
 use esm_env::ModuleScope;
@@ -70,7 +71,7 @@ fn outermost(alloc: Global, work: Vec<Work>) -> Result<Vec<Level>, Memory>
     let mut levels = Vec::new(alloc);
     let level = Level {
         kind: Kind::Block,
-        slots: Vec::new(alloc),
+        slots: Slots::none(alloc),
         work,
     };
     if is_begun(&mut levels, level) {

@@ -1,4 +1,5 @@
 // What remains of bodies.
+use crate::slots::Slots;
 use esm_base::{ModuleId, Text};
 use esm_expr_eval::ExprFrame;
 use esm_tree::{StmtId, Tree};
@@ -74,7 +75,7 @@ pub struct Level {
     /// Why it was begun.
     pub kind: Kind,
     /// Its names.
-    pub slots: Vec<Slot>,
+    pub slots: Slots,
     /// What remains, the first last.
     pub work: Vec<Work>,
 }

@@ -8,7 +8,7 @@ ghost use Rattle.esm_body.specs.Inner.Written.{LevelSet, SetsName, SetsTo, SlotS
 
 use crate::importer::Importer;
 use crate::inside::Inside;
-use crate::names::{find, place, throw_named};
+use crate::names::{find, throw_named};
 use crate::work::{Level, Slot};
 use esm_base::{Memory, ModuleId};
 use esm_env::{Envs, Wrote};
@@ -17,17 +17,17 @@ use std::alloc::Global;
 
 /// Sets the value of a name of a level.
 fn set_value(level: &mut Level, at: usize, value: Value)
-    requires { at < length level.old.slots.items }
+    requires { at < length level.old.slots }
     ensures { SlotSet level.old at value level.new }
 {
-    level.slots[at].value = Some(value);
+    level.slots.set(at, value)
 }
 
 /// Sets the value of a name of a block.
 fn set_slot(levels: &mut Vec<Level>, level: usize, at: usize, value: Value)
     requires level { level < length levels.old.items }
     requires place { (d : Level) → at
-        < length (slice_index_or levels.old.items level d).slots.items }
+        < length (slice_index_or levels.old.items level d).slots }
     ensures { LevelSet levels.old.items level at value levels.new.items }
 {
     set_value(&mut levels[level], at, value)
@@ -51,18 +51,18 @@ fn slot_wrote(slot: &Slot) -> Wrote
 
 /// What a write of the name at this place of a level comes to.
 fn level_wrote(level: &Level, at: usize) -> Wrote
-    requires { at < length level.now.slots.items }
+    requires { at < length level.now.slots }
     ensures { (d : Slot) × (result
-        ≡ spec.slot_wrote (slice_index_or level.now.slots.items at d)) }
+        ≡ spec.slot_wrote (slice_index_or level.now.slots at d)) }
 {
-    slot_wrote(&level.slots[at])
+    slot_wrote(level.slots.get(at))
 }
 
 /// Writes a name of a block.
 fn write_slot(levels: &mut Vec<Level>, level: usize, at: usize, value: Value) -> Wrote
     requires level { level < length levels.old.items }
     requires place { (d : Level) → at
-        < length (slice_index_or levels.old.items level d).slots.items }
+        < length (slice_index_or levels.old.items level d).slots }
     ensures { SlotWritten levels.old.items level at value result levels.new.items }
 {
     match level_wrote(&levels[level], at) {
@@ -155,7 +155,7 @@ fn set_top(levels: &mut Vec<Level>, level: usize, name: &str, value: Value)
     requires { level < length levels.old.items }
     ensures { TopSet levels.old.items level name.now value levels.new.items }
 {
-    match place(levels[level].slots.as_slice(), name) {
+    match levels[level].slots.place(name) {
         Some(at) => set_slot(levels, level, at, value),
         None => {}
     }

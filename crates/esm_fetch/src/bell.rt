@@ -53,11 +53,18 @@ impl Bell {
         }
     }
 
-    /// A URL was asked for: counts an order, and wakes one thread that waits for orders. Another needn't wake, since one
-    /// that isn't asleep looks once more before it waits.
-    pub fn ring_for_order<R: Wait>(&self, rt: &R) {
+    /// So many URLs were asked for: unless there are none, counts an order, and wakes one thread that waits for orders,
+    /// or all where there are several. No more need wake, since one that isn't asleep looks once more before it waits.
+    pub fn ring_for_orders<R: Wait>(&self, rt: &R, asked: usize) {
+        if asked == 0 {
+            return;
+        }
         self.orders.add(rt);
-        self.orders.rung.notify_one();
+        if asked == 1 {
+            self.orders.rung.notify_one();
+        } else {
+            self.orders.rung.notify_all();
+        }
     }
 
     /// Something was posted: counts a post, and wakes all that wait for posts.

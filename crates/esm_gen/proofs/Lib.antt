@@ -1,3 +1,4 @@
 pub mod FileLemmas
 pub mod Usable
 pub mod Named
+pub mod Numbers

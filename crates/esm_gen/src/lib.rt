@@ -3,9 +3,11 @@
 
 pub mod laws;
 mod modules;
+mod source;
 mod summary;
 
 pub use modules::{BASE, ENTRY, entry_url, files};
+pub use source::GeneratedSource;
 pub use summary::Summary;
 
 #[cfg(test)]

@@ -22,8 +22,8 @@ pub fn entry_url(alloc: Global) -> Result<Text, Memory>
     module_url(alloc, 0)
 }
 
-// The URL of the module with this number.
-fn module_url(alloc: Global, number: u64) -> Result<Text, Memory>
+/// The URL of the module with this number.
+pub(crate) fn module_url(alloc: Global, number: u64) -> Result<Text, Memory>
     ensures { IfOk result (λ url. url ≡ spec.module_url number) }
 {
     let url = format!(in alloc; "https://gen.test/m{number}.js")?;
@@ -92,8 +92,13 @@ fn add_print(alloc: Global, text: &mut String, number: u64) -> Result<(), Memory
     Ok(())
 }
 
-// The text of the module with this number.
-fn module_text(alloc: Global, start: u64, count: u64, number: u64) -> Result<String, Memory>
+/// The text of the module with this number.
+pub(crate) fn module_text(
+    alloc: Global,
+    start: u64,
+    count: u64,
+    number: u64,
+) -> Result<String, Memory>
     requires start { start < 2 ^ 32 }
     requires number { number < count }
     requires count { count < 2 ^ 32 }

@@ -13,6 +13,7 @@ use esm_base::Memory;
 use std::alloc::Global;
 use std::snapshot::Snapshot;
 use std::sync::Wait;
+use std::sync::atomic::AtomicU64;
 
 // The words: the next ticket, the ticket that is served, and the number of entries.
 pub(crate) const TICKET: usize = 0;
@@ -29,6 +30,8 @@ const STATE: usize = 0;
 #[derive(Drop)]
 pub struct Hlock<T: Story + Drop> {
     pub(crate) table: Table<Option<T>, View<T::Entry>, Snapshot<T>, Turns<T>, Global>,
+    // How many threads sleep until their turn.
+    pub(crate) sleepers: AtomicU64,
     ghost sized: { (table.shared.table_id.words ≡ 3) × (table.shared.table_id.slots ≡ 1) },
 }
 
@@ -60,15 +63,18 @@ impl<T: Story + Drop> Hlock<T> {
         let length = state.entries().len() as u64;
         slots.push_reserved(Some(state));
         match Table::new(alloc, &[0, 0, length], slots, &opening) {
-            Ok((table, seat)) => Ok((Hlock { table }, PassOf { seat })),
+            Ok((table, seat)) => {
+                let sleepers = AtomicU64::new(0);
+                Ok((Hlock { table, sleepers }, PassOf { seat }))
+            }
             Err(Refused { slots: _ }) => Err(Memory),
         }
     }
 
     /// Waits for its turn, and takes the state out. The state's entries begin with what the pass
-    /// has seen, and none behind that has a number in the pass's list as its maker. It yields for a
-    /// while and then sleeps. Once 2^64 - 1 tickets were drawn it waits for ever. It doesn't
-    /// allocate.
+    /// has seen, and none behind that has a number in the pass's list as its maker. It looks
+    /// again for a while, then yields, and then sleeps. Once 2^64 - 1 tickets were drawn it waits
+    /// for ever. It doesn't allocate.
     pub fn enter<R: Wait>(&self, rt: &R, pass: Pass<T>) -> Held<T>
         requires { IsPassOf self.now pass }
         ensures own { IsHeldOf self.now result }
@@ -176,7 +182,7 @@ impl<T: Story + Drop> Hlock<T> {
         ensures whole { (knows pass).shares ≡ 1024 → IsOk result }
     {
         let PassOf { seat } = pass;
-        let Hlock { table } = self;
+        let Hlock { table, sleepers: _ } = self;
         let mut closed = table.close_with(seat);
         let ticket = closed.word(TICKET);
         let serving = closed.word(SERVING);

@@ -34,7 +34,7 @@ open_push (r ∷ ss) u = by (is_open r.state) (open_push ss u)
     by false f = f
 
 pub indexed_more : (old new : BTreeMap Url ℕ) (ss : List Slot) (asks more : OpenAsks) (bytes : ℕ) (u : Url) → AreIndexed old ss asks bytes → place_in (urls_of ss) u ≡ None → length ss < 4096 → PutsPlace u (length ss) old new
-    → more.urls.items ≡ asks.urls.items ++ u ∷ [] → more.places.items ≡ asks.places.items ++ length ss ∷ [] → AreIndexed new (ss ++ open_slot u ∷ []) more bytes
+    → more.urls ≡ asks.urls ++ u ∷ [] → more.places ≡ asks.places ++ length ss ∷ [] → AreIndexed new (ss ++ open_slot u ∷ []) more bytes
 indexed_more old new ss asks more bytes u h fresh room puts urls places =
     let us = urls_of ss in
     record {

@@ -10,6 +10,7 @@ ghost use Rattle.esm_loads.specs.Inner.Urls.{no_slots, open_urls, open_slot, Clo
 
 use crate::LoadEnd;
 use crate::data::{Slot, UrlState};
+use crate::front_vec::FrontVec;
 use esm_base::{Limit, MAX_DELIVERED_BYTES, MAX_URLS, Memory, ModuleId, Text};
 use std::alloc::Global;
 use std::collections::BTreeMap;
@@ -19,30 +20,30 @@ use std::marker::Model;
 #[derive(Drop)]
 pub struct OpenAsks {
     /// The URLs.
-    pub urls: Vec<Text>,
+    pub urls: FrontVec<Text>,
     /// The place of the slot of each of them. Places rise.
-    pub places: Vec<usize>,
+    pub places: FrontVec<usize>,
 }
 
 impl OpenAsks {
     /// One more URL is asked, behind all others.
     pub fn open(&mut self, url: Text, place: usize) -> Result<(), Memory>
-        ensures urls { OnOk result (self.new.urls.items ≡ self.old.urls.items ++ url ∷ []) }
-        ensures places { OnOk result (self.new.places.items ≡ self.old.places.items ++ place ∷ []) }
+        ensures urls { OnOk result (self.new.urls ≡ self.old.urls ++ url ∷ []) }
+        ensures places { OnOk result (self.new.places ≡ self.old.places ++ place ∷ []) }
     {
         self.urls.push(url)?;
         self.places.push(place)?;
         Ok(())
     }
 
-    /// The URL whose slot has this place is fetched. It is found by a binary search, and others move up.
+    /// The URL whose slot has this place is fetched. It is found by a binary search.
     pub fn close(&mut self, place: usize)
-        requires rise { IsNonDecreasing self.old.places.items }
-        requires listed { (i : ℕ) × (slice_get self.old.places.items i ≡ Some place) }
-        requires as_many { length self.old.urls.items ≡ length self.old.places.items }
+        requires rise { IsNonDecreasing self.old.places }
+        requires listed { (i : ℕ) × (slice_get self.old.places i ≡ Some place) }
+        requires as_many { length self.old.urls ≡ length self.old.places }
         ensures { Closes self.old self.new place }
     {
-        match self.places.binary_search(&place) {
+        match self.places.as_slice().binary_search(&place) {
             Ok(at) => {
                 self.places.remove(at);
                 self.urls.remove(at);
@@ -84,9 +85,9 @@ fn add(
     url: &Text,
 ) -> Result<(), Memory>
     ensures slots { OnOk result (slots.new.items ≡ slots.old.items ++ open_slot url.now ∷ []) }
-    ensures asks { OnOk result (asks.new.urls.items ≡ asks.old.urls.items ++ url.now ∷ []) }
-    ensures places { OnOk result (asks.new.places.items
-        ≡ asks.old.places.items ++ length slots.old.items ∷ []) }
+    ensures asks { OnOk result (asks.new.urls ≡ asks.old.urls ++ url.now ∷ []) }
+    ensures places { OnOk result (asks.new.places
+        ≡ asks.old.places ++ length slots.old.items ∷ []) }
     ensures numbers { OnOk result
         (PutsPlace url.now (length slots.old.items) numbers.old numbers.new) }
 {
@@ -112,8 +113,8 @@ impl AskedUrls {
             numbers: BTreeMap::new(alloc),
             slots: Vec::new(alloc),
             asks: OpenAsks {
-                urls: Vec::new(alloc),
-                places: Vec::new(alloc),
+                urls: FrontVec::new(alloc),
+                places: FrontVec::new(alloc),
             },
             bytes: 0,
         }

@@ -11,6 +11,7 @@ mod end;
 mod entering;
 pub mod examples;
 mod filling;
+mod front_vec;
 mod importing;
 pub mod laws;
 mod load_record;

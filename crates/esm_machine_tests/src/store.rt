@@ -24,8 +24,13 @@ pub(crate) const MAIN: &str = "https://a.test/main.js";
 
 const B: &str = "https://a.test/b.js";
 
+const MISSING: &str = "https://a.test/none.js";
+
 // What the fetch of a URL comes to, where this is the text of the entry.
 pub(crate) fn fetched(alloc: Global, main: &str, url: &Text) -> Result<Outcome, Memory> {
+    if url.is(MISSING) {
+        return Ok(Outcome::Absent);
+    }
     let body = if url.is(MAIN) {
         main
     } else if url.is(B) {
@@ -150,13 +155,6 @@ fn link_root(alloc: Global, store: &mut ModuleStore, root: ModuleId) -> Result<(
     store.link(alloc, &mut envs, root)
 }
 
-// What is read of a linked module: how many requests it has, and whether it awaits.
-fn requests_of(store: &ModuleStore, m: ModuleId) -> (usize, bool)
-    requires { linked (seen_of store.now) m.0 ≡ true }
-{
-    (store.target_count(m), store.awaits(m))
-}
-
 // The module of its first request.
 fn first_target(store: &ModuleStore, m: ModuleId) -> Option<ModuleId>
     requires { linked (seen_of store.now) m.0 ≡ true }
@@ -168,73 +166,113 @@ fn first_target(store: &ModuleStore, m: ModuleId) -> Option<ModuleId>
     }
 }
 
-// What the site comes to, where this is the text of the entry: how many records there are, how many requests the root has,
-// the module of the first, and whether the root awaits.
-fn linked_site(
+// Does the store ask for the entry alone, with no record and no promise of an `import()`?
+fn has_just_opened(store: &ModuleStore) -> bool
+    requires { is_whole store.now.condition ≡ true }
+{
+    match store.asks() {
+        [url] => url.is(MAIN) && store.count() == 0 && store.import_promise(0).is_none(),
+        _ => false,
+    }
+}
+
+// What is read of a site.
+#[derive(Clone, Copy)]
+struct Read {
+    // Whether the store asked for the entry alone when it opened.
+    opened: bool,
+    records: usize,
+    // Of the root: how many requests it has, the module of the first, and whether it awaits.
+    requests: usize,
+    first: Option<ModuleId>,
+    awaits: bool,
+}
+
+// The same of a store whose root is linked.
+fn read_root(store: &ModuleStore, root: ModuleId, opened: bool) -> Read
+    requires { linked (seen_of store.now) root.0 ≡ true }
+{
+    Read {
+        opened,
+        records: store.count(),
+        requests: store.target_count(root),
+        first: first_target(store, root),
+        awaits: store.awaits(root),
+    }
+}
+
+// The entry is fetched with this text, all that is asked then is, and the root is linked and read.
+fn link_all(
     alloc: Global,
+    store: &mut ModuleStore,
+    promises: &mut Promises,
+    errors: &mut Errors,
     main: &str,
-) -> Result<(usize, usize, Option<ModuleId>, bool), LinkEnd> {
-    let mut promises = Promises::new(alloc);
-    let mut errors = Errors::new(alloc);
-    let mut store = opened(alloc, &mut promises)?;
-    match load_all(alloc, &mut store, &mut promises, &mut errors, main) {
+) -> Result<Read, LinkEnd>
+    requires fresh { IsFresh store.old }
+    requires answered { next (seen_of store.old).loading ≡ None }
+{
+    let opened = has_just_opened(store);
+    match load_all(alloc, store, promises, errors, main) {
         Ok(()) => {}
         Err(_end) => return Err(LinkEnd::Memory),
     }
     let Some(root) = store.root_of_load(0) else {
         return Err(LinkEnd::Memory);
     };
-    match link_root(alloc, &mut store, root) {
-        Ok(()) => {
-            let (requests, awaits) = requests_of(&store, root);
-            Ok((store.count(), requests, first_target(&store, root), awaits))
-        }
+    match link_root(alloc, store, root) {
+        Ok(()) => Ok(read_root(store, root, opened)),
         Err(end) => Err(end),
     }
 }
 
-#[test]
-fn the_entry_is_asked_for(rt: HostRuntime) -> Result<(), Fail> {
-    let alloc = rt.alloc();
+// What the site comes to, where this is the text of the entry. It alone lets a store go, at one end: each end is proved
+// at the cost of all parts of what it lets go.
+fn linked_site(alloc: Global, main: &str) -> Result<Read, LinkEnd> {
     let mut promises = Promises::new(alloc);
-    let store = opened(alloc, &mut promises)?;
-    assert_eq!(rt; store.asks().len(), 1);
-    assert!(rt; store.asks()[0].is(MAIN));
-    assert_eq!(rt; store.count(), 0);
-    assert!(rt; store.import_promise(0).is_none());
-    Ok(())
+    let mut errors = Errors::new(alloc);
+    match opened(alloc, &mut promises) {
+        Ok(mut store) => link_all(alloc, &mut store, &mut promises, &mut errors, main),
+        Err(Memory) => Err(LinkEnd::Memory),
+    }
 }
 
 // Records come in the order of arrival: the entry, and then what it requests, in order.
 #[test]
 fn a_site_is_loaded_and_linked(rt: HostRuntime) -> Result<(), Fail> {
-    let alloc = rt.alloc();
     let main = "import {b} from './b.js';\nimport {c} from './c.js';\nprint(b, c);\n";
-    match linked_site(alloc, main) {
-        Ok((records, requests, first, awaits)) => {
-            assert_eq!(rt; records, 3);
-            assert_eq!(rt; requests, 2);
-            assert!(rt; first == Some(ModuleId(1)));
-            assert!(rt; !awaits);
-        }
-        Err(_end) => return Err(Fail::from("the site wasn't linked")),
-    }
+    let Ok(read) = linked_site(rt.alloc(), main) else {
+        return Err(Fail::from("the site wasn't linked"));
+    };
+    assert!(rt; read.opened);
+    assert_eq!(rt; read.records, 3);
+    assert_eq!(rt; read.requests, 2);
+    assert!(rt; read.first == Some(ModuleId(1)));
+    assert!(rt; !read.awaits);
     Ok(())
+}
+
+// Is this a fault of this kind, of that module and its target, at that name?
+fn is_fault(end: &LinkEnd, kind: LinkKind, module: ModuleId, target: ModuleId, name: &str) -> bool {
+    match end {
+        LinkEnd::Fault(fault) => {
+            fault.kind == kind
+                && fault.module == module
+                && fault.target == target
+                && fault.name.is(name)
+        }
+        LinkEnd::Memory => false,
+    }
 }
 
 // ECMA-262, InitializeEnvironment: an import of a name that isn't exported.
 #[test]
 fn a_name_that_is_not_exported_is_a_fault(rt: HostRuntime) -> Result<(), Fail> {
-    let alloc = rt.alloc();
-    match linked_site(alloc, "import {c} from './b.js';\nprint(c);\n") {
-        Ok(_read) => return Err(Fail::from("the site was linked")),
-        Err(LinkEnd::Fault(fault)) => {
-            assert!(rt; fault.kind == LinkKind::K1);
-            assert!(rt; fault.module == ModuleId(0));
-            assert!(rt; fault.target == ModuleId(1));
-            assert!(rt; fault.name.is("c"));
+    match linked_site(rt.alloc(), "import {c} from './b.js';\nprint(c);\n") {
+        Ok(_read) => Err(Fail::from("the site was linked")),
+        Err(end) => {
+            assert!(rt; is_fault(&end, LinkKind::K1, ModuleId(0), ModuleId(1), "c"));
+            Ok(())
         }
-        Err(LinkEnd::Memory) => return Err(Fail::from("memory ran out")),
     }
-    Ok(())
 }

@@ -46,7 +46,8 @@ begun (x.Default value) ss rs = begun_init value (purposes.Sets star_default) (l
 
 module _ {S : Type 0} (modules : S → Modules ℕ) (begins : Importing ℕ S) where
   pub record StatementsBegin : Type 0 where
-    pub row : (st : Stmt) (ss : Stmts) (rs : List Round) → spot_row (begun st ss rs) ≡ stmt_row (names_of rs) st (left_row (left no_more ss) rs)
+    pub row : (st : Stmt) (ss : Stmts) (rs : List Round)
+        → spot_row (begun st ss rs) ≡ stmt_row (names_of rs) st (left_row (left no_more ss) rs)
     pub rest : (st : Stmt) (ss : Stmts) (rs : List Round) (vss : Values) → rest_at (values nat_eq) (begun st ss rs) vss []
         ≡ surrounded (contexts (values nat_eq) rs vss) (begin (values nat_eq) st (left_rest (values nat_eq) (left no_more ss)))
     -- the step is taken, or one too many

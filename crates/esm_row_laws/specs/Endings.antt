@@ -19,7 +19,8 @@ pub record RowsEnd : Type 0 where
   pub or_else : (e : Expr) (es : Exprs) (k : Kont) → EndsWith (kont_row k) (expr_row (kont_names k) e (kont_row (Ors es k)))
   pub and_also : (e : Expr) (es : Exprs) (k : Kont) → EndsWith (kont_row k) (expr_row (kont_names k) e (kont_row (Ands es k)))
   pub choose : (ss others : Stmts) (l : Left) (rs : List Round) → EndsWith (whole_row others (names_of rs) (left_row l rs))
-      (block_row (declared_in ss) (stmts_row (declared_in ss ∷ names_of rs) ss) (length (left_row l rs)) (whole_row others (names_of rs) (left_row l rs)))
+      (block_row (declared_in ss) (stmts_row (declared_in ss ∷ names_of rs) ss) (length (left_row l rs))
+      (whole_row others (names_of rs) (left_row l rs)))
   pub leave : (ds : List Declaration) (l : Left) (rs : List Round) (s : Spot) (c : Row) → LeavesAt ds l rs s c → EndsWith (left_row l rs) c
   pub end_try : (caught : Option (List ℕ)) (handler : Stmts) (l : Left) (rs : List Round)
       → EndsWith (left_row l rs) (handled_row caught handler (names_of rs) (left_row l rs))

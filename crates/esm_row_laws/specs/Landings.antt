@@ -36,7 +36,8 @@ abbrev pub lands_by : Round → List Round → Values → Option Landing → Opt
 lands_by (Own ds) rs vss later = later
 lands_by (Inner ds l) rs vss later = later
 lands_by (First ds others l) rs vss later = later
-lands_by (Tried ds caught handler l) rs vss later = Some (record { caught = caught; handler = handler; behind = l; rounds = rs; names = vss })
+lands_by (Tried ds caught handler l) rs vss later
+    = Some (record { caught = caught; handler = handler; behind = l; rounds = rs; names = vss })
 
 -- the innermost handler
 abbrev pub landing : List Round → Values → Option Landing
@@ -80,4 +81,5 @@ module _ {S : Type 0} (modules : S → Modules ℕ) (begins : Importing ℕ S) w
         → Segment nat_eq modules begins w m (rest_at (values nat_eq) (Has (Uses purposes.Returns l rs)) vss (v ∷ [])) (c ∷ cs) how after
     pub ends : (m : ℕ) (ds : List Declaration) (vs : List (Option (Value ℕ))) (w : State ℕ S) (c : Active ℕ) (cs : List (Active ℕ))
         (how : Ended ℕ) (after : State ℕ S) → Segment nat_eq modules begins w c.at (fill_rest (Val Undefined) c.rest) cs how after
-        → Segment nat_eq modules begins w m (rest_at (values nat_eq) (Between (left no_more nothing) (Own ds ∷ [])) (vs ∷ []) []) (c ∷ cs) how after
+        → Segment nat_eq modules begins w m (rest_at (values nat_eq) (Between (left no_more nothing) (Own ds ∷ [])) (vs ∷ []) [])
+        (c ∷ cs) how after

@@ -32,7 +32,8 @@ module _ {S : Type 0} (modules : S → Modules ℕ) (begins : Importing ℕ S) w
   -- a part is rewritten, over the names of the function
   abbrev pub Part : ℕ → Kont → Values → State ℕ S → Term (Value ℕ) → Rewritten (Value ℕ) Limit (Term (Value ℕ)) → State ℕ S → Type 0
   Part m k vss w e c late =
-      RewritesTerm nat_eq modules begins m (over_names modules begins (rounds_of k) vss w) e c (over_names modules begins (rounds_of k) vss late)
+      RewritesTerm nat_eq modules begins m (over_names modules begins (rounds_of k) vss w) e c
+      (over_names modules begins (rounds_of k) vss late)
 
   pub record PartsMove : Type 0 where
     pub goes : (m : ℕ) (k : Kont) (vss : Values) (vs : List (Value ℕ)) (w late : State ℕ S) (e f : Term (Value ℕ)) → HasRoom k vs
@@ -53,7 +54,8 @@ module _ {S : Type 0} (modules : S → Modules ℕ) (begins : Importing ℕ S) w
 
   abbrev pub Reads : ℕ → Kont → Values → List (Value ℕ) → State ℕ S → List ℕ → Reading (Value ℕ) → Type 0
   Reads m k vss vs w name (reading.Value v) =
-      Leads nat_eq modules begins m w (rest_at (values nat_eq) (Begins (x.Name name) k) vss vs) w (rest_at (values nat_eq) (Has k) vss (v ∷ vs))
+      Leads nat_eq modules begins m w (rest_at (values nat_eq) (Begins (x.Name name) k) vss vs)
+      w (rest_at (values nat_eq) (Has k) vss (v ∷ vs))
   Reads m k vss vs w name reading.Unset = ThrowsNew m k vss vs w name (not_initialized name)
   Reads m k vss vs w name reading.Undeclared = ThrowsNew m k vss vs w name (not_defined name)
 

@@ -31,9 +31,12 @@ module _ {S : Type 0} (modules : S → Modules ℕ) (begins : Importing ℕ S) w
 
   pub record OperationsPass : Type 0 where
     -- values
-    pub text : (s : List ℕ) (k : Kont) (vss : Values) (vs : List (Value ℕ)) → PassesOn (Begins (x.Text s) k) vss vs (Has k) vss (value.Text s ∷ vs)
-    pub truth : (b : Bool) (k : Kont) (vss : Values) (vs : List (Value ℕ)) → PassesOn (Begins (x.Truth b) k) vss vs (Has k) vss (value.Truth b ∷ vs)
-    pub undefined : (k : Kont) (vss : Values) (vs : List (Value ℕ)) → PassesOn (Begins x.Undefined k) vss vs (Has k) vss (value.Undefined ∷ vs)
+    pub text : (s : List ℕ) (k : Kont) (vss : Values) (vs : List (Value ℕ))
+        → PassesOn (Begins (x.Text s) k) vss vs (Has k) vss (value.Text s ∷ vs)
+    pub truth : (b : Bool) (k : Kont) (vss : Values) (vs : List (Value ℕ))
+        → PassesOn (Begins (x.Truth b) k) vss vs (Has k) vss (value.Truth b ∷ vs)
+    pub undefined : (k : Kont) (vss : Values) (vs : List (Value ℕ))
+        → PassesOn (Begins x.Undefined k) vss vs (Has k) vss (value.Undefined ∷ vs)
     -- operators
     pub or_stays : (e : Expr) (es : Exprs) (k : Kont) (vss : Values) (v : Value ℕ) (vs : List (Value ℕ)) → HasRoom k vs
         → is_true (look_of v) ≡ true → PassesOn (Has (Ors (more e es) k)) vss (v ∷ vs) (Has k) vss (v ∷ vs)
@@ -48,14 +51,16 @@ module _ {S : Type 0} (modules : S → Modules ℕ) (begins : Importing ℕ S) w
     pub turns : (k : Kont) (vss : Values) (v : Value ℕ) (vs : List (Value ℕ)) → HasRoom k vs
         → PassesOn (Has (Turns k)) vss (v ∷ vs) (Has k) vss (value.Truth (not (is_true (look_of v))) ∷ vs)
     -- uses
-    pub drops : (l : Left) (rs : List Round) (vss : Values) (v : Value ℕ) → PassesOn (Has (Uses purposes.Drops l rs)) vss (v ∷ []) (Between l rs) vss []
+    pub drops : (l : Left) (rs : List Round) (vss : Values) (v : Value ℕ)
+        → PassesOn (Has (Uses purposes.Drops l rs)) vss (v ∷ []) (Between l rs) vss []
     pub chooses : (ss others : Stmts) (l : Left) (rs : List Round) (vss : Values) (v : Value ℕ) → is_true (look_of v) ≡ true
         → PassesOn (Has (Uses (purposes.Chooses ss others) l rs)) vss (v ∷ []) (Opens (Firstly others) ss l rs) vss []
     pub skips : (ss others : Stmts) (l : Left) (rs : List Round) (vss : Values) (v : Value ℕ) → is_true (look_of v) ≡ false
         → PassesOn (Has (Uses (purposes.Chooses ss others) l rs)) vss (v ∷ []) (Opens Plainly others l rs) vss []
     -- blocks
     pub opens : (opening : Opening) (ss : Stmts) (l : Left) (rs : List Round) (vss : Values)
-        → PassesOn (Opens opening ss l rs) vss [] (Between (left no_more ss) (opened opening (declared_in ss) l ∷ rs)) (unset_of (declared_in ss) ∷ vss) []
+        → PassesOn (Opens opening ss l rs) vss []
+        (Between (left no_more ss) (opened opening (declared_in ss) l ∷ rs)) (unset_of (declared_in ss) ∷ vss) []
     pub leaves : (ds : List Declaration) (l : Left) (rs : List Round) (vs : List (Option (Value ℕ))) (vss : Values)
         → PassesOn (Between (left no_more nothing) (Inner ds l ∷ rs)) (vs ∷ vss) [] (Between l rs) vss []
     pub leaves_first : (ds : List Declaration) (others : Stmts) (l : Left) (rs : List Round) (vs : List (Option (Value ℕ))) (vss : Values)

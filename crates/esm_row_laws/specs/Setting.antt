@@ -68,7 +68,8 @@ module _ {S : Type 0} (modules : S → Modules ℕ) (begins : Importing ℕ S) w
         → FitNames (names_of rs) vss → found_in (names_of rs) name ≡ Some (found_at place constant)
         → flat (set_found (names_of rs) name v vss) ≡ slice_set (flat vss) place (Some v)
     -- that it is unset is told first
-    pub unset : (m : ℕ) (l : Left) (rs : List Round) (vss : Values) (w : State ℕ S) (name : List ℕ) (v : Value ℕ) (place : ℕ) (constant : Bool)
+    pub unset : (m : ℕ) (l : Left) (rs : List Round) (vss : Values) (w : State ℕ S)
+        (name : List ℕ) (v : Value ℕ) (place : ℕ) (constant : Bool)
         → FitNames (names_of rs) vss → found_in (names_of rs) name ≡ Some (found_at place constant)
         → slice_get (flat vss) place ≡ Some None → WriteThrows m l rs vss w name v kinds.ReferenceError (not_initialized name)
     pub constant : (m : ℕ) (l : Left) (rs : List Round) (vss : Values) (w : State ℕ S) (name : List ℕ) (v old : Value ℕ) (place : ℕ)

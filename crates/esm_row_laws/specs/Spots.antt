@@ -107,7 +107,8 @@ whole_row ss ns c = block_row (declared_in ss) (stmts_row (declared_in ss ∷ ns
 
 -- of a handler
 abbrev pub handled_row : Option (List ℕ) → Stmts → Names → Row → Row
-handled_row caught handler ns c = handler_row caught (declared_in handler) (stmts_row ((caught_names caught ++ declared_in handler) ∷ ns) handler) c
+handled_row caught handler ns c
+    = handler_row caught (declared_in handler) (stmts_row ((caught_names caught ++ declared_in handler) ∷ ns) handler) c
 
 abbrev pub end_row : Round → Names → Row → Row
 end_row (Own ds) ns c = o.End ∷ []

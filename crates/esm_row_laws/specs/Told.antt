@@ -126,10 +126,13 @@ Told o.Return c s = (l : Left) × (rs : List Round) × (s ≡ Has (Uses purposes
 Told o.PrintAwaited c s = (l : Left) × (rs : List Round) × (s ≡ Has (Uses purposes.Prints l rs)) × (left_row l rs ≡ c)
 Told o.Await c s = (purpose : Purpose) × (l : Left) × (rs : List Round) × (s ≡ Has (Uses (purposes.Awaits purpose) l rs))
     × (kont_row (Uses purpose l rs) ≡ c)
-Told (o.Choose n) c s = (ss : Stmts) × (others : Stmts) × (l : Left) × (rs : List Round) × (s ≡ Has (Uses (purposes.Chooses ss others) l rs))
+Told (o.Choose n) c s = (ss : Stmts) × (others : Stmts) × (l : Left) × (rs : List Round)
+    × (s ≡ Has (Uses (purposes.Chooses ss others) l rs))
     × (length (whole_row others (names_of rs) (left_row l rs)) ≡ n)
-    × (block_row (declared_in ss) (stmts_row (declared_in ss ∷ names_of rs) ss) (length (left_row l rs)) (whole_row others (names_of rs) (left_row l rs)) ≡ c)
-Told (o.Enter n) c s = (opening : Opening) × (ss : Stmts) × (l : Left) × (rs : List Round) × (behind : Row) × EntersAt ss l rs opening behind
+    × (block_row (declared_in ss) (stmts_row (declared_in ss ∷ names_of rs) ss) (length (left_row l rs))
+    (whole_row others (names_of rs) (left_row l rs)) ≡ c)
+Told (o.Enter n) c s = (opening : Opening) × (ss : Stmts) × (l : Left) × (rs : List Round) × (behind : Row)
+    × EntersAt ss l rs opening behind
     × (s ≡ Opens opening ss l rs) × (length (declared_in ss) ≡ n)
     × (left_row (left no_more ss) (opened opening (declared_in ss) l ∷ rs) ≡ c)
 Told (o.Leave n target) c s = (ds : List Declaration) × (l : Left) × (rs : List Round) × LeavesAt ds l rs s c × (length ds ≡ n)

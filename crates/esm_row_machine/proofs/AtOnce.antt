@@ -21,11 +21,11 @@ use Rattle.esm_row_machine.specs.Functions.{Here, Waiter, moved, callers}
 use Rattle.esm_row_machine.specs.Tables.{row_in}
 use Rattle.esm_row_machine.specs.Outside.{Steps, ReadsPlace}
 use Rattle.esm_row_machine.specs.Asking.{Heard}
-use Rattle.esm_row_machine.specs.Changes.{OperandsAre, Popped, Gives}
-use Rattle.esm_row_machine.specs.Entering.{Begun, IsCallee}
+use Rattle.esm_row_machine.specs.Changes.{Popped, Gives}
+use Rattle.esm_row_machine.specs.Entering.{Begun, Entered, IsCallee}
 use Rattle.esm_row_machine.specs.Turns.{Stands, CallsHere, GivesBack, Turned, TurnsOn}
-use Rattle.esm_row_machine.specs.Follows.{Followed, FollowsOn, FollowsTurn, HaltsAll, RowsFit, SegmentOf}
-use Rattle.esm_row_machine.specs.Shortcuts.{at_left, HasRow, IsRowFor, Entered, EntersHere, GivenHere, Gone, InPlace, IsFollowed, Resumes, ReturnsFrom, Reaches, GoesFrom}
+use Rattle.esm_row_machine.specs.Follows.{Followed, FollowsTurn, HaltsAll, RowsFit, SegmentOf}
+use Rattle.esm_row_machine.specs.Shortcuts.{at_left, some_row, HasRow, IsOnward, LeadsOn, IsTold, EntersHere, GivenHere, Gone, FollowsAs, FollowsOp, LeavesFrom, GoesFrom}
 use Rattle.esm_row_machine.specs.declared.machine.Frame.{Frame}
 use Rattle.esm_row_machine.specs.declared.machine.Machine.{Machine}
 use Rattle.esm_row_machine.specs.declared.rows.Rows.{Rows}
@@ -36,6 +36,7 @@ use Rattle.esm_row_machine.specs.declared.runs.Next.TheVariants as next
 use Rattle.esm_row_machine.proofs.Going.{IsLawful}
 use Rattle.esm_row_machine.proofs.Coming.{Comes, comes}
 use Rattle.esm_row_machine.proofs.Literals.{with_operands}
+use Rattle.esm_row_machine.proofs.Followed.{FollowsOn}
 use Rattle.esm_row_machine.proofs.Followed as followed
 use Rattle.esm_row_machine.proofs.Returned as returned
 use Rattle.esm_row_machine.proofs.Called as called
@@ -54,19 +55,37 @@ has_row s row f function count g late e rows there = record {
   within = omega (arith, e.enters.left);
 }
 
-pub begun_so : (s : Machine) (row : Row) (f : Frame) (function : FuncId) (count : ℕ) (g : Frame) (late : Machine) → Entered s row f function count g late
-    → (rows : Rows) → row_in rows function.module.0 function.index ≡ Some row → Begun s rows f function count g late
-begun_so s row f function count g late e rows there =
-    record { row = row; there = there; mid = e.mid; enters = e.enters; operands = e.operands; names = e.names; handlers = e.handlers; frames = e.frames }
+-- the row of the function that waited
+pub given_told : {W : Type 0} (w : W) (s : Machine) (f : Frame) (late : Machine) (rows : Rows) (us : List Value) (q : Frame) (v : Value) (result : Result (Bor Row) Stop) (g : Frame) (vs : List Value) → GivenHere rows us q v result g vs
+    → IsTold rows w s f (some_row result) w late g
+given_told w s f late rows us q v (Ok r) g vs p = p.1
+given_told w s f late rows us q v (Err stop) g vs p = tt
+
+-- ---- turns that lead no further than so many operations
+
+pub onward_leads : (left : ℕ) (t : Turn) (result : Result Turn Stop) → IsOnward left t result → LeadsOn left result
+onward_leads left t (Ok u) p = p.1
+onward_leads left t (Err stop) p = tt
 
 -- ---- the loop over rows
 
 module _ {W S : Type 0} (state : W → State ℕ S) (modules : S → Modules ℕ) (linked : S → ℕ → Bool) (begins : Importing ℕ S)
     (Ready : W → Type 0) (Keeps : W → W → Type 0) (owns : S → ℕ → List (List ℕ)) where
+  -- this function stands here, and what is left leads where the whole leads
+  pub record Reaches (w : W) (h : Here) (ws : List Waiter) (body : Active ℕ) (g : Frame) (left : ℕ) (after : W) (late : Machine)
+      : Type 0 where
+    pub there : Here
+    pub waiters : List Waiter
+    pub stands : Stands state modules linked begins Ready Keeps owns after late g left there waiters
+    pub leads : (how : Ended ℕ) (end : State ℕ S)
+        → SegmentOf state modules linked begins Ready Keeps owns after there waiters body how end
+        → SegmentOf state modules linked begins Ready Keeps owns w h ws body how end
+    pub keeps : Keeps w after
+
   -- the function that runs, and what is left of its row, lead where the whole leads
   pub record Amid (w : W) (s : Machine) (rows : Rows) (f g : Frame) (row : Row) (left : ℕ) (now : W) (late : Machine) : Type 0 where
     pub way : (h : Here) (ws : List Waiter) (body : Active ℕ) → Stands state modules linked begins Ready Keeps owns w s f f.left h ws
-        → RowsFit state modules linked begins Ready Keeps owns w rows → Reaches state modules linked begins Ready Keeps owns w h ws body g left now late
+        → RowsFit state modules linked begins Ready Keeps owns w rows → Reaches w h ws body g left now late
     pub there : row_in rows g.at.0 g.function ≡ Some row
     pub within : left ≤ length row.ops.items
 
@@ -81,8 +100,8 @@ module _ {W S : Type 0} (state : W → State ℕ S) (modules : S → Modules ℕ
   abbrev Fit : W → Rows → Type 0
   Fit w rows = RowsFit state modules linked begins Ready Keeps owns w rows
 
-  abbrev Gone_so : W → Here → List Waiter → Active ℕ → Frame → Turn → Result (Option (Bor Row)) Stop → W → Machine → Frame → Type 0
-  Gone_so w h ws body f t result after late g = Gone state modules linked begins Ready Keeps owns w h ws body f t result after late g
+  abbrev Gone_so : W → Here → List Waiter → Active ℕ → Result (Option (Bor Row)) Stop → W → Machine → Frame → Type 0
+  Gone_so w h ws body result after late g = Gone state modules linked begins Ready Keeps owns w h ws body result after late g
 
   abbrev Leads_in : W → Here → List Waiter → W → Here → List Waiter → Active ℕ → Type 0
   Leads_in w h ws from there waiters body = (how : Ended ℕ) (end : State ℕ S) → SegmentOf state modules linked begins Ready Keeps owns from there waiters body how end → SegmentOf state modules linked begins Ready Keeps owns w h ws body how end
@@ -117,6 +136,12 @@ module _ {W S : Type 0} (state : W → State ℕ S) (modules : S → Modules ℕ
         by_op w s f left behind row (op.Own k) e at result after late
         (λ h ws c. read_names.read_own state modules linked begins Ready Keeps owns lawful w s f behind h ws row.texts.items k c after late same result p)
 
+    -- the same, of the module that is named
+    pub turn_names : (home : ℕ) → f.at.0 ≡ home → (k : ℕ) → slice_get row.ops.items behind ≡ Some (op.Own k) → (after : W) (late : Machine) → with_operands s late → (result : Result Turn Stop)
+        → Heard s.operands.items (λ told. ReadsPlace state modules linked begins Ready Keeps owns w home k told after) behind result late.operands.items → Turns w s f left row result after late
+    turn_names home same_home k at after late same result p =
+        turn_reads k at after late same result (subst (λ (m : ℕ). Heard s.operands.items (λ told. ReadsPlace state modules linked begins Ready Keeps owns w m k told after) behind result late.operands.items) (sym same_home) p)
+
     pub turn_drops : slice_get row.ops.items behind ≡ Some op.Drop → (v : Value) (late : Machine) → with_operands s late → s.operands.items ≡ late.operands.items ++ v ∷ [] → Turns w s f left row (Ok (turn.On behind)) w late
     turn_drops at v late same popped =
         by_op w s f left behind row op.Drop e at (Ok (turn.On behind)) w late
@@ -141,6 +166,12 @@ module _ {W S : Type 0} (state : W → State ℕ S) (modules : S → Modules ℕ
     pub turn_any : (result : Result Turn Stop) (after : W) (late : Machine) → Turns w s f (behind + 1) row result after late → Turns w s f left row result after late
     turn_any result after late t = subst (λ (n : ℕ). Turns w s f n row result after late) e t
 
+  pub onward_turns : (w : W) (s : Machine) (f : Frame) (left : ℕ) (row : Row) (t : Turn) (after : W) (late : Machine) → Turns w s f (left + 1) row (Ok t) after late → (result : Result Turn Stop) → IsOnward left t result
+      → Turns w s f (left + 1) row result after late
+  onward_turns w s f left row t after late turns (Ok u) p = subst (λ (q : Turn). Turns w s f (left + 1) row (Ok q) after late) (sym p.0) turns
+  onward_turns w s f left row t after late turns (Err (stops.Limit why)) p = absurd p
+  onward_turns w s f left row t after late turns (Err stops.Memory) p = λ h ws st is. tt
+
   -- ---- calls
 
   module _ (w0 : W) (h : Here) (ws : List Waiter) (body : Active ℕ) (w : W) (s : Machine) (f : Frame) (count left : ℕ) (c : CallsHere state modules linked begins Ready Keeps owns w0 f h ws count left w s) where
@@ -148,7 +179,7 @@ module _ {W S : Type 0} (state : W → State ℕ S) (modules : S → Modules ℕ
     waits_at = followed.calls_left state modules linked begins Ready Keeps owns w0 f h ws count left w s c
 
     -- its step is one too many
-    pub call_stops : (stop : Stop) (after : W) (late : Machine) (g : Frame) → Takes w (Err stop) after → Gone_so w0 h ws body f (turn.Calls count left) (Err stop) after late g
+    pub call_stops : (stop : Stop) (after : W) (late : Machine) (g : Frame) → Takes w (Err stop) after → Gone_so w0 h ws body (Err stop) after late g
     call_stops (stops.Limit why) after late g t =
         called.step_stops state modules linked begins Ready Keeps owns lawful w0 h ws body w s (at_left f left) count waits_at (stops.Limit why) after late t
     call_stops stops.Memory after late g t = tt
@@ -156,48 +187,46 @@ module _ {W S : Type 0} (state : W → State ℕ S) (modules : S → Modules ℕ
     -- the function begins
     pub call_begins : (mid : W) → Takes w (Ok tt) mid → (id : FuncId) → IsCallee s.operands.items count (Some id) → length s.frames.items + 1 < MAX_CALL_DEPTH → (rows : Rows) → Fit w rows → (row : Row)
         → row_in rows id.module.0 id.index ≡ Some row → (r : Bor Row) (g : Frame) (late : Machine) → Entered s row (at_left f left) id count g late
-        → Gone_so w0 h ws body f (turn.Calls count left) (Ok (Some r)) mid late g
+        → Gone_so w0 h ws body (Ok (Some r)) mid late g
     call_begins mid t id k few rows fit row there r g late enters =
         let u = t c.fits.is_ready in
+        let b : Begun s rows (at_left f left) id count g late = record { row = row; there = there; entered = enters } in
         (called.called_follows state modules linked begins Ready Keeps owns lawful w0 h ws body w s (at_left f left) count waits_at mid u.0 u.1 id k.0 k.1 k.2 k.3 few rows rows fit (Ok (next.Goes g)) late
-        (begun_so s row (at_left f left) id count g late enters rows there, λ ready home fits. fits)).0
+        (b, λ ready home fits. fits)).0
 
   -- nothing but want of memory keeps it from beginning
-  pub call_lacks : (w0 : W) (h : Here) (ws : List Waiter) (body : Active ℕ) (f : Frame) (t : Turn) (s : Machine) (row : Row) (f1 : Frame) (id : FuncId) (count : ℕ) (stop : Stop) (after : W) (g : Frame) (late : Machine)
-      → EntersHere s row f1 id count (Err stop) g late → Gone_so w0 h ws body f t (Err stop) after late g
-  call_lacks w0 h ws body f t s row f1 id count (stops.Limit why) after g late enters = absurd enters
-  call_lacks w0 h ws body f t s row f1 id count stops.Memory after g late enters = tt
+  pub call_lacks : (w0 : W) (h : Here) (ws : List Waiter) (body : Active ℕ) (s : Machine) (row : Row) (f1 : Frame) (id : FuncId) (count : ℕ) (stop : Stop) (after : W) (g : Frame) (late : Machine)
+      → EntersHere s row f1 id count (Err stop) g late → Gone_so w0 h ws body (Err stop) after late g
+  call_lacks w0 h ws body s row f1 id count (stops.Limit why) after g late enters = absurd enters
+  call_lacks w0 h ws body s row f1 id count stops.Memory after g late enters = tt
 
   -- ---- ends
 
   module _ (w0 w : W) (h : Here) (ws : List Waiter) (body : Active ℕ) (s late : Machine) (f : Frame) (v : Value) (names : late.names.items ≡ take f.names s.names.items)
       (handlers : late.handlers.items ≡ take f.handlers s.handlers.items) (gives : GivesBack state modules linked begins Ready Keeps owns w0 f h ws (value_of v) w s) where
     -- a function waited for the value, and goes on
-    pub end_goes_on : (q : Frame) → s.frames.items ≡ late.frames.items ++ q ∷ [] → (rows : Rows) (result : Result (Option (Bor Row)) Stop) (g : Frame) → GivenHere rows s.operands.items q v result g late.operands.items
-        → Gone_so w0 h ws body f (turn.Returns v) result w late g
-    end_goes_on q frames rows (Ok (Some r)) g p = returned.to_caller state modules linked begins Ready Keeps owns w0 w h ws body s late f v names handlers gives q frames (Ok (next.Goes g)) (p.0, p.1)
-    end_goes_on q frames rows (Ok None) g p = absurd p
-    end_goes_on q frames rows (Err (stops.Limit why)) g p = absurd p
+    pub end_goes_on : (q : Frame) → s.frames.items ≡ late.frames.items ++ q ∷ [] → (rows : Rows) (result : Result (Bor Row) Stop) (g : Frame) → GivenHere rows s.operands.items q v result g late.operands.items
+        → Gone_so w0 h ws body (some_row result) w late g
+    end_goes_on q frames rows (Ok r) g p = returned.to_caller state modules linked begins Ready Keeps owns w0 w h ws body s late f v names handlers gives q frames (Ok (next.Goes g)) p.0
+    end_goes_on q frames rows (Err (stops.Limit why)) g p = absurd p.0
     end_goes_on q frames rows (Err stops.Memory) g p = tt
 
-  pub given_some : (rows : Rows) (us : List Value) (q : Frame) (v : Value) (result : Result (Option (Bor Row)) Stop) (g : Frame) (vs : List Value) → GivenHere rows us q v result g vs → IsFollowed result
-  given_some rows us q v (Ok (Some r)) g vs p = tt
-  given_some rows us q v (Ok None) g vs p = absurd p
-  given_some rows us q v (Err (stops.Limit why)) g vs p = absurd p
-  given_some rows us q v (Err stops.Memory) g vs p = tt
+  abbrev Op_so : W → Machine → Rows → Frame → Op → ℕ → Result (Option (Bor Row)) Stop → W → Machine → Frame → Type 0
+  Op_so w s rows f o left result after late g = FollowsOp state modules linked begins Ready Keeps owns w s rows f o left result after late g
 
-  -- the value on top was given
-  pub returns_top : (w : W) (s mid : Machine) (rows : Rows) (f : Frame) (v : Value) → OperandsAre s mid.operands.items mid → s.operands.items ≡ mid.operands.items ++ v ∷ [] → (result : Result (Option (Bor Row)) Stop) (late : Machine) (g : Frame)
-      → Resumes state modules linked begins Ready Keeps owns v w mid rows f result late g → ReturnsFrom state modules linked begins Ready Keeps owns w s rows f result late g
-  returns_top w s mid rows f v are popped (Ok (Some r)) late g k = record { value = v; mid = mid; are = are; popped = popped; place = k.place }
-  returns_top w s mid rows f v are popped (Ok None) late g k = absurd k.follows
-  returns_top w s mid rows f v are popped (Err (stops.Limit why)) late g k = absurd k.follows
-  returns_top w s mid rows f v are popped (Err stops.Memory) late g k = tt
+  -- the value on top is given
+  pub returns_op : (w : W) (s mid : Machine) (rows : Rows) (f : Frame) (v : Value) → with_operands s mid → s.operands.items ≡ mid.operands.items ++ v ∷ [] → (result : Result (Option (Bor Row)) Stop) (late : Machine) (g : Frame)
+      → FollowsAs state modules linked begins Ready Keeps owns (turn.Returns v) w mid rows f result w late g → (left : ℕ) → Op_so w s rows f op.Return left result w late g
+  returns_op w s mid rows f v same popped result late g k left row h ws body at st is fit =
+      k w h ws body (turn_returns w s f (left + 1) left row refl at mid same (Ok (turn.Returns v)) (mid.operands.items, v, popped, (refl, refl)) h ws st is) fit
 
-  pub given_row : (rows : Rows) (us : List Value) (q : Frame) (v : Value) (result : Result (Option (Bor Row)) Stop) (g : Frame) (vs : List Value) → GivenHere rows us q v result g vs → IsRowFor rows g result
-  given_row rows us q v (Ok (Some r)) g vs p = p.2
-  given_row rows us q v (Ok None) g vs p = tt
-  given_row rows us q v (Err stop) g vs p = tt
+  pub calls_op : (w : W) (s : Machine) (rows : Rows) (f : Frame) (count left : ℕ) (result : Result (Option (Bor Row)) Stop) (after : W) (late : Machine) (g : Frame)
+      → FollowsAs state modules linked begins Ready Keeps owns (turn.Calls count left) w s rows f result after late g → Op_so w s rows f (op.Call count) left result after late g
+  calls_op w s rows f count left result after late g k row h ws body at st is fit = k w h ws body (turn_calls w s f (left + 1) left row refl count at h ws st is) fit
+
+  pub ends_op : (w : W) (s : Machine) (rows : Rows) (f : Frame) (result : Result (Option (Bor Row)) Stop) (late : Machine) (g : Frame)
+      → FollowsAs state modules linked begins Ready Keeps owns (turn.Returns values.Undefined) w s rows f result w late g → (left : ℕ) → Op_so w s rows f op.End left result w late g
+  ends_op w s rows f result late g k left row h ws body at st is fit = k w h ws body (turn_ends w s f (left + 1) left row refl at h ws st is) fit
 
   -- ---- the loop over rows
 
@@ -219,9 +248,6 @@ module _ {W S : Type 0} (state : W → State ℕ S) (modules : S → Modules ℕ
 
     abbrev Way : Here → List Waiter → Active ℕ → Type 0
     Way h ws body = Reaches state modules linked begins Ready Keeps owns w h ws body g left now late
-
-    abbrev Place : Turn → Result (Option (Bor Row)) Stop → W → Machine → Frame → Type 0
-    Place t result after end q = InPlace state modules linked begins Ready Keeps owns t now late rows g result after end q
 
     fit_now : (h : Here) (ws : List Waiter) (body : Active ℕ) → Way h ws body → Fit w rows → Fit now rows
     fit_now h ws body p fit = followed.rows_stay state modules linked begins Ready Keeps owns lawful w now rows p.keeps fit
@@ -267,62 +293,47 @@ module _ {W S : Type 0} (state : W → State ℕ S) (modules : S → Modules ℕ
     amid_over (Ok t) after end u = amid_leaves t after end u
     amid_over (Err stop) after end u = amid_stops stop after end u
 
-    -- another function runs from here on
-    pub amid_moves : (t : Turn) (mid : Machine) → Turns now late g left row (Ok t) now mid → (r : Bor Row) (after : W) (end : Machine) (q : Frame)
-        → InPlace state modules linked begins Ready Keeps owns t now mid rows g (Ok (Some r)) after end q → Amid state modules linked begins Ready Keeps owns w s rows f q r.now q.left after end
-    amid_moves t mid u r after end q k = record {
-      way = λ h ws body st fit.
+    module _ (behind : ℕ) (e : behind + 1 ≡ left) (o : Op) (at : slice_get row.ops.items behind ≡ Some o) where
+      abbrev Leaving : Result (Option (Bor Row)) Stop → W → Machine → Frame → Type 0
+      Leaving result after end q = LeavesFrom state modules linked begins Ready Keeps owns now late rows g o behind result after end q
+
+      gone_at : (h : Here) (ws : List Waiter) (body : Active ℕ) (p : Way h ws body) → Fit w rows → (result : Result (Option (Bor Row)) Stop) (after : W) (end : Machine) (q : Frame) → Leaving result after end q
+          → Gone_so now p.there p.waiters body result after end q
+      gone_at h ws body p fit result after end q k =
+          k.1 row p.there p.waiters body at (subst (λ (n : ℕ). Stand now late g n p.there p.waiters) (sym e) p.stands)
+          (followed.row_of state modules linked begins Ready Keeps owns now late g left p.there p.waiters rows row p.stands (fit_now h ws body p fit) m.there) (fit_now h ws body p fit)
+
+      -- another function runs from here on
+      pub amid_moves : (r : Bor Row) (after : W) (end : Machine) (q : Frame) → Leaving (Ok (Some r)) after end q → Amid state modules linked begins Ready Keeps owns w s rows f q r.now q.left after end
+      amid_moves r after end q k = record {
+        way = λ h ws body st fit.
+            let p = m.way h ws body st fit in
+            let x = gone_at h ws body p fit (Ok (Some r)) after end q k in
+            record {
+              there = x.there;
+              waiters = x.waiters;
+              stands = x.stands;
+              leads = λ how end seg. p.leads how end (x.leads how end seg);
+              keeps = lawful.both w now after p.keeps x.keeps;
+            };
+        there = k.0.there;
+        within = k.0.within;
+      }
+
+      -- nothing was done, and this is what the operation comes to
+      pub amid_declines : (after : W) (end : Machine) (q : Frame) → Leaving (Ok None) after end q → (result : Result Turn Stop) (last : W) (most : Machine) → Turns after end q (behind + 1) row result last most → Goes_from result last most q
+      amid_declines after end q k result last most t =
+          let t1 : Turns now end q (behind + 1) row result last most = subst (λ (a : W). Turns a end q (behind + 1) row result last most) k.0.world t in
+          let t2 : Turns now late q (behind + 1) row result last most = subst (λ (a : Machine). Turns now a q (behind + 1) row result last most) k.0.stacks t1 in
+          let t3 : Turns now late g (behind + 1) row result last most = subst (λ (a : Frame). Turns now late a (behind + 1) row result last most) k.0.frame t2 in
+          subst (λ (a : Frame). Goes_from result last most a) (sym k.0.frame)
+          (amid_over result last most (subst (λ (n : ℕ). Turns now late g n row result last most) e t3))
+
+      pub amid_halts : (stop : Stop) (after : W) (end : Machine) (q : Frame) → Leaving (Err stop) after end q → Goes_from (Err stop) after end q
+      amid_halts (stops.Limit why) after end q k h ws body st fit =
           let p = m.way h ws body st fit in
-          let x = k.1 now p.there p.waiters body (turned_at h ws body p fit (Ok t) now mid u) (fit_now h ws body p fit) in
-          record {
-            there = x.there;
-            waiters = x.waiters;
-            stands = x.stands;
-            leads = λ how end seg. p.leads how end (x.leads how end seg);
-            keeps = lawful.both w now after p.keeps x.keeps;
-          };
-      there = k.0.there;
-      within = k.0.within;
-    }
-
-    pub amid_follows : (t : Turn) → Turns now late g left row (Ok t) now late → (r : Bor Row) (after : W) (end : Machine) (q : Frame) → Place t (Ok (Some r)) after end q
-        → Amid state modules linked begins Ready Keeps owns w s rows f q r.now q.left after end
-    amid_follows t u r after end q k = amid_moves t late u r after end q k
-
-    -- nothing followed in place
-    pub amid_declines : (t : Turn) → Turns now late g left row (Ok t) now late → (after : W) (end : Machine) (q : Frame) → Place t (Ok None) after end q → Goes_from (Ok t) after end q
-    amid_declines t u after end q k h ws body st fit =
-        let p = m.way h ws body st fit in
-        let x = k.1 now p.there p.waiters body (turned_at h ws body p fit (Ok t) now late u) (fit_now h ws body p fit) in
-        record {
-          from = now;
-          there = p.there;
-          waiters = p.waiters;
-          turned = subst (λ (q : Frame). Turned state modules linked begins Ready Keeps owns now q p.there p.waiters (Ok t) after end) (sym x.1) x.0;
-          leads = p.leads;
-          keeps = p.keeps;
-        }
-
-    pub amid_halts : (t : Turn) → Turns now late g left row (Ok t) now late → (stop : Stop) (after : W) (end : Machine) (q : Frame) → Place t (Err stop) after end q → Goes_from (Err stop) after end q
-    amid_halts t u (stops.Limit why) after end q k h ws body st fit =
-        let p = m.way h ws body st fit in
-        halts_behind w h ws body now p.there p.waiters p.leads p.keeps why after
-        (k.1 now p.there p.waiters body (turned_at h ws body p fit (Ok t) now late u) (fit_now h ws body p fit))
-    amid_halts t u stops.Memory after end q k h ws body st fit = tt
-
-    -- it returns its value where nothing was done, in the same stacks and the same frame
-    pub amid_gives : ((end : Machine) → with_operands late end → (result : Result Turn Stop) → Popped late.operands.items (λ items u r. Gives items u r end.operands.items) result → Turns now late g left row result now end)
-        → (mid : Machine) → mid ≡ late → (q : Frame) → q ≡ g → (end : Machine) → with_operands mid end → (result : Result Turn Stop) → Popped mid.operands.items (λ items u r. Gives items u r end.operands.items) result
-        → Goes_from result now end q
-    amid_gives gives mid a q b end same result p =
-        subst (λ (q : Frame). Goes_from result now end q) (sym b)
-        (amid_over result now end
-        ((subst (λ (mid : Machine). with_operands mid end → Popped mid.operands.items (λ items u r. Gives items u r end.operands.items) result → Turns now late g left row result now end) (sym a) (λ x y. gives end x result y)) same p))
-
-    -- nothing but want of memory keeps it from returning
-    pub lacks : (stop : Stop) (mid end : Machine) (q : Frame) → ReturnsFrom state modules linked begins Ready Keeps owns now mid rows g (Err stop) end q → Goes_from (Err stop) now end q
-    lacks (stops.Limit why) mid end q k h ws body st fit = absurd k
-    lacks stops.Memory mid end q k h ws body st fit = tt
+          halts_behind w h ws body now p.there p.waiters p.leads p.keeps why after (gone_at h ws body p fit (Err (stops.Limit why)) after end q k)
+      amid_halts stops.Memory after end q k h ws body st fit = tt
 
   -- ---- what follows, behind what was before
 

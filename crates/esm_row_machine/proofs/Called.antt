@@ -139,17 +139,17 @@ module _ {W S : Type 0} (state : W → State ℕ S) (modules : S → Modules ℕ
       goes_in rows tables fit made g late b =
           let fits : Fit mid tables = made well.is_ready home (rows_there rows fit) in
           let row = (fits id.module.0 id.index b.row b.there).1 in
-          let e = b.enters in
+          let e = b.entered.enters in
           let same : SameSplit (values_of e.under) (operands_under ws ++ reverse c.under) (value_of e.callee) c.callee (values_of e.arguments) c.arguments = split_values e.under e.callee e.arguments e.stacked e.many in
-          let there : Here = begun.begun state modules linked begins Ready Keeps owns mid s id b.row count g b.mid e row.0 row.2 in
+          let there : Here = begun.begun state modules linked begins Ready Keeps owns mid s id b.row count g b.entered.mid e row.0 row.2 in
           let into : called (modules_of modules (state mid)) c.callee c.arguments ≡ Some (active id.module.0 (what_remains there)) =
           (λ i. called (modules_of modules (state mid)) (sym at_callee.element i) (sym same.back i)) ∙ ap (called_by id.module.0 (values_of e.arguments)) row.1
-          ∙ ap (λ (r : Rest CodeValue). Some (active id.module.0 r)) (sym (begun.begun_remains state modules linked begins Ready Keeps owns mid s id b.row count g b.mid e row.0 row.2)) in (
+          ∙ ap (λ (r : Rest CodeValue). Some (active id.module.0 r)) (sym (begun.begun_remains state modules linked begins Ready Keeps owns mid s id b.row count g b.entered.mid e row.0 row.2)) in (
             record {
               there = there;
               waiters = waiter ∷ ws;
-              stands = begun.begun_can_go state modules linked begins Ready Keeps owns mid s id b.row count g b.mid e row.0 row.2 (waiter ∷ ws) late b.operands b.names b.handlers
-                  (subst (λ (fs : List Frame). AreFrames (Tree mid) fs (waiter ∷ ws)) (sym (b.frames ∙ ap (λ (fs : List Frame). fs ++ f ∷ []) e.frames)) (one_waits s.frames.items f below_stay waits)) c.below.names c.below.handlers same.front row.1
+              stands = begun.begun_can_go state modules linked begins Ready Keeps owns mid s id b.row count g b.entered.mid e row.0 row.2 (waiter ∷ ws) late b.entered.operands b.entered.names b.entered.handlers
+                  (subst (λ (fs : List Frame). AreFrames (Tree mid) fs (waiter ∷ ws)) (sym (b.entered.frames ∙ ap (λ (fs : List Frame). fs ++ f ∷ []) e.frames)) (one_waits s.frames.items f below_stay waits)) c.below.names c.below.handlers same.front row.1
                   well.is_ready home homes_stay
                   (going.all_stay state modules linked begins Ready Keeps owns w mid (lawful.stays w mid well.keeps) (values_of s.operands.items) c.fits.operands)
                   (staying.names_known state modules linked begins Ready Keeps owns w mid (lawful.stays w mid well.keeps) s.names.items c.fits.names);

@@ -22,7 +22,8 @@ use Rattle.esm_row_machine.specs.Stacks.{HasNames, IsFrame}
 use Rattle.esm_row_machine.specs.Outside.{modules_in}
 use Rattle.esm_row_machine.specs.Tables.{row_in}
 use Rattle.esm_row_machine.specs.Turns.{Stands, GoesOn, CallsHere, Turned, IsRowOf}
-use Rattle.esm_row_machine.specs.Follows.{Proceeds, IsDone, Followed, FollowsOn, RowsFit, Runs}
+use Rattle.esm_row_machine.specs.Follows.{Proceeds, IsDone, Followed, RowsFit, Runs}
+use Rattle.esm_row_machine.specs.Shortcuts.{at_left}
 use Rattle.esm_row_machine.specs.declared.machine.Frame.{Frame}
 use Rattle.esm_row_machine.specs.declared.machine.Machine.{Machine}
 use Rattle.esm_row_machine.specs.declared.turn.Turn.{Turn}
@@ -36,10 +37,6 @@ use Rattle.esm_row_machine.proofs.Going.{IsLawful}
 pub on_ok : {A E P : Type 0} (r : Result A E) → P → OnOk r P
 on_ok (Ok x) p = p
 on_ok (Err e) p = tt
-
--- the same function, with so many operations left
-abbrev pub with_left : Frame → ℕ → Frame
-with_left f n = record f { left = n }
 
 module _ {W S : Type 0} (state : W → State ℕ S) (modules : S → Modules ℕ) (linked : S → ℕ → Bool) (begins : Importing ℕ S)
     (Ready : W → Type 0) (Keeps : W → W → Type 0) (owns : S → ℕ → List (List ℕ)) where
@@ -55,14 +52,20 @@ module _ {W S : Type 0} (state : W → State ℕ S) (modules : S → Modules ℕ
   abbrev Proceed : W → Here → List Waiter → Active ℕ → Frame → W → Machine → Type 0
   Proceed w h ws body f after late = Proceeds state modules linked begins Ready Keeps owns w h ws body f after late
 
-  same_frame : (f : Frame) (n m k : ℕ) (ws : List Waiter) → IsFrame f m k ws → IsFrame (with_left f n) m k ws
+  -- what follows operations of the function that runs
+  abbrev pub FollowsOn : W → Machine → Rows → Frame → Result Next Stop → W → Machine → Rows → Type 0
+  FollowsOn w s rows f result after late tables = (h : Here) (ws : List Waiter) (body : Active ℕ)
+      → Stands state modules linked begins Ready Keeps owns w s f f.left h ws → Fit w rows
+      → Follow w h ws body result after late × OnOk result (Fit after tables)
+
+  same_frame : (f : Frame) (n m k : ℕ) (ws : List Waiter) → IsFrame f m k ws → IsFrame (at_left f n) m k ws
   same_frame f n m k ws i = record { home = i.home; number = i.number; names_below = i.names_below; operands_below = i.operands_below; handlers_below = i.handlers_below }
 
-  same_below : (tree : ℕ → List Item) (s : Machine) (f : Frame) (n m k : ℕ) (rs : List Round) (vss : Values) (ws : List Waiter) → HasNames tree s f m k rs vss ws → HasNames tree s (with_left f n) m k rs vss ws
+  same_below : (tree : ℕ → List Item) (s : Machine) (f : Frame) (n m k : ℕ) (rs : List Round) (vss : Values) (ws : List Waiter) → HasNames tree s f m k rs vss ws → HasNames tree s (at_left f n) m k rs vss ws
   same_below tree s f n m k rs vss ws b = record { names = b.names; handlers = b.handlers; frames = b.frames; frame = same_frame f n m k ws b.frame; fit = b.fit; rounds = b.rounds }
 
   pub goes_on : (w : W) (f : Frame) (h : Here) (ws : List Waiter) (body : Active ℕ) (n : ℕ) (after : W) (late : Machine) → GoesOn state modules linked begins Ready Keeps owns w f h ws n after late
-      → Proceed w h ws body (with_left f n) after late
+      → Proceed w h ws body (at_left f n) after late
   goes_on w f h ws body n after late g = record {
     there = moved h g.spot g.vss g.values;
     waiters = ws;
@@ -80,7 +83,7 @@ module _ {W S : Type 0} (state : W → State ℕ S) (modules : S → Modules ℕ
   }
 
   pub calls_left : (w : W) (f : Frame) (h : Here) (ws : List Waiter) (count n : ℕ) (after : W) (late : Machine) → CallsHere state modules linked begins Ready Keeps owns w f h ws count n after late
-      → CallsHere state modules linked begins Ready Keeps owns w (with_left f n) h ws count n after late
+      → CallsHere state modules linked begins Ready Keeps owns w (at_left f n) h ws count n after late
   calls_left w f h ws count n after late t = record {
     links = t.links;
     kont = t.kont;

@@ -42,7 +42,7 @@ module _ (s mid : Machine) (rows : Rows) (f : Frame) (function : FuncId) (count 
     (g : Frame) (enters : EntersAs s function row count g mid) (late : Machine) (operands : late.operands.items ≡ mid.operands.items) (names : late.names.items ≡ mid.names.items)
     (handlers : late.handlers.items ≡ mid.handlers.items) where
   begun_now : late.frames.items ≡ mid.frames.items ++ f ∷ [] → Begun s rows f function count g late
-  begun_now frames = record { row = row; there = there; mid = mid; enters = enters; operands = operands; names = names; handlers = handlers; frames = frames }
+  begun_now frames = record { row = row; there = there; entered = record { mid = mid; enters = enters; operands = operands; names = names; handlers = handlers; frames = frames } }
 
   pub begun_by : (result : Result Next Stop) → WaitsFor mid.frames.items f g result late.frames.items → BegunBy s rows f function count result late
   begun_by (Ok (next.Goes q)) p = subst (λ (r : Frame). Begun s rows f function count r late) (sym p.0) (begun_now p.1)

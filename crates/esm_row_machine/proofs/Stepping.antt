@@ -20,8 +20,7 @@ use Rattle.esm_row_laws.specs.Beginnings.{begun_init, begun}
 use Rattle.esm_row_laws.proofs.Beginning as beginning
 use Rattle.esm_row_machine.specs.Functions.{Here, Waiter, rounds_at}
 use Rattle.esm_row_machine.specs.Stacks.{HasNames, IsLeft}
-use Rattle.esm_row_machine.specs.Outside.{Stays, modules_in}
-use Rattle.esm_row_machine.specs.Naming.{StepsOn}
+use Rattle.esm_row_machine.specs.Outside.{Stays, Steps, modules_in}
 use Rattle.esm_row_machine.specs.Turns.{GoesOn, Halts, Turned}
 use Rattle.esm_row_machine.specs.declared.machine.Frame.{Frame}
 use Rattle.esm_row_machine.specs.declared.machine.Machine.{Machine}
@@ -81,6 +80,16 @@ begun_room (x.PrintAwait e) ss rs = refl
 begun_room (x.Const bs) ss rs = refl
 begun_room (x.Let bs) ss rs = refl
 begun_room (x.Default value) ss rs = init_room value _ (left no_more ss) rs
+
+module _ {W S : Type 0} (state : W → State ℕ S) (modules : S → Modules ℕ) (linked : S → ℕ → Bool) (begins : Importing ℕ S)
+    (Ready : W → Type 0) (Keeps : W → W → Type 0) where
+  -- a step is taken
+  abbrev pub StepsOn : W → ℕ → Result Turn Stop → W → Type 0
+  StepsOn w left (Ok (turn.On n)) after = (n ≡ left) × Steps state modules linked begins Ready Keeps w (Ok tt) after
+  StepsOn w left (Ok (turn.Calls count n)) after = ⊥
+  StepsOn w left (Ok (turn.Returns v)) after = ⊥
+  StepsOn w left (Ok (turn.Throws v)) after = ⊥
+  StepsOn w left (Err stop) after = Steps state modules linked begins Ready Keeps w (Err stop) after
 
 module _ {W S : Type 0} (state : W → State ℕ S) (modules : S → Modules ℕ) (linked : S → ℕ → Bool) (begins : Importing ℕ S)
     (Ready : W → Type 0) (Keeps : W → W → Type 0) (owns : S → ℕ → List (List ℕ)) (lawful : IsLawful state modules linked begins Ready Keeps owns)

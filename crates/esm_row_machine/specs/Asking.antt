@@ -28,12 +28,6 @@ turn_of left (Ok (Some v)) = Ok (turn.Throws v)
 turn_of left (Err stop) = Err stop
 
 -- the same, of a call that isn't told how many are left: it holds however many are
-abbrev pub PutOrThrown : List Value → Value → Result (Option Value) Stop → List Value → Type 0
-PutOrThrown vs v result us = (left : ℕ) → Put vs v left (turn_of left result) us
-
-abbrev pub TookOrThrown : List Value → Result Out Stop → Result (Option Value) Stop → List Value → Type 0
-TookOrThrown vs told result us = (left : ℕ) → Took vs told left (turn_of left result) us
-
 abbrev pub HeardOrThrown : List Value → (Result Out Stop → Type 0) → Result (Option Value) Stop → List Value → Type 0
 HeardOrThrown vs Says result us = (left : ℕ) → Heard vs Says left (turn_of left result) us
 

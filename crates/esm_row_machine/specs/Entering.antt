@@ -72,16 +72,20 @@ WaitsFor fs f callee (Ok (next.Thrown v)) gs = ⊥
 WaitsFor fs f callee (Err (stops.Limit why)) gs = ⊥
 WaitsFor fs f callee (Err stops.Memory) gs = Unit {0}
 
--- with its row from the table, and its caller waits
-pub record Begun (s : Machine) (rows : Rows) (f : Frame) (function : FuncId) (count : ℕ) (g : Frame) (late : Machine) : Type 0 where
-  pub row : Row
-  pub there : row_in rows function.module.0 function.index ≡ Some row
+-- with this row, and its caller waits
+pub record Entered (s : Machine) (row : Row) (f : Frame) (function : FuncId) (count : ℕ) (g : Frame) (late : Machine) : Type 0 where
   pub mid : Machine
   pub enters : EntersAs s function row count g mid
   pub operands : late.operands.items ≡ mid.operands.items
   pub names : late.names.items ≡ mid.names.items
   pub handlers : late.handlers.items ≡ mid.handlers.items
   pub frames : late.frames.items ≡ mid.frames.items ++ f ∷ []
+
+-- so it does, with its row from the table
+pub record Begun (s : Machine) (rows : Rows) (f : Frame) (function : FuncId) (count : ℕ) (g : Frame) (late : Machine) : Type 0 where
+  pub row : Row
+  pub there : row_in rows function.module.0 function.index ≡ Some row
+  pub entered : Entered s row f function count g late
 
 abbrev pub BegunBy : Machine → Rows → Frame → FuncId → ℕ → Result Next Stop → Machine → Type 0
 BegunBy s rows f function count (Ok (next.Goes g)) late = Begun s rows f function count g late

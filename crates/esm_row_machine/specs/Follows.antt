@@ -157,12 +157,6 @@ module _ {W S : Type 0} (state : W → State ℕ S) (modules : S → Modules ℕ
       → Turned state modules linked begins Ready Keeps owns w0 f h ws (Ok turn) w s → RowsFit w rows
       → Followed w0 h ws body result after late × OnOk result (RowsFit after tables)
 
-  -- what follows operations of the function that runs
-  abbrev pub FollowsOn : W → Machine → Rows → Frame → Result Next Stop → W → Machine → Rows → Type 0
-  FollowsOn w s rows f result after late tables = (h : Here) (ws : List Waiter) (body : Active ℕ)
-      → Stands state modules linked begins Ready Keeps owns w s f f.left h ws → RowsFit w rows
-      → Followed w h ws body result after late × OnOk result (RowsFit after tables)
-
   -- ---- to the end
 
   abbrev pub Ends : W → Here → List Waiter → Active ℕ → Result Ending Stop → W → Type 0

@@ -8,7 +8,7 @@ use Rattle.esm_values.specs.declared.value.Value.{Value}
 use Rattle.esm_rewriting.specs.State.{State, Importing}
 use Rattle.esm_rewriting.specs.declared.stop.Stop.{Stop}
 use Rattle.esm_rewriting.specs.declared.stop.Stop.TheVariants as stops
-use Rattle.esm_row_machine.specs.Outside.{Faults, Steps}
+use Rattle.esm_row_machine.specs.Outside.{Faults}
 use Rattle.esm_row_machine.specs.Changes.{Put, Popped}
 use Rattle.esm_row_machine.specs.declared.machine.Handler.{Handler}
 use Rattle.esm_row_machine.specs.declared.turn.Turn.{Turn}
@@ -47,14 +47,6 @@ WithoutLast hs late = (last : Handler) × (hs ≡ late ++ last ∷ [])
 
 module _ {W S : Type 0} (state : W → State ℕ S) (modules : S → Modules ℕ) (linked : S → ℕ → Bool) (begins : Importing ℕ S)
     (Ready : W → Type 0) (Keeps : W → W → Type 0) where
-  -- a step is taken
-  abbrev pub StepsOn : W → ℕ → Result Turn Stop → W → Type 0
-  StepsOn w left (Ok (turn.On n)) after = (n ≡ left) × Steps state modules linked begins Ready Keeps w (Ok tt) after
-  StepsOn w left (Ok (turn.Calls count n)) after = ⊥
-  StepsOn w left (Ok (turn.Returns v)) after = ⊥
-  StepsOn w left (Ok (turn.Throws v)) after = ⊥
-  StepsOn w left (Err stop) after = Steps state modules linked begins Ready Keeps w (Err stop) after
-
   -- a new error is thrown
   abbrev pub ThrowsFault : W → FaultKind → List ℕ → Result Turn Stop → W → Type 0
   ThrowsFault w kind message (Ok (turn.On n)) after = ⊥

@@ -1,5 +1,6 @@
 // Calls of functions.
 ghost use Rattle.std.specs.Prelude.{◌≡◌, ◌<◌, ◌-◌, ◌++◌, ◌∷◌, [], drop, replicate, take, IfOk, OnOk};
+ghost use Rattle.std.specs.Vec.{vec_capacity, vec_len};
 ghost use Rattle.esm_values.specs.Code.{value_of, values_of};
 ghost use Rattle.esm_rewriting.specs.Scopes.{argument_of};
 ghost use Rattle.esm_row_machine.specs.Stacks.{names_on};
@@ -173,21 +174,31 @@ fn refuse<W: Outside>(
 pub(crate) fn push_frame(frames: &mut Vec<Frame>, frame: Frame) -> Result<(), Memory>
     ensures { OnOk result (frames.new.items ≡ frames.old.items ++ frame ∷ []) }
 {
+    room_for_frame(frames)?;
+    frames.push_reserved(frame);
+    Ok(())
+}
+
+/// There is room for one function more that waits.
+#[inline(always)]
+fn room_for_frame(frames: &mut Vec<Frame>) -> Result<(), Memory>
+    ensures items { frames.new.items ≡ frames.old.items }
+    ensures room { OnOk result (vec_len frames.new < vec_capacity frames.new) }
+{
     if frames.len() < frames.capacity() {
-        frames.push_reserved(frame);
-        Ok(())
-    } else {
-        push_frame_growing(frames, frame)
+        return Ok(());
     }
+    grow_frames(frames)
 }
 
 /// The same where the stack has to grow.
 #[cold]
 #[inline(never)]
-fn push_frame_growing(frames: &mut Vec<Frame>, frame: Frame) -> Result<(), Memory>
-    ensures { OnOk result (frames.new.items ≡ frames.old.items ++ frame ∷ []) }
+fn grow_frames(frames: &mut Vec<Frame>) -> Result<(), Memory>
+    ensures items { frames.new.items ≡ frames.old.items }
+    ensures room { OnOk result (vec_len frames.new < vec_capacity frames.new) }
 {
-    frames.push(frame)?;
+    frames.reserve(1)?;
     Ok(())
 }
 
@@ -238,7 +249,8 @@ fn call_function<W: Outside>(
     }
 }
 
-/// A value is called with so many arguments, which stand above it: the step, what it is, and how many functions are active.
+/// A value is called with so many arguments, which stand above it: the step, what it is, and how many functions are
+/// active.
 ///
 /// ECMA-262, EvaluateCall.
 pub(crate) fn call_value<W: Outside>(

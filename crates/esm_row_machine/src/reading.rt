@@ -154,22 +154,6 @@ pub(crate) fn read_local<W: Outside>(
     }
 }
 
-/// The value of the name at a place of the module is.
-pub(crate) fn read_own<W: Outside>(
-    world: &mut W,
-    operands: &mut Vec<Value>,
-    frame: Frame,
-    place: u32,
-    left: usize,
-) -> Result<Turn, Stop>
-    ensures { Heard operands.old.items (λ told. said.ReadsPlace W.state W.modules W.linked W.begins
-        W.ready W.keeps W.owns world.old frame.at.0 place told world.new) left result
-        operands.new.items }
-{
-    let told = world.read_own(frame.at, place);
-    take(operands, told, left)
-}
-
 /// The value of another name is.
 pub(crate) fn read_name<W: Outside>(
     world: &mut W,

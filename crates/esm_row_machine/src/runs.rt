@@ -8,11 +8,9 @@ use crate::ending::give_back;
 use crate::machine::{Frame, Machine};
 use crate::outside::Outside;
 use crate::rows::Rows;
-use crate::shortcuts::{call_here, end_here, op_at, operate_at, put_own, return_here, row_here};
-use crate::stacks::pop;
+use crate::shortcuts::{do_here, leave_here, op_at, operate_at, row_here};
 use crate::throws::throw;
 use crate::turn::Turn;
-use crate::uses::give;
 use esm_base::Memory;
 use esm_rewriting::Stop;
 use esm_rows::{Op, Row};
@@ -38,86 +36,51 @@ pub enum Ending {
     Thrown(Value),
 }
 
-/// Functions run, the one with this row first, up to an operation that leaves its row and that nothing follows in place.
-/// What calls are made of is done here, all else by `operate`.
-#[inline(never)]
+/// Functions run, the one with this row first, up to an operation that leaves its row and that nothing follows in
+/// place. What calls are made of is done here, all else by `operate`. The frame tells how many operations were left when
+/// it was last changed.
+#[inline(always)]
 fn turns<'a, W: Outside>(
     world: &mut W,
     machine: &mut Machine,
     rows: &'a Rows,
-    first: &'a Row,
+    start: &'a Row,
     frame: &mut Frame,
 ) -> Result<Turn, Stop>
-    requires { HasRow rows.now frame.old first.now }
+    requires { HasRow rows.now frame.old start.now }
     ensures { GoesFrom W.state W.modules W.linked W.begins W.ready W.keeps W.owns
         world.old machine.old rows.now frame.old result world.new machine.new frame.new }
 {
-    // While a row runs, `left` tells how many operations are left; the frame tells how many were when it was last changed.
-    let mut row = first;
+    let mut row = start;
     let mut left = frame.left;
     'functions: for _ in 0..u64::MAX {
         'turning: while left > 0 {
             left = left - 1;
             let op = op_at(row, left);
             match op {
-                Op::Step => match world.step() {
-                    Ok(()) => continue,
-                    Err(stop) => return Err(stop),
-                },
-                Op::Own(place) => match put_own(world, &mut machine.operands, frame.at, place) {
+                Op::Step | Op::Own(_) | Op::Drop => match do_here(world, machine, frame.at, op) {
                     Ok(thrown) => match thrown {
                         None => continue,
                         Some(error) => return Ok(Turn::Throws(error)),
                     },
                     Err(stop) => return Err(stop),
                 },
-                Op::Drop => match pop(&mut machine.operands) {
-                    Ok(_value) => continue,
-                    Err(Memory) => return Err(Stop::Memory),
-                },
-                Op::Call(arguments) => match call_here(
-                    world, machine, rows, frame, arguments, left,
+                Op::Call(_) | Op::Return | Op::End => match leave_here(
+                    world, machine, rows, frame, op, left,
                 ) {
-                    Ok(called) => match called {
-                        Some(callee) => {
-                            row = callee;
+                    Ok(next) => match next {
+                        Some(next) => {
+                            row = next;
                             left = frame.left;
                             continue 'functions;
                         }
-                        None => return Ok(Turn::Calls(arguments, left)),
-                    },
-                    Err(stop) => return Err(stop),
-                },
-                Op::Return => match return_here(world, machine, rows, frame) {
-                    Ok(returned) => match returned {
-                        Some(caller) => {
-                            row = caller;
-                            left = frame.left;
-                            continue 'functions;
-                        }
-                        None => return give(&mut machine.operands),
-                    },
-                    Err(stop) => return Err(stop),
-                },
-                Op::End => match end_here(world, machine, rows, frame, Value::Undefined) {
-                    Ok(ended) => match ended {
-                        Some(caller) => {
-                            row = caller;
-                            left = frame.left;
-                            continue 'functions;
-                        }
-                        None => return Ok(Turn::Returns(Value::Undefined)),
+                        None => return operate_at(world, machine, *frame, row, left),
                     },
                     Err(stop) => return Err(stop),
                 },
                 _ => match operate_at(world, machine, *frame, row, left) {
                     Ok(told) => match told {
-                        Turn::On(next) => {
-                            if next > left {
-                                return Err(Stop::Memory);
-                            }
-                            left = next;
-                        }
+                        Turn::On(next) => left = next,
                         _ => return Ok(told),
                     },
                     Err(stop) => return Err(stop),
@@ -152,8 +115,9 @@ fn follow<W: Outside>(
     }
 }
 
-/// Functions run, the one that the frame tells first, up to an operation that leaves its row and that nothing follows in
-/// place.
+/// Functions run, the one that the frame tells first, up to an operation that leaves its row and that nothing follows
+/// in place.
+#[inline(always)]
 fn go_on<W: Outside>(
     world: &mut W,
     machine: &mut Machine,
@@ -170,6 +134,7 @@ fn go_on<W: Outside>(
 }
 
 /// Functions run, until the outermost one is over.
+#[inline(never)]
 fn run<W: Outside>(
     world: &mut W,
     machine: &mut Machine,

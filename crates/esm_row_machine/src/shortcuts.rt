@@ -1,10 +1,11 @@
-// How the loop over rows reads them, and what it does itself: the value of a name of the module, calls of functions whose
-// rows are there, and ends and returns of functions for which others wait. The frame that runs is changed where it stands.
+// How the loop over rows reads them, and what it does itself: the value of a name of the module, calls of functions
+// whose rows are there, and ends and returns of functions for which others wait. The frame that runs is changed where
+// it stands.
 ghost use Rattle.std.specs.Prelude.{◌≡◌, ◌<◌, ◌+◌, length, slice_get, Some};
 ghost use Rattle.esm_row_machine.specs.Outside as said;
-ghost use Rattle.esm_row_machine.specs.Asking.{HeardOrThrown, PutOrThrown, TookOrThrown};
+ghost use Rattle.esm_row_machine.specs.Asking.{HeardOrThrown};
 ghost use Rattle.esm_row_machine.specs.Turns.{TurnsOn};
-ghost use Rattle.esm_row_machine.specs.Shortcuts.{BeginsFrom, EntersHere, FoundFrom, GivenHere, InPlace, IsRowHere, Resumes, ReturnsFrom, at_left};
+ghost use Rattle.esm_row_machine.specs.Shortcuts.{BeginsFrom, CallsFrom, DoneHere, EndsFrom, EntersHere, FoundFrom, GivenHere, IsOnward, IsRowHere, LeadsOn, LeavesFrom, ResumesFrom, ReturnsFrom, at_left};
 
 use crate::calls::{callee, enter, push_frame};
 use crate::machine::{Frame, Machine};
@@ -43,7 +44,7 @@ pub(crate) fn op_at(row: &Row, place: usize) -> Op
     row.ops[place]
 }
 
-/// The operation at a place of its row is done.
+/// The operation at a place of its row is done. It leads no further back than it stands.
 // Not inlined, so that the loop over rows stays small.
 #[inline(never)]
 pub(crate) fn operate_at<W: Outside>(
@@ -54,31 +55,31 @@ pub(crate) fn operate_at<W: Outside>(
     left: usize,
 ) -> Result<Turn, Stop>
     requires { left < length row.now.ops.items }
-    ensures { TurnsOn W.state W.modules W.linked W.begins W.ready W.keeps W.owns
+    ensures turns { TurnsOn W.state W.modules W.linked W.begins W.ready W.keeps W.owns
         world.old machine.old frame (left + 1) row.now result world.new machine.new }
+    ensures leads { LeadsOn left result }
 {
-    operate(world, machine, frame, row, op_at(row, left), left)
-}
-
-/// A value is put on top.
-#[inline(always)]
-fn put_value(operands: &mut Vec<Value>, value: Value) -> Result<Option<Value>, Stop>
-    ensures { PutOrThrown operands.old.items value result operands.new.items }
-{
-    match push(operands, value) {
-        Ok(()) => Ok(None),
-        Err(Memory) => Err(Stop::Memory),
+    match operate(world, machine, frame, row, op_at(row, left), left) {
+        Ok(turn) => onward(turn, left),
+        Err(stop) => Err(stop),
     }
 }
 
-/// A value is put on top, or is to be thrown.
+/// The same turn, where no more operations are left than so many.
 #[inline(always)]
-fn take_value(operands: &mut Vec<Value>, told: Out) -> Result<Option<Value>, Stop>
-    ensures { TookOrThrown operands.old.items (Ok told) result operands.new.items }
+fn onward(turn: Turn, left: usize) -> Result<Turn, Stop>
+    ensures { IsOnward left turn result }
 {
-    match told {
-        Out::Value(value) => put_value(operands, value),
-        Out::Thrown(value) => Ok(Some(value)),
+    match turn {
+        Turn::On(next) => {
+            if next > left {
+                return Err(Stop::Memory);
+            }
+            Ok(Turn::On(next))
+        }
+        Turn::Calls(arguments, behind) => Ok(Turn::Calls(arguments, behind)),
+        Turn::Returns(value) => Ok(Turn::Returns(value)),
+        Turn::Throws(value) => Ok(Turn::Throws(value)),
     }
 }
 
@@ -95,8 +96,39 @@ pub(crate) fn put_own<W: Outside>(
         operands.new.items }
 {
     match world.read_own(m, place) {
-        Ok(out) => take_value(operands, out),
+        Ok(out) => match out {
+            Out::Value(value) => match push(operands, value) {
+                Ok(()) => Ok(None),
+                Err(Memory) => Err(Stop::Memory),
+            },
+            Out::Thrown(error) => Ok(Some(error)),
+        },
         Err(stop) => Err(stop),
+    }
+}
+
+/// A step, a name of the module that is put on top, or a value that goes; what is thrown is given.
+#[inline(always)]
+pub(crate) fn do_here<W: Outside>(
+    world: &mut W,
+    machine: &mut Machine,
+    m: ModuleId,
+    op: Op,
+) -> Result<Option<Value>, Stop>
+    ensures { DoneHere W.state W.modules W.linked W.begins W.ready W.keeps W.owns world.old
+        machine.old m.0 op result world.new machine.new }
+{
+    match op {
+        Op::Step => match world.step() {
+            Ok(()) => Ok(None),
+            Err(stop) => Err(stop),
+        },
+        Op::Own(place) => put_own(world, &mut machine.operands, m, place),
+        Op::Drop => match pop(&mut machine.operands) {
+            Ok(_value) => Ok(None),
+            Err(Memory) => Err(Stop::Memory),
+        },
+        _ => Err(Stop::Memory),
     }
 }
 
@@ -138,14 +170,14 @@ fn begin_here<'a, W: Outside>(
     function: FuncId,
     arguments: usize,
     left: usize,
-) -> Result<Option<&'a Row>, Stop>
+) -> Result<&'a Row, Stop>
     ensures { BeginsFrom W.state W.modules W.linked W.begins W.ready W.keeps W.owns world.old
         machine.old row.now frame.old function arguments left result world.new machine.new
         frame.new }
 {
     match world.step() {
         Ok(()) => match enter_here(machine, row, frame, function, arguments, left) {
-            Ok(()) => Ok(Some(row)),
+            Ok(()) => Ok(row),
             Err(stop) => Err(stop),
         },
         Err(stop) => Err(stop),
@@ -168,27 +200,28 @@ fn call_found<'a, W: Outside>(
         frame.new }
 {
     match rows.find(function.module, function.index) {
-        Some(row) => {
-            begin_here(
-                world,
-                machine,
-                row,
-                frame,
-                function,
-                arguments as usize,
-                left,
-            )
-        }
+        Some(row) => match begin_here(
+            world,
+            machine,
+            row,
+            frame,
+            function,
+            arguments as usize,
+            left,
+        ) {
+            Ok(begun) => Ok(Some(begun)),
+            Err(stop) => Err(stop),
+        },
         None => Ok(None),
     }
 }
 
-/// The value below so many arguments is called, where it is a function whose row is there, and fewer functions are active
-/// than may be. Else nothing is done.
+/// The value below so many arguments is called, where it is a function whose row is there, and fewer functions are
+/// active than may be. Else nothing is done.
 ///
 /// ECMA-262, EvaluateCall.
 #[inline(always)]
-pub(crate) fn call_here<'a, W: Outside>(
+fn call_here<'a, W: Outside>(
     world: &mut W,
     machine: &mut Machine,
     rows: &'a Rows,
@@ -196,9 +229,8 @@ pub(crate) fn call_here<'a, W: Outside>(
     arguments: u32,
     left: usize,
 ) -> Result<Option<&'a Row>, Stop>
-    ensures { InPlace W.state W.modules W.linked W.begins W.ready W.keeps W.owns
-        (Turn.Calls arguments left) world.old machine.old rows.now frame.old result world.new
-        machine.new frame.new }
+    ensures { CallsFrom W.state W.modules W.linked W.begins W.ready W.keeps W.owns world.old
+        machine.old rows.now frame.old arguments left result world.new machine.new frame.new }
 {
     if machine.frames.len() + 1 >= MAX_CALL_DEPTH as usize {
         return Ok(None);
@@ -217,15 +249,15 @@ fn give_here<'a>(
     frame: &mut Frame,
     caller: Frame,
     value: Value,
-) -> Result<Option<&'a Row>, Stop>
+) -> Result<&'a Row, Stop>
     ensures { GivenHere rows.now operands.old.items caller value result frame.new
         operands.new.items }
 {
     match push(operands, value) {
         Ok(()) => match row_here(rows, caller) {
             Some(row) => {
-                *frame = caller;
-                Ok(Some(row))
+                set_frame(frame, caller);
+                Ok(row)
             }
             None => Err(Stop::Memory),
         },
@@ -241,9 +273,9 @@ fn resume_here<'a, W: Outside>(
     rows: &'a Rows,
     frame: &mut Frame,
     value: Value,
-) -> Result<Option<&'a Row>, Stop>
-    ensures { Resumes W.state W.modules W.linked W.begins W.ready W.keeps W.owns value
-        _world.now machine.old rows.now frame.old result machine.new frame.new }
+) -> Result<&'a Row, Stop>
+    ensures { ResumesFrom W.state W.modules W.linked W.begins W.ready W.keeps W.owns
+        _world.now machine.old rows.now frame.old value result machine.new frame.new }
 {
     keep_names(&mut machine.names, frame.names);
     keep_handlers(&mut machine.handlers, frame.handlers);
@@ -253,28 +285,23 @@ fn resume_here<'a, W: Outside>(
     }
 }
 
-/// A function is over, and its value is given to the function that waits for it. Where none waits, nothing is done.
+/// This function runs from now on. Its fields are set one by one, since what reads them next does so too.
 #[inline(always)]
-pub(crate) fn end_here<'a, W: Outside>(
-    _world: &W,
-    machine: &mut Machine,
-    rows: &'a Rows,
-    frame: &mut Frame,
-    value: Value,
-) -> Result<Option<&'a Row>, Stop>
-    ensures { InPlace W.state W.modules W.linked W.begins W.ready W.keeps W.owns
-        (Turn.Returns value) _world.now machine.old rows.now frame.old result _world.now
-        machine.new frame.new }
+fn set_frame(frame: &mut Frame, to: Frame)
+    ensures { frame.new ≡ to }
 {
-    if machine.frames.is_empty() {
-        return Ok(None);
-    }
-    resume_here(_world, machine, rows, frame, value)
+    frame.at = to.at;
+    frame.function = to.function;
+    frame.left = to.left;
+    frame.names = to.names;
+    frame.operands = to.operands;
+    frame.handlers = to.handlers;
 }
 
-/// A function is over, and the value on top is given to the function that waits for it. Where none waits, nothing is done.
+/// A function is over, and the value on top is given to the function that waits for it. Where none waits, nothing is
+/// done.
 #[inline(always)]
-pub(crate) fn return_here<'a, W: Outside>(
+fn return_here<'a, W: Outside>(
     world: &W,
     machine: &mut Machine,
     rows: &'a Rows,
@@ -287,7 +314,51 @@ pub(crate) fn return_here<'a, W: Outside>(
         return Ok(None);
     }
     match pop(&mut machine.operands) {
-        Ok(value) => resume_here(world, machine, rows, frame, value),
+        Ok(value) => match resume_here(world, machine, rows, frame, value) {
+            Ok(row) => Ok(Some(row)),
+            Err(stop) => Err(stop),
+        },
         Err(Memory) => Err(Stop::Memory),
+    }
+}
+
+/// A function is over, and undefined is given to the function that waits for it. Where none waits, nothing is done.
+#[inline(always)]
+fn end_here<'a, W: Outside>(
+    world: &W,
+    machine: &mut Machine,
+    rows: &'a Rows,
+    frame: &mut Frame,
+) -> Result<Option<&'a Row>, Stop>
+    ensures { EndsFrom W.state W.modules W.linked W.begins W.ready W.keeps W.owns world.now
+        machine.old rows.now frame.old result machine.new frame.new }
+{
+    if machine.frames.is_empty() {
+        return Ok(None);
+    }
+    match resume_here(world, machine, rows, frame, Value::Undefined) {
+        Ok(row) => Ok(Some(row)),
+        Err(stop) => Err(stop),
+    }
+}
+
+/// A call, a return or an end: where another function runs from now on, this is its row. Else nothing is done.
+#[inline(always)]
+pub(crate) fn leave_here<'a, W: Outside>(
+    world: &mut W,
+    machine: &mut Machine,
+    rows: &'a Rows,
+    frame: &mut Frame,
+    op: Op,
+    left: usize,
+) -> Result<Option<&'a Row>, Stop>
+    ensures { LeavesFrom W.state W.modules W.linked W.begins W.ready W.keeps W.owns world.old
+        machine.old rows.now frame.old op left result world.new machine.new frame.new }
+{
+    match op {
+        Op::Call(arguments) => call_here(world, machine, rows, frame, arguments, left),
+        Op::Return => return_here(world, machine, rows, frame),
+        Op::End => end_here(world, machine, rows, frame),
+        _ => Ok(None),
     }
 }

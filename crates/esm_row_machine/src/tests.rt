@@ -8,8 +8,8 @@ use esm_values::{ErrorId, FaultKind, FuncId, RcText, Value};
 use std::alloc::Global;
 use std::test::Fail;
 
-/// A world in which each name is the function with the number 1, and a name of the module that with the number of its place. It
-/// is never ready, so that its calls say nothing.
+/// A world in which each name is the function with the number 1, and a name of the module that with the number of its
+/// place. It is never ready, so that its calls say nothing.
 #[derive(Drop)]
 struct Fake {
     alloc: Global,
@@ -134,6 +134,12 @@ impl Outside for Fake {
             Ok(Some(row))
         } else if function == 4 {
             let row = returning(self.alloc)?;
+            Ok(Some(row))
+        } else if function == 5 {
+            let row = ending(self.alloc)?;
+            Ok(Some(row))
+        } else if function == 6 {
+            let row = calling_what_ends(self.alloc)?;
             Ok(Some(row))
         } else {
             Ok(None)
@@ -261,6 +267,44 @@ fn returning(alloc: Global) -> Result<Row, Memory> {
     })
 }
 
+// function e(x) {}
+fn ending(alloc: Global) -> Result<Row, Memory> {
+    let ops = vec![in alloc; Op::End]?;
+    Ok(Row {
+        ops,
+        texts: Vec::new(alloc),
+        parameters: 1,
+        names: 0,
+    })
+}
+
+// function u(a) { e(a); e(a); return a; }
+fn calling_what_ends(alloc: Global) -> Result<Row, Memory> {
+    let texts = one_text(alloc, "a")?;
+    let ops = vec![in alloc;
+        Op::End,
+        Op::Return,
+        Op::Local(0, 0),
+        Op::Step,
+        Op::Drop,
+        Op::Call(1),
+        Op::Local(0, 0),
+        Op::Own(5),
+        Op::Step,
+        Op::Drop,
+        Op::Call(1),
+        Op::Local(0, 0),
+        Op::Own(5),
+        Op::Step,
+    ]?;
+    Ok(Row {
+        ops,
+        texts,
+        parameters: 1,
+        names: 0,
+    })
+}
+
 fn called(alloc: Global, function: u32, text: &str) -> Result<Result<Ending, Stop>, Memory> {
     let mut world = Fake {
         alloc,
@@ -322,5 +366,12 @@ fn a_throw_of_a_callee_leaves_its_caller(rt: HostRuntime) -> Result<(), Fail> {
 fn a_second_call_gives_its_value(rt: HostRuntime) -> Result<(), Fail> {
     let told = called(rt.alloc(), 3, "a")?;
     assert!(rt; gives(&told, "a!"));
+    Ok(())
+}
+
+#[test]
+fn a_caller_goes_on_behind_an_end(rt: HostRuntime) -> Result<(), Fail> {
+    let told = called(rt.alloc(), 6, "a")?;
+    assert!(rt; gives(&told, "a"));
     Ok(())
 }

@@ -1,6 +1,6 @@
 // One operation of a row.
 ghost use Rattle.std.specs.Prelude.{◌≡◌, ◌+◌, ◌-◌, ◌++◌, ◌∷◌, [], length, replicate, slice_get, take, Some};
-ghost use Rattle.esm_row_machine.specs.Naming.{GoesTo, StepsOn, WithoutLast, handler_with};
+ghost use Rattle.esm_row_machine.specs.Naming.{GoesTo, WithoutLast, handler_with};
 ghost use Rattle.esm_row_machine.specs.Turns.{TurnsOn};
 ghost use Rattle.esm_row_machine.specs.Asking.{HeardValue};
 ghost use Rattle.esm_row_machine.specs.Outside as said;
@@ -10,11 +10,9 @@ use crate::operators::{
     add, and_also, compare, import, make_error, member, or_else, print, turn_over,
 };
 use crate::outside::Outside;
-use crate::reading::{put, put_text, read_local, read_name, read_own, text_at};
+use crate::reading::{put, put_text, read_local, read_name, text_at};
 use crate::stacks::{begin_names, end_names, pop_handler, push_handler};
-use crate::uses::{
-    begin_handler, choose, drop_value, give, set_local, throw_value, write_local, write_name,
-};
+use crate::uses::{begin_handler, choose, give, set_local, throw_value, write_local, write_name};
 use esm_base::Memory;
 use esm_rewriting::Stop;
 use esm_rows::{Op, Row};
@@ -93,17 +91,6 @@ fn leave_try(
     }
 }
 
-/// A statement takes its step.
-fn step<W: Outside>(world: &mut W, left: usize) -> Result<Turn, Stop>
-    ensures { StepsOn W.state W.modules W.linked W.begins W.ready W.keeps world.old left result
-        world.new }
-{
-    match world.step() {
-        Ok(()) => Ok(Turn::On(left)),
-        Err(stop) => Err(stop),
-    }
-}
-
 /// The URL of the module is put on top.
 fn put_url<W: Outside>(
     world: &W,
@@ -120,7 +107,7 @@ fn put_url<W: Outside>(
     }
 }
 
-/// One operation, behind which so many are left. The loop over rows does six of them itself, as is done here.
+/// One operation, behind which so many are left. Some are done by the loop over rows itself.
 pub(crate) fn operate<W: Outside>(
     world: &mut W,
     machine: &mut Machine,
@@ -133,7 +120,6 @@ pub(crate) fn operate<W: Outside>(
         W.begins W.ready W.keeps W.owns world.old machine.old frame (left + 1) row.now result world.new machine.new }
 {
     match op {
-        Op::Step => step(world, left),
         Op::Text(k) => put_text(&mut machine.operands, text_at(row, k), left),
         Op::Truth(truth) => put(&mut machine.operands, Value::Bool(truth), left),
         Op::Undefined => put(&mut machine.operands, Value::Undefined, left),
@@ -147,7 +133,6 @@ pub(crate) fn operate<W: Outside>(
             text_at(row, k),
             left,
         ),
-        Op::Own(place) => read_own(world, &mut machine.operands, frame, place, left),
         Op::Name(k) => read_name(world, &mut machine.operands, frame, text_at(row, k), left),
         Op::OrElse(skip) => or_else(&mut machine.operands, skip, left),
         Op::AndAlso(skip) => and_also(&mut machine.operands, skip, left),
@@ -159,7 +144,6 @@ pub(crate) fn operate<W: Outside>(
         Op::Print(count) => print(world, &mut machine.operands, count, left),
         Op::NewError => make_error(world, &mut machine.operands, left),
         Op::Import => import(world, &mut machine.operands, frame, left),
-        Op::Drop => drop_value(&mut machine.operands, left),
         Op::SetLocal(place) => set_local(
             &mut machine.operands,
             &mut machine.names,
@@ -223,6 +207,10 @@ pub(crate) fn operate<W: Outside>(
             left,
         ),
         Op::End => Ok(Turn::Returns(Value::Undefined)),
+        // What the loop over rows does itself.
+        Op::Step => Err(Stop::Memory),
+        Op::Own(_) => Err(Stop::Memory),
+        Op::Drop => Err(Stop::Memory),
         // What no function does.
         Op::SetName(_) => Err(Stop::Memory),
         Op::PrintAwaited => Err(Stop::Memory),

@@ -4,7 +4,7 @@ ghost use Rattle.esm_values.specs.Code.{value_of};
 ghost use Rattle.esm_values.specs.declared.value.Value.{Value};
 ghost use Rattle.esm_values.specs.Operators as spec;
 ghost use Rattle.esm_values.specs.Operators.{look_of};
-ghost use Rattle.esm_row_machine.specs.Changes.{Chooses, Gives, GoesWith, Popped, Threw};
+ghost use Rattle.esm_row_machine.specs.Changes.{Chooses, Gives, Popped, Threw};
 ghost use Rattle.esm_row_machine.specs.Naming.{FoundAt, GoesTo, SetsAt, WritesWhere, caught_by};
 ghost use Rattle.esm_row_machine.specs.Asking.{HeardWrite, WithName, Wrote};
 ghost use Rattle.esm_row_machine.specs.Outside as said;
@@ -17,16 +17,6 @@ use crate::turn::Turn;
 use esm_base::Memory;
 use esm_rewriting::Stop;
 use esm_values::{FaultKind, RcText, Value, is_true};
-
-/// The value on top goes.
-pub(crate) fn drop_value(operands: &mut Vec<Value>, left: usize) -> Result<Turn, Stop>
-    ensures { Popped operands.old.items (λ vs v r. GoesWith vs left r operands.new.items) result }
-{
-    match pop(operands) {
-        Ok(_value) => Ok(Turn::On(left)),
-        Err(Memory) => Err(Stop::Memory),
-    }
-}
 
 /// It is thrown.
 pub(crate) fn throw_value(operands: &mut Vec<Value>) -> Result<Turn, Stop>

@@ -177,7 +177,8 @@ ArePlain [] = Unit {0}
 ArePlain (t ∷ ts) = IsPlain t × ArePlain ts
 
 -- these operations are there, and with what is still to be put in front they make this row
-pub record LeadsTo (names : Names) (exprs : List Expr) (tasks : List Task) (texts : List (List ℕ)) (ops : List Op) (made : Row) : Type 0 where
+pub record LeadsTo (names : Names) (exprs : List Expr) (tasks : List Task) (texts : List (List ℕ)) (ops : List Op) (made : Row)
+    : Type 0 where
   pub row : Row
   pub told : AreTold [] texts ops row
   pub makes : undone names exprs tasks row ≡ made
@@ -188,8 +189,10 @@ module _ (names : Names) (exprs : List Expr) where
   pub record TasksMake : Type 0 where
     pub more : (ts : List Task) (t : Task) (c : Row) → undone names exprs (ts ++ t ∷ []) c ≡ undone names exprs ts (step names exprs t c)
     pub parts : (ids : List ExprId) (c : Row) → undone names exprs (flat_map part_tasks ids) c ≡ exprs_row names (expr_parts exprs ids) c
-    pub ors : (left : ℕ) (ids : List ExprId) (c : Row) → undone names exprs (flat_map (or_tasks left) ids) c ≡ ors_row names (expr_parts exprs ids) left c
-    pub ands : (left : ℕ) (ids : List ExprId) (c : Row) → undone names exprs (flat_map (and_tasks left) ids) c ≡ ands_row names (expr_parts exprs ids) left c
+    pub ors : (left : ℕ) (ids : List ExprId) (c : Row)
+        → undone names exprs (flat_map (or_tasks left) ids) c ≡ ors_row names (expr_parts exprs ids) left c
+    pub ands : (left : ℕ) (ids : List ExprId) (c : Row)
+        → undone names exprs (flat_map (and_tasks left) ids) c ≡ ands_row names (expr_parts exprs ids) left c
     pub sums : (ids : List ExprId) (c : Row) → undone names exprs (flat_map sum_tasks ids) c ≡ sums_row names (expr_parts exprs ids) c
     pub compared : (cs : List (Bool × ExprId)) (c : Row)
         → undone names exprs (flat_map compare_tasks cs) c ≡ compared_row names (compared_parts exprs cs) c

@@ -89,7 +89,8 @@ ArePlainWorks [] = Unit {0}
 ArePlainWorks (work ∷ works) = IsPlainWork work × ArePlainWorks works
 
 -- these operations are there; where what is owed is put in front, and then what is still to be done, they make this row
-pub record Owes (exprs : List Expr) (stmts : List Stmt) (names : Names) (works : List Work) (texts : List (List ℕ)) (ops : List Op) (owed : Row
+pub record Owes (exprs : List Expr) (stmts : List Stmt) (names : Names) (works : List Work) (texts : List (List ℕ)) (ops : List Op)
+    (owed : Row
     → Row) (made : Row) : Type 0 where
   pub row : Row
   pub told : AreTold [] texts ops row

@@ -7,9 +7,7 @@ use Rattle.esm_base.specs.declared.status.Status.{Status}
 use Rattle.esm_base.specs.declared.status.Status.TheVariants.{Memory}
 use Rattle.esm_ports.specs.declared.asked.Asked.{Asked}
 use Rattle.esm_ports.specs.declared.asked.AskKind.TheVariants as kinds
-use Rattle.esm_ports.specs.declared.sure_source.SureSource.{SureSource}
 use Rattle.esm_ports.specs.Asks.{failed_count}
-use Rattle.esm_ports.specs.Files.{held_at}
 use Rattle.esm_ast.specs.Deliveries.{Delivery}
 use Rattle.esm_ast.specs.Outcome.{OutcomeView, Script, Broken, Absent, Failed}
 use Rattle.esm_base.specs.Urls.{Url}
@@ -22,6 +20,7 @@ use Rattle.esm_world.specs.Laws.{HasStandardRun}
 use Rattle.esm_fetch.specs.Answered.{Contents, IsRead, IsToldOutcome, kind_of}
 use Rattle.esm_machine.specs.Machine.{MachineParts}
 use Rattle.esm_arguments.specs.declared.command.Generation.{Generation}
+use Rattle.esm_gen.specs.declared.source.GeneratedSource.{GeneratedSource}
 use Rattle.esm_gen.specs.Generated.{generated_at, module_url}
 use Rattle.esm_gen.specs.declared.summary.Summary.{Summary}
 use Rattle.esm_run.specs.Taken.{ask_of, WasDelivered}
@@ -57,8 +56,8 @@ no_failed (a ∷ asked) ask none (zero, within, is) failed =
     omega (arith, more)
 no_failed (a ∷ asked) ask none (suc k, within, is) failed = no_failed asked ask (omega (arith, none)) (k, omega arith, is) failed
 
-of_file : (generation : Generation) (source : SureSource) (url : List ℕ) (outcome : OutcomeView) → HoldsGenerated generation source → kind_of outcome ≢ kinds.Failed
-    → IsToldOutcome (held_at source.files) url outcome → IsOfFile (generated_at generation.start generation.count url) outcome
+of_file : (generation : Generation) (source : GeneratedSource) (url : List ℕ) (outcome : OutcomeView) → HoldsGenerated generation source → kind_of outcome ≢ kinds.Failed
+    → IsToldOutcome (generated_at source.start source.count) url outcome → IsOfFile (generated_at generation.start generation.count url) outcome
 of_file generation source url (Script text) holds fine told = subst (λ held. IsSomeAnd held (λ bytes. text.bytes ≡ take MAX_BODY_BYTES bytes)) (holds url) told
 of_file generation source url (Broken broken) holds fine told = subst (λ held. IsSomeAnd held (λ bytes. broken.bytes ≡ take MAX_BODY_BYTES bytes)) (holds url) told
 of_file generation source url Absent holds fine told = sym (holds url) ∙ told
@@ -69,18 +68,18 @@ abbrev pub HoldsFiles : Generation → Option Contents → Type 0
 HoldsFiles generation None = ⊥
 HoldsFiles generation (Some contents) = (url : List ℕ) → contents url ≡ generated_at generation.start generation.count url
 
-abbrev holds_of : SureSource → Option Contents
-holds_of source = Some (held_at source.files)
+abbrev holds_of : GeneratedSource → Option Contents
+holds_of source = Some (generated_at source.start source.count)
 
 unmap : {X Y : Type 0} (P : Y → Type 0) (f : X → Y) (xs : List X) → All P (map f xs) → All (λ x. P (f x)) xs
 unmap P f [] h = All-nil (λ x. P (f x))
 unmap P f (x ∷ xs) h = All-cons (λ x. P (f x)) x xs (h 0 (f x) (omega arith)) (unmap P f xs (λ k d within. h (suc k) d (omega arith)))
 
-kept_all : (generation : Generation) (given back : List SureSource) → map holds_of back ≡ map holds_of given → All (HoldsGenerated generation) given → All (HoldsGenerated generation) back
+kept_all : (generation : Generation) (given back : List GeneratedSource) → map holds_of back ≡ map holds_of given → All (HoldsGenerated generation) given → All (HoldsGenerated generation) back
 kept_all generation given back kept holds =
     unmap (HoldsFiles generation) holds_of back (subst (All (HoldsFiles generation)) (sym kept) (All-map (HoldsFiles generation) holds_of given holds))
 
-delivered_of : (generation : Generation) (back : List SureSource) → All (HoldsGenerated generation) back → (d : Delivery) → WasDelivered (λ (s : SureSource). s.asked) holds_of back d → IsGenerated generation d
+delivered_of : (generation : Generation) (back : List GeneratedSource) → All (HoldsGenerated generation) back → (d : Delivery) → WasDelivered (λ (s : GeneratedSource). s.asked) holds_of back d → IsGenerated generation d
 delivered_of generation back holds d (k, source, within, is, (asked, told)) =
     of_file generation source d.url d.outcome (subst (HoldsGenerated generation) is (holds k source within)) (no_failed source.asked (ask_of d) source.sure asked) told
 
@@ -91,8 +90,8 @@ pub unsummed : (machine : Option MachineParts) (count : ℕ) (sink : SinkChange)
 unsummed None count sink unwritten = (refl, unwritten)
 unsummed (Some machine) count sink unwritten = λ maps entry trace deliveries what represents run. inl (refl, unwritten)
 
-pub generated_run : HasStandardRun → (generation : Generation) (maps : Maps) (entry : Url) (machine : Option MachineParts) (taken : List Delivery) (status : Status) (sink : SinkChange) (given back : List SureSource)
-    → maps ≡ no_maps → entry ≡ module_url 0 → IsGraphRun (λ (s : SureSource). s.asked) holds_of maps entry false generation.workers machine taken given back → All (HoldsGenerated generation) given
+pub generated_run : HasStandardRun → (generation : Generation) (maps : Maps) (entry : Url) (machine : Option MachineParts) (taken : List Delivery) (status : Status) (sink : SinkChange) (given back : List GeneratedSource)
+    → maps ≡ no_maps → entry ≡ module_url 0 → IsGraphRun (λ (s : GeneratedSource). s.asked) holds_of maps entry false generation.workers machine taken given back → All (HoldsGenerated generation) given
     → EndsGenerated machine generation.count status sink → RunsGenerated generation taken status sink
 generated_run has_run generation maps entry machine taken status sink given back maps_are entry_is graph holds ends = by machine ends_so ends
   where
@@ -101,7 +100,7 @@ generated_run has_run generation maps entry machine taken status sink given back
         (subst (λ (e : Url). EndsDriven (λ delivery. IsRead delivery.outcome) maps e false machine taken) entry_is graph.ends)
 
     each : All (IsGenerated generation) taken
-    each = All-weaker (WasDelivered (λ (s : SureSource). s.asked) holds_of back) (IsGenerated generation) (delivered_of generation back (kept_all generation given back graph.asked_once.kept holds)) taken graph.true_record.delivered
+    each = All-weaker (WasDelivered (λ (s : GeneratedSource). s.asked) holds_of back) (IsGenerated generation) (delivered_of generation back (kept_all generation given back graph.asked_once.kept holds)) taken graph.true_record.delivered
 
     by : (m : Option MachineParts) → EndsDriven (λ delivery. IsRead delivery.outcome) no_maps (module_url 0) false m taken → EndsGenerated m generation.count status sink → RunsGenerated generation taken status sink
     by None short (memory, unwritten) =

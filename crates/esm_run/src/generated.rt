@@ -15,34 +15,25 @@ use crate::report::RunReport;
 use crate::workers::{GraphEnd, run_graph};
 use esm_arguments::Generation;
 use esm_base::{Memory, Status, Text};
-use esm_gen::{Summary, entry_url, files};
+use esm_gen::{GeneratedSource, Summary, entry_url};
 use esm_import_map::ImportMap;
 use esm_machine::Machine;
-use esm_ports::{Sink, SureSource};
+use esm_ports::Sink;
 use esm_world::laws;
 use std::alloc::Global;
 use std::marker::Sync;
 use std::sync::Wait;
 use std::thread::Threads;
 
-// One source of the generated files.
-fn generated_source(alloc: Global, generation: &Generation) -> Result<SureSource, Memory>
-    ensures fresh { IfOk result (λ s. s.asked ≡ []) }
-    ensures holds { IfOk result (HoldsGenerated generation.now) }
-{
-    let held = files(alloc, generation.start, generation.count)?;
-    SureSource::new(alloc, held)
-}
-
 // A source of the generated files for each worker.
-fn generated_sources(alloc: Global, generation: &Generation) -> Result<Vec<SureSource>, Memory>
+fn generated_sources(alloc: Global, generation: &Generation) -> Result<Vec<GeneratedSource>, Memory>
     ensures many { IfOk result (λ v. vec_len v ≡ generation.now.workers) }
     ensures fresh { IfOk result (λ v. All (λ s. s.asked ≡ []) v.items) }
     ensures holds { IfOk result (λ v. All (HoldsGenerated generation.now) v.items) }
 {
     let mut sources = Vec::new(alloc);
     for _ in 0..generation.workers {
-        sources.push(generated_source(alloc, generation)?)?;
+        sources.push(GeneratedSource::new(alloc, generation.start, generation.count))?;
     }
     Ok(sources)
 }
@@ -112,7 +103,7 @@ fn end_generated<K: Sink>(
 #[derive(Drop)]
 struct Prepared {
     entry: Text,
-    sources: Vec<SureSource>,
+    sources: Vec<GeneratedSource>,
 }
 
 // All that a run over generated input begins with.

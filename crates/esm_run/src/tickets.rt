@@ -73,7 +73,6 @@ fn number_of(asked: Asked) -> u32
 fn ask_one<R: Wait>(
     rt: &R,
     modules: &ModuleMap<Posted>,
-    bell: &Bell,
     caller: &mut Caller<Posted>,
     url: Text,
     tickets: &mut Vec<Ticket>,
@@ -101,7 +100,6 @@ fn ask_one<R: Wait>(
     let Ok(asked) = modules.ask(rt, caller, &url, Why::Wanted) else {
         return Err(Memory);
     };
-    bell.ring_for_order(rt);
     let ticket = Ticket {
         url,
         number: number_of(asked),
@@ -128,7 +126,6 @@ fn ask_at(machine: &Machine, place: usize) -> Result<Option<Text>, Memory>
 fn ask_next<R: Wait>(
     rt: &R,
     modules: &ModuleMap<Posted>,
-    bell: &Bell,
     caller: &mut Caller<Posted>,
     machine: &Machine,
     tickets: &mut Vec<Ticket>,
@@ -161,14 +158,51 @@ fn ask_next<R: Wait>(
     let Some(url) = found else {
         return Ok(false);
     };
-    let Ok(()) = ask_one(rt, modules, bell, caller, url, tickets) else {
+    let Ok(()) = ask_one(rt, modules, caller, url, tickets) else {
         return Err(Memory);
     };
     Ok(true)
 }
 
-/// Asks the map for the machine's open asks in their order, up to the window, where no more than half of it is full. The
-/// tickets are those of the first of them.
+// Asks the map for the machine's open asks in their order, up to the window.
+fn ask_more<R: Wait>(
+    rt: &R,
+    modules: &ModuleMap<Posted>,
+    caller: &mut Caller<Posted>,
+    machine: &Machine,
+    tickets: &mut Vec<Ticket>,
+) -> Result<(), Memory>
+    requires own { table_of modules.now.lock.table.shared.table_id caller.old.pass
+        ≡ modules.now.lock.table.shared.table_id }
+    requires tickets { All (HasTicket (view_in caller.old.pass).seen) tickets.old.items }
+    ensures own { table_of modules.now.lock.table.shared.table_id caller.new.pass
+        ≡ modules.now.lock.table.shared.table_id }
+    ensures same { Same (view_in caller.old.pass) (view_in caller.new.pass)
+        × (caller.new.number ≡ caller.old.number) }
+    ensures begins { Begins (view_in caller.old.pass).seen (view_in caller.new.pass).seen }
+    ensures kept { KeepsServing caller.old.number (view_in caller.old.pass).seen
+        (view_in caller.new.pass).seen }
+    ensures asks { (maps : Maps) (entry : List ℕ) (trace : Bool) (taken : List Delivery)
+        → Represents maps entry trace (state_of machine.now) taken
+        → AsksOn maps entry trace taken caller.old.number (view_in caller.old.pass).seen
+        (view_in caller.new.pass).seen }
+    ensures tickets { OnOk result (All (HasTicket (view_in caller.new.pass).seen)
+        tickets.new.items) }
+    ensures window { length tickets.old.items ≤ 32 → length tickets.new.items ≤ 32 }
+{
+    for _ in 0..WINDOW {
+        let Ok(more) = ask_next(rt, modules, caller, machine, tickets) else {
+            return Err(Memory);
+        };
+        if !more {
+            return Ok(());
+        }
+    }
+    Ok(())
+}
+
+/// The same, where no more than half of the window is full, and rings the bell once for all that was asked. The tickets are
+/// those of the first open asks.
 pub(crate) fn ask_open<R: Wait>(
     rt: &R,
     modules: &ModuleMap<Posted>,
@@ -195,18 +229,13 @@ pub(crate) fn ask_open<R: Wait>(
         tickets.new.items) }
     ensures window { length tickets.old.items ≤ 32 → length tickets.new.items ≤ 32 }
 {
-    if tickets.len() > REFILL {
+    let before = tickets.len();
+    if before > REFILL {
         return Ok(());
     }
-    for _ in 0..WINDOW {
-        let Ok(more) = ask_next(rt, modules, bell, caller, machine, tickets) else {
-            return Err(Memory);
-        };
-        if !more {
-            return Ok(());
-        }
-    }
-    Ok(())
+    let asked = ask_more(rt, modules, caller, machine, tickets);
+    bell.ring_for_orders(rt, tickets.len().saturating_sub(before));
+    asked
 }
 
 // Whether some ticket has this number.
@@ -287,8 +316,8 @@ pub(crate) fn hear<R: Wait>(
     unreachable!()
 }
 
-/// The same where nothing is known that isn't delivered. Else nothing is done, so that the lock is entered once for all that
-/// was posted meanwhile.
+/// The same where nothing is known that isn't delivered. Else nothing is done, so that what was posted meanwhile is heard
+/// in a row: the lock is entered once for each number, and once more.
 pub(crate) fn hear_next<R: Wait>(
     rt: &R,
     modules: &ModuleMap<Posted>,

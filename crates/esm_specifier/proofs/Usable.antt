@@ -57,12 +57,11 @@ pub whole_key : (n : ℕ) (text : List ℕ) → n ≡ length text → bytes_eq (
 whole_key n text e = (bytes_eq-Decides (take n text) text).1 (ap (λ m. take m text) e ∙ take-length text)
 
 -- a key that is the text gives its address
-pub follow_whole : (result : Result (List ℕ) (End SpecFault)) (normal key text : List ℕ) (o : Option Parts) (address : Parts) → o ≡ Some address → bytes_eq key normal ≡ true → text ≡ serialize address → Gives result (usable (good text)) → Gives result (usable (by_address normal key o))
-follow_whole result normal key text o address is same shown t =
+pub follow_whole : (result : Result (List ℕ) (End SpecFault)) (normal key : List ℕ) (o : Option Parts) (address : Parts) → o ≡ Some address → bytes_eq key normal ≡ true → Gives result (usable (good (serialize address))) → Gives result (usable (by_address normal key o))
+follow_whole result normal key o address is same t =
     let P : Option Parts → Type 0 = λ p. Gives result (usable (by_address normal key p)) in
     let Q : Bool → Type 0 = λ b. Gives result (usable (if b then Ok (serialize address) else under (serialize address) (url_of (Some address) (drop (length key) normal)))) in
-    let R : List ℕ → Type 0 = λ u. Gives result (usable (good u)) in
-    subst P (sym is) (subst Q (sym same) (subst R shown t))
+    subst P (sym is) (subst Q (sym same) t)
 
 -- ---- laws
 

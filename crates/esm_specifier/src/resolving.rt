@@ -2,24 +2,44 @@
 ghost use Rattle.std.specs.Prelude.{◌≡◌, true, take, IfOk, None, option_copied, Ok, Some};
 ghost use Rattle.std.specs.Str.{IsCharBoundary};
 ghost use Rattle.esm_base.specs.Ends.{Gives};
-ghost use Rattle.esm_base.specs.Urls.{IsCanonical, IsUsable, url_of};
+ghost use Rattle.url.specs.Parts.{kind_of, serialize};
+ghost use Rattle.url.specs.declared.scheme.SchemeType.TheVariants.{SpecialNotFile};
+ghost use Rattle.esm_base.specs.Urls.{IsCanonical, IsUsable, is_usable as is_usable_text, url_of};
 ghost use Rattle.esm_specifier.specs.Resolution as spec;
 
 use crate::fault::{SpecEnd, SpecFault};
 use crate::lookup::find;
-use esm_base::{Text, is_usable, parse_absolute, parse_against};
+use esm_base::{MAX_URL_BYTES, Memory, Text, is_usable, parse_absolute, parse_against};
 use esm_import_map::{ImportMap, url_like};
 use std::alloc::Global;
 use url::Url;
 
-// The answer, if it may be used.
-fn usable(alloc: Global, text: &str) -> Result<Text, SpecEnd>
-    ensures { Gives result (spec.usable (Ok text.now)) }
+// Whether a URL is special and no `file` URL. The parser reads the text of such a URL as that URL.
+fn is_web(url: &Url) -> bool
+    ensures { result ≡ true → kind_of url.now ≡ SpecialNotFile }
 {
-    if !is_usable(alloc, text)? {
+    url.is_special() && url.scheme() != "file"
+}
+
+// Whether the text of a URL may name a module. That of a web URL is canonical, and isn't parsed again.
+fn names_module(alloc: Global, url: &Url) -> Result<bool, Memory>
+    ensures { IfOk result (λ b. b ≡ is_usable_text (serialize url.now)) }
+{
+    let text = url.as_str();
+    if is_web(url) {
+        return Ok(text.len() <= MAX_URL_BYTES);
+    }
+    is_usable(alloc, text)
+}
+
+// The answer, if it may be used.
+fn usable(alloc: Global, url: &Url) -> Result<Text, SpecEnd>
+    ensures { Gives result (spec.usable (Ok (serialize url.now))) }
+{
+    if !names_module(alloc, url)? {
         return Err(SpecEnd::Fault(SpecFault::S5));
     }
-    Ok(Text::copy(alloc, text)?)
+    Ok(Text::copy(alloc, url.as_str())?)
 }
 
 // What the address of a key leads to.
@@ -37,7 +57,7 @@ fn follow(
         return Err(SpecEnd::Fault(SpecFault::S1));
     };
     if key_len == normal.len() {
-        return usable(alloc, address.as_str());
+        return usable(alloc, address);
     }
     let (_, rest) = normal.split_at(key_len);
     let Some(url) = parse_against(address, rest)? else {
@@ -47,7 +67,7 @@ fn follow(
     if !text.starts_with(front) {
         return Err(SpecEnd::Fault(SpecFault::S3));
     }
-    usable(alloc, url.as_str())
+    usable(alloc, &url)
 }
 
 // What a specifier without a match resolves to.
@@ -55,7 +75,7 @@ fn by_itself(alloc: Global, url: Option<&Url>) -> Result<Text, SpecEnd>
     ensures { Gives result (spec.usable (spec.by_itself (option_copied url.entry))) }
 {
     match url {
-        Some(url) => usable(alloc, url.as_str()),
+        Some(url) => usable(alloc, url),
         None => Err(SpecEnd::Fault(SpecFault::S4)),
     }
 }

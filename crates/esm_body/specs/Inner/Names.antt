@@ -1,6 +1,5 @@
 -- Reading the names of code under way.
-use Rattle.std.specs.Prelude.{◌≡◌, ◌≤◌, ℕ, suc, List, [], ◌∷◌, slice_get, Option, Some, None, Result, Ok, Err, if◌then◌else◌, option_map}
-use Rattle.std.specs.Str.{bytes_eq}
+use Rattle.std.specs.Prelude.{◌≡◌, ◌≤◌, ℕ, suc, List, slice_get, Option, Some, None, Result, Ok, Err}
 use Rattle.esm_values.specs.Value.{Error}
 use Rattle.esm_values.specs.Code.{CodeValue, value_of}
 use Rattle.esm_values.specs.Completion.{Completion, Normal, Throw}
@@ -17,6 +16,7 @@ use Rattle.esm_env.specs.Slots.{valued_by}
 use Rattle.esm_env.specs.Scopes.{Scopes, read_or, read_in}
 use Rattle.esm_rewriting.specs.Scopes.{Scope, in_scopes}
 use Rattle.esm_rewriting.specs.Acts.{not_initialized, not_defined}
+use Rattle.esm_body.specs.Inner.SlotPlaces.{slot_place}
 use Rattle.esm_body.specs.declared.names.Found.{Found}
 use Rattle.esm_body.specs.declared.names.Found.TheVariants as found
 use Rattle.esm_body.specs.declared.work.Slot.{Slot}
@@ -37,18 +37,10 @@ reading_in ss e m x = read_or (in_scopes ss x) (read_in e m x)
 
 -- ---- places
 
--- the first place of the name
-abbrev pub slot_place : List Slot → List ℕ → Option ℕ
-slot_place [] x = None
-slot_place (s ∷ ss) x = if bytes_eq s.name x then Some 0 else option_map suc (slot_place ss x)
-
-abbrev pub IsSlotPlace : List Slot → List ℕ → Option ℕ → Type 0
-IsSlotPlace slots x at = slot_place slots x ≡ at
-
 -- the place of the name in the level with this number, if there is one
 abbrev pub place_in : Option Level → List ℕ → Option ℕ
 place_in None x = None
-place_in (Some l) x = slot_place l.slots.items x
+place_in (Some l) x = slot_place l.slots x
 
 abbrev pub place_at : List Level → ℕ → List ℕ → Option ℕ
 place_at levels k x = place_in (slice_get levels k) x

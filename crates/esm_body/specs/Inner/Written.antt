@@ -19,6 +19,7 @@ use Rattle.esm_body.specs.SameScopes.{HaveSameScopes}
 use Rattle.esm_rewriting.specs.Scopes.{Scope, in_scopes, set_in, set_in_scopes}
 use Rattle.esm_rewriting.specs.State.{Importing}
 use Rattle.esm_rewriting.specs.Acts.{set_name, write_name, not_initialized, not_defined, is_constant}
+use Rattle.esm_body.specs.Inner.SlotPlaces.{set_slot}
 use Rattle.esm_body.specs.Inner.Stack.{scopes_round}
 use Rattle.esm_body.specs.Inner.Names.{place_at}
 use Rattle.esm_body.specs.Inner.World.{inner_of, HasScopes}
@@ -28,15 +29,9 @@ use Rattle.esm_body.specs.declared.work.Level.{Level}
 
 -- ---- levels
 
--- the slot at a place has this value
-abbrev pub set_slot : List Slot → ℕ → Value → List Slot
-set_slot [] at v = []
-set_slot (s ∷ ss) zero v = record s { value = Some v } ∷ ss
-set_slot (s ∷ ss) (suc at) v = s ∷ set_slot ss at v
-
 -- one slot of a level has this value
 abbrev pub SlotSet : Level → ℕ → Value → Level → Type 0
-SlotSet l at v m = (m.kind ≡ l.kind) × (m.work ≡ l.work) × (m.slots.items ≡ set_slot l.slots.items at v)
+SlotSet l at v m = (m.kind ≡ l.kind) × (m.work ≡ l.work) × (m.slots ≡ set_slot l.slots at v)
 
 -- one slot of one level has this value, and all else is as before
 abbrev pub LevelSet : List Level → ℕ → ℕ → Value → List Level → Type 0
@@ -65,7 +60,7 @@ slot_wrote s = wrote_set s.constant (valued_by s.value)
 
 abbrev pub SlotWritten : List Level → ℕ → ℕ → Value → Wrote → List Level → Type 0
 SlotWritten old level at v result new =
-    ((d : Level) × (e : Slot) × (result ≡ slot_wrote (slice_index_or (slice_index_or old level d).slots.items at e)))
+    ((d : Level) × (e : Slot) × (result ≡ slot_wrote (slice_index_or (slice_index_or old level d).slots at e)))
     × LevelWrote old level at v result new
 
 -- a slot with this place is set, if there is one

@@ -21,6 +21,6 @@ open_places first (s ∷ ss) = open_place_by (is_open s.state) first (open_place
 pub record AreIndexed (numbers : BTreeMap Url ℕ) (slots : List Slot) (asks : OpenAsks) (bytes : ℕ) : Type 0 where
   pub found : (u : Url) → get url_cmp numbers u ≡ place_in (urls_of slots) u
   pub few : length slots ≤ MAX_URLS
-  pub urls : asks.urls.items ≡ open_urls slots
-  pub places : asks.places.items ≡ open_places 0 slots
+  pub urls : asks.urls ≡ open_urls slots
+  pub places : asks.places ≡ open_places 0 slots
   pub few_bytes : bytes ≤ MAX_DELIVERED_BYTES

@@ -32,9 +32,9 @@ open_slot url = record { url = url; state = states.Open }
 -- the ask with this place is open no more
 pub record Closes (old new : OpenAsks) (place : ℕ) : Type 0 where
   pub at : ℕ
-  pub found : slice_get old.places.items at ≡ Some place
-  pub urls : new.urls.items ≡ remove old.urls.items at
-  pub places : new.places.items ≡ remove old.places.items at
+  pub found : slice_get old.places at ≡ Some place
+  pub urls : new.urls ≡ remove old.urls at
+  pub places : new.places ≡ remove old.places at
 
 -- the URL is found at this place now, and all others as before
 abbrev pub PutsPlace : Url → ℕ → BTreeMap Url ℕ → BTreeMap Url ℕ → Type 0

@@ -2,9 +2,8 @@
 use Rattle.std.specs.Prelude.{◌≡◌, ℕ, List, Option, Some, None}
 use Rattle.esm_base.specs.declared.status.Status.{Status}
 use Rattle.esm_base.specs.declared.status.Status.TheVariants.{Memory}
-use Rattle.esm_ports.specs.Files.{held_at}
-use Rattle.esm_ports.specs.declared.sure_source.SureSource.{SureSource}
 use Rattle.esm_arguments.specs.declared.command.Generation.{Generation}
+use Rattle.esm_gen.specs.declared.source.GeneratedSource.{GeneratedSource}
 use Rattle.esm_gen.specs.Generated.{generated_at}
 use Rattle.esm_machine.specs.Machine.{MachineParts, state_of}
 use Rattle.esm_machine.specs.Represents.{ShownBy}
@@ -17,5 +16,5 @@ EndsGenerated None count status sink = (status ≡ Memory) × IsUnwritten sink
 EndsGenerated (Some machine) count status sink = ShownBy (state_of machine) (EndsSummed count status sink)
 
 -- the source holds the generated files
-abbrev pub HoldsGenerated : Generation → SureSource → Type 0
-HoldsGenerated generation source = (url : List ℕ) → held_at source.files url ≡ generated_at generation.start generation.count url
+abbrev pub HoldsGenerated : Generation → GeneratedSource → Type 0
+HoldsGenerated generation source = (url : List ℕ) → generated_at source.start source.count url ≡ generated_at generation.start generation.count url

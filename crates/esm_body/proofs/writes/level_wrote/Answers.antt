@@ -3,4 +3,4 @@ use Rattle.esm_body.specs.Inner.Written.{slot_wrote}
 use Rattle.esm_body.proofs.writes.level_wrote.Goals as goal
 
 pub returns : goal.returns
-returns c = (c.index.result.now, c.slot_wrote.ensures ∙ ap slot_wrote c.index.ensures)
+returns c = (c.get.result.now, c.slot_wrote.ensures ∙ ap slot_wrote (c.get.ensures c.get.result.now))

@@ -1,22 +1,18 @@
 use Rattle.std.proofs.Common.{refl}
 use Rattle.esm_row_machine.proofs.Coming.{comes}
 use Rattle.esm_row_machine.proofs.Literals.{text_told, truth, undefined}
-use Rattle.esm_row_machine.proofs.Deciding.{drop, turn_over, or_else, and_also}
+use Rattle.esm_row_machine.proofs.Deciding.{turn_over, or_else, and_also}
 use Rattle.esm_row_machine.proofs.Comparing.{compare, choose}
-use Rattle.esm_row_machine.proofs.Stepping.{step}
 use Rattle.esm_row_machine.proofs.Blocks.{enter, leave, enter_try, leave_try}
 use Rattle.esm_row_machine.proofs.Handlers.{catch, catch_unnamed}
 use Rattle.esm_row_machine.proofs.Locals.{read_local, set_local}
 use Rattle.esm_row_machine.proofs.Writing.{write_local, write_constant}
-use Rattle.esm_row_machine.proofs.ReadNames.{put_url, read_name, read_own}
+use Rattle.esm_row_machine.proofs.ReadNames.{put_url, read_name}
 use Rattle.esm_row_machine.proofs.Asked.{add, member, new_error, import, print}
 use Rattle.esm_row_machine.proofs.Assigned.{write_name}
 use Rattle.esm_row_machine.proofs.Leaving.{give, throw_value, end}
 use Rattle.esm_row_machine.proofs.AtCall.{call}
 use Rattle.esm_row_machine.proofs.turn.operate.Goals as goal
-
-pub returns-in-Step : goal.returns-in-Step
-returns-in-Step g c = λ at h ws st is. step g.W.Outside.state g.W.Outside.modules g.W.Outside.linked g.W.Outside.begins g.W.Outside.ready g.W.Outside.keeps g.W.Outside.owns (record { itself = g.met.W.Outside.keeps_itself; both = g.met.W.Outside.keeps_both; stays = g.met.W.Outside.stays }) c.args.world.now c.args.machine.now c.args.frame c.args.left h ws c.args.row.now.texts.items (rw c.in-Step.is at (comes g.W.Outside.state g.W.Outside.modules g.W.Outside.linked g.W.Outside.begins g.W.Outside.ready g.W.Outside.keeps g.W.Outside.owns c.args.world.now c.args.machine.now c.args.frame c.args.left h ws c.args.row.now c.args.op st is at)) c.step.new.world c.step.result c.step.ensures
 
 pub returns-in-Text : goal.returns-in-Text
 returns-in-Text g c = λ at h ws st is. text_told g.W.Outside.state g.W.Outside.modules g.W.Outside.linked g.W.Outside.begins g.W.Outside.ready g.W.Outside.keeps g.W.Outside.owns (record { itself = g.met.W.Outside.keeps_itself; both = g.met.W.Outside.keeps_both; stays = g.met.W.Outside.stays }) c.args.world.now c.args.machine.now c.args.frame c.args.left h ws c.args.row.now.texts.items c.in-Text.k (rw c.in-Text.is at (comes g.W.Outside.state g.W.Outside.modules g.W.Outside.linked g.W.Outside.begins g.W.Outside.ready g.W.Outside.keeps g.W.Outside.owns c.args.world.now c.args.machine.now c.args.frame c.args.left h ws c.args.row.now c.args.op st is at)) c.text_at.result c.text_at.ensures _ (refl, refl, refl) c.put_text.result c.put_text.ensures
@@ -72,14 +68,8 @@ returns-in-AndAlso g c = λ at h ws st is. and_also g.W.Outside.state g.W.Outsid
 pub returns-in-Not : goal.returns-in-Not
 returns-in-Not g c = λ at h ws st is. turn_over g.W.Outside.state g.W.Outside.modules g.W.Outside.linked g.W.Outside.begins g.W.Outside.ready g.W.Outside.keeps g.W.Outside.owns (record { itself = g.met.W.Outside.keeps_itself; both = g.met.W.Outside.keeps_both; stays = g.met.W.Outside.stays }) c.args.world.now c.args.machine.now c.args.frame c.args.left h ws c.args.row.now.texts.items (rw c.in-Not.is at (comes g.W.Outside.state g.W.Outside.modules g.W.Outside.linked g.W.Outside.begins g.W.Outside.ready g.W.Outside.keeps g.W.Outside.owns c.args.world.now c.args.machine.now c.args.frame c.args.left h ws c.args.row.now c.args.op st is at)) _ (refl, refl, refl) c.turn_over.result c.turn_over.ensures
 
-pub returns-in-Drop : goal.returns-in-Drop
-returns-in-Drop g c = λ at h ws st is. drop g.W.Outside.state g.W.Outside.modules g.W.Outside.linked g.W.Outside.begins g.W.Outside.ready g.W.Outside.keeps g.W.Outside.owns (record { itself = g.met.W.Outside.keeps_itself; both = g.met.W.Outside.keeps_both; stays = g.met.W.Outside.stays }) c.args.world.now c.args.machine.now c.args.frame c.args.left h ws c.args.row.now.texts.items (rw c.in-Drop.is at (comes g.W.Outside.state g.W.Outside.modules g.W.Outside.linked g.W.Outside.begins g.W.Outside.ready g.W.Outside.keeps g.W.Outside.owns c.args.world.now c.args.machine.now c.args.frame c.args.left h ws c.args.row.now c.args.op st is at)) _ (refl, refl, refl) c.drop_value.result c.drop_value.ensures
-
 pub returns-in-Url : goal.returns-in-Url
 returns-in-Url g c = λ at h ws st is. put_url g.W.Outside.state g.W.Outside.modules g.W.Outside.linked g.W.Outside.begins g.W.Outside.ready g.W.Outside.keeps g.W.Outside.owns (record { itself = g.met.W.Outside.keeps_itself; both = g.met.W.Outside.keeps_both; stays = g.met.W.Outside.stays }) c.args.world.now c.args.machine.now c.args.frame c.args.left h ws c.args.row.now.texts.items (rw c.in-Url.is at (comes g.W.Outside.state g.W.Outside.modules g.W.Outside.linked g.W.Outside.begins g.W.Outside.ready g.W.Outside.keeps g.W.Outside.owns c.args.world.now c.args.machine.now c.args.frame c.args.left h ws c.args.row.now c.args.op st is at)) _ (refl, refl, refl) c.put_url.result c.put_url.ensures
-
-pub returns-in-Own : goal.returns-in-Own
-returns-in-Own g c = λ at h ws st is. read_own g.W.Outside.state g.W.Outside.modules g.W.Outside.linked g.W.Outside.begins g.W.Outside.ready g.W.Outside.keeps g.W.Outside.owns (record { itself = g.met.W.Outside.keeps_itself; both = g.met.W.Outside.keeps_both; stays = g.met.W.Outside.stays }) c.args.world.now c.args.machine.now c.args.frame c.args.left h ws c.args.row.now.texts.items c.in-Own.place (rw c.in-Own.is at (comes g.W.Outside.state g.W.Outside.modules g.W.Outside.linked g.W.Outside.begins g.W.Outside.ready g.W.Outside.keeps g.W.Outside.owns c.args.world.now c.args.machine.now c.args.frame c.args.left h ws c.args.row.now c.args.op st is at)) c.read_own.new.world _ (refl, refl, refl) c.read_own.result c.read_own.ensures
 
 pub returns-in-Name : goal.returns-in-Name
 returns-in-Name g c = λ at h ws st is. read_name g.W.Outside.state g.W.Outside.modules g.W.Outside.linked g.W.Outside.begins g.W.Outside.ready g.W.Outside.keeps g.W.Outside.owns (record { itself = g.met.W.Outside.keeps_itself; both = g.met.W.Outside.keeps_both; stays = g.met.W.Outside.stays }) c.args.world.now c.args.machine.now c.args.frame c.args.left h ws c.args.row.now.texts.items c.in-Name.k (rw c.in-Name.is at (comes g.W.Outside.state g.W.Outside.modules g.W.Outside.linked g.W.Outside.begins g.W.Outside.ready g.W.Outside.keeps g.W.Outside.owns c.args.world.now c.args.machine.now c.args.frame c.args.left h ws c.args.row.now c.args.op st is at)) c.text_at-in-Name.result c.text_at-in-Name.ensures c.read_name.new.world _ (refl, refl, refl) c.read_name.result c.read_name.ensures

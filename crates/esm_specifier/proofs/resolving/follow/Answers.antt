@@ -4,4 +4,4 @@ use Rattle.esm_specifier.proofs.resolving.follow.Goals as goal
 
 pub returns-then-key_len-normal : goal.returns-then-key_len-normal
 returns-then-key_len-normal c =
-    follow_whole c.usable.result c.args.normal.now (take c.args.key_len c.args.normal.now) c.as_str.result.now c.args.address.now c.in-Some.address c.in-Some.is (whole_key c.args.key_len c.args.normal.now c.if-key_len-normal.true) c.as_str.ensures.value c.usable.ensures
+    follow_whole c.usable.result c.args.normal.now (take c.args.key_len c.args.normal.now) c.args.address.now c.in-Some.address c.in-Some.is (whole_key c.args.key_len c.args.normal.now c.if-key_len-normal.true) c.usable.ensures

@@ -19,22 +19,22 @@ not_missed xs i k x e inside below above = grind (arith, below i, above i)
 
 pub unreachable-requires : goal.unreachable-requires
 unreachable-requires c =
-    let xs = c.deref.result.now in
-    let rise = subst IsNonDecreasing (sym c.deref.ensures.value) c.requires.rise in
+    let xs = c.as_slice.result.now in
+    let rise = subst IsNonDecreasing (sym c.as_slice.ensures) c.requires.rise in
     let none = searched xs c.args.place (Err c.in-Err.field-0) c.in-Err.ensures.position (λ i j h l. rise i j 0 h l) in
-    let at = subst (λ ks. slice_get ks c.requires.listed.0 ≡ Some c.args.place) (sym c.deref.ensures.value) c.requires.listed.1 in
+    let at = subst (λ ks. slice_get ks c.requires.listed.0 ≡ Some c.args.place) (sym c.as_slice.ensures) c.requires.listed.1 in
     let inside = slice_get_within xs c.requires.listed.0 c.args.place at in
     let is = get_or_from_slice_get xs c.requires.listed.0 c.args.place 0 at in
     not_missed xs c.requires.listed.0 c.in-Err.field-0 c.args.place is inside none.1 none.2
 
 pub returns : goal.returns
 returns c =
-    let xs = c.deref.result.now in
-    let rise = subst IsNonDecreasing (sym c.deref.ensures.value) c.requires.rise in
+    let xs = c.as_slice.result.now in
+    let rise = subst IsNonDecreasing (sym c.as_slice.ensures) c.requires.rise in
     let found = searched xs c.args.place (Ok c.in-Ok.at) c.in-Ok.ensures.position (λ i j h l. rise i j 0 h l) in
     record {
       at = c.in-Ok.at;
-      found = subst (λ ks. slice_get ks c.in-Ok.at ≡ Some c.args.place) c.deref.ensures.value (at_place xs c.in-Ok.at c.args.place found.0 found.1);
-      urls = c.remove-in-Ok.ensures.items;
-      places = c.remove.ensures.items;
+      found = subst (λ ks. slice_get ks c.in-Ok.at ≡ Some c.args.place) c.as_slice.ensures (at_place xs c.in-Ok.at c.args.place found.0 found.1);
+      urls = c.remove-in-Ok.ensures;
+      places = c.remove.ensures;
     }

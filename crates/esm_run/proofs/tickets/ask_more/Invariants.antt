@@ -7,7 +7,7 @@ use Rattle.esm_machine.specs.Represents.{Represents}
 use Rattle.esm_module_map.specs.Views.{view_in, table_of, Same}
 use Rattle.esm_module_map.specs.Saying.{Begins}
 use Rattle.esm_run.specs.Inner.Leading.{HasTicket, KeepsServing, AsksOn}
-use Rattle.esm_run.proofs.tickets.ask_open.Given as goal
+use Rattle.esm_run.proofs.tickets.ask_more.Given as goal
 
 abbrev pub invariant-loop : goal.invariant-loop
 invariant-loop g l = record {

@@ -2,7 +2,7 @@ use Rattle.std.proofs.Common.{◌∙◌, subst, refl, ℕ}
 use Rattle.esm_module_map.specs.Views.{view_in}
 use Rattle.esm_run.specs.Inner.Leading.{AsksOn}
 use Rattle.esm_run.proofs.LeadLemmas.{begins_on, begins_same, keeps_at}
-use Rattle.esm_run.proofs.tickets.ask_open.Goals as goal
+use Rattle.esm_run.proofs.tickets.ask_more.Goals as goal
 
 pub loop-init : goal.loop-init
 loop-init g c = record { own = c.requires.own; same = (refl, refl, refl); number = refl; begins = begins_same _; kept = (refl, refl); asks = λ maps entry trace taken represents all. all; tickets = c.requires.tickets; window = λ few. few }

@@ -1,6 +1,6 @@
 use Rattle.std.proofs.Common.{sym, ◌∙◌, arith}
-use Rattle.esm_body.proofs.LevelNames.{place_first, place_no}
-use Rattle.esm_body.proofs.names.place.Goals as goal
+use Rattle.esm_body.proofs.SlotPlaces.{place_first, place_no}
+use Rattle.esm_body.proofs.slots.scan.Goals as goal
 
 pub returns-then-eq : goal.returns-then-eq
 returns-then-eq c =
