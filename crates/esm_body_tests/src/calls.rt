@@ -1,6 +1,11 @@
 // Worked bodies: calls, errors, throws and what takes them.
+use crate::running::Wrong;
 use esm_base::{Memory, Status};
 use esm_sites::{Row, first_wrong};
+use std::alloc::Global;
+use std::marker::Sync;
+use std::sync::Wait;
+use std::thread::Threads;
 
 /// Calls.
 const CALLS: &[Row] = &[
@@ -404,38 +409,42 @@ const SPELLINGS: &[Row] = &[
     },
 ];
 
-#[test]
-fn functions_are_called(rt: HostRuntime) -> Result<(), Memory> {
-    assert_eq!(rt; first_wrong(&rt, rt.alloc(), CALLS)?, None);
-    Ok(())
+fn functions_are_called<R: Threads + Wait + Sync>(rt: &R, alloc: Global) -> Wrong {
+    first_wrong(rt, alloc, CALLS)
+}
+
+fn errors_are_made<R: Threads + Wait + Sync>(rt: &R, alloc: Global) -> Wrong {
+    first_wrong(rt, alloc, MESSAGES)
+}
+
+fn throws_end_a_body<R: Threads + Wait + Sync>(rt: &R, alloc: Global) -> Wrong {
+    first_wrong(rt, alloc, THROWS)
+}
+
+fn handlers_take_throws<R: Threads + Wait + Sync>(rt: &R, alloc: Global) -> Wrong {
+    first_wrong(rt, alloc, HANDLERS)
+}
+
+fn returns_and_branches<R: Threads + Wait + Sync>(rt: &R, alloc: Global) -> Wrong {
+    first_wrong(rt, alloc, RETURNS)
+}
+
+fn texts_are_read_as_written<R: Threads + Wait + Sync>(rt: &R, alloc: Global) -> Wrong {
+    first_wrong(rt, alloc, SPELLINGS)
 }
 
 #[test]
-fn errors_are_made(rt: HostRuntime) -> Result<(), Memory> {
-    assert_eq!(rt; first_wrong(&rt, rt.alloc(), MESSAGES)?, None);
-    Ok(())
-}
-
-#[test]
-fn throws_end_a_body(rt: HostRuntime) -> Result<(), Memory> {
-    assert_eq!(rt; first_wrong(&rt, rt.alloc(), THROWS)?, None);
-    Ok(())
-}
-
-#[test]
-fn handlers_take_throws(rt: HostRuntime) -> Result<(), Memory> {
-    assert_eq!(rt; first_wrong(&rt, rt.alloc(), HANDLERS)?, None);
-    Ok(())
-}
-
-#[test]
-fn returns_and_branches(rt: HostRuntime) -> Result<(), Memory> {
-    assert_eq!(rt; first_wrong(&rt, rt.alloc(), RETURNS)?, None);
-    Ok(())
-}
-
-#[test]
-fn texts_are_read_as_written(rt: HostRuntime) -> Result<(), Memory> {
-    assert_eq!(rt; first_wrong(&rt, rt.alloc(), SPELLINGS)?, None);
+fn calls_and_throws(rt: HostRuntime) -> Result<(), Memory> {
+    let alloc = rt.alloc();
+    for wrong in [
+        functions_are_called(&rt, alloc)?,
+        errors_are_made(&rt, alloc)?,
+        throws_end_a_body(&rt, alloc)?,
+        handlers_take_throws(&rt, alloc)?,
+        returns_and_branches(&rt, alloc)?,
+        texts_are_read_as_written(&rt, alloc)?,
+    ] {
+        assert_eq!(rt; wrong, None);
+    }
     Ok(())
 }

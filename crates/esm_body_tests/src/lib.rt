@@ -10,6 +10,8 @@ mod limits;
 #[cfg(test)]
 mod names;
 #[cfg(test)]
+mod running;
+#[cfg(test)]
 mod steps;
 #[cfg(test)]
 mod values;

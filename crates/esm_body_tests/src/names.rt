@@ -1,6 +1,11 @@
 // Worked bodies: names, scopes and imports.
+use crate::running::Wrong;
 use esm_base::{Memory, Status};
 use esm_sites::{Row, first_wrong};
+use std::alloc::Global;
+use std::marker::Sync;
+use std::sync::Wait;
+use std::thread::Threads;
 
 /// The order of evaluation.
 const ORDERS: &[Row] = &[
@@ -497,38 +502,42 @@ const MEMBERS: &[Row] = &[
     },
 ];
 
-#[test]
-fn parts_are_evaluated_in_order(rt: HostRuntime) -> Result<(), Memory> {
-    assert_eq!(rt; first_wrong(&rt, rt.alloc(), ORDERS)?, None);
-    Ok(())
+fn parts_are_evaluated_in_order<R: Threads + Wait + Sync>(rt: &R, alloc: Global) -> Wrong {
+    first_wrong(rt, alloc, ORDERS)
+}
+
+fn names_are_unset_until_they_are_set<R: Threads + Wait + Sync>(rt: &R, alloc: Global) -> Wrong {
+    first_wrong(rt, alloc, UNSET)
+}
+
+fn names_hide_others<R: Threads + Wait + Sync>(rt: &R, alloc: Global) -> Wrong {
+    first_wrong(rt, alloc, SHADOWS)
+}
+
+fn names_are_written<R: Threads + Wait + Sync>(rt: &R, alloc: Global) -> Wrong {
+    first_wrong(rt, alloc, WRITES)
+}
+
+fn imports_are_live<R: Threads + Wait + Sync>(rt: &R, alloc: Global) -> Wrong {
+    first_wrong(rt, alloc, BINDINGS)
+}
+
+fn members_are_read<R: Threads + Wait + Sync>(rt: &R, alloc: Global) -> Wrong {
+    first_wrong(rt, alloc, MEMBERS)
 }
 
 #[test]
-fn names_are_unset_until_they_are_set(rt: HostRuntime) -> Result<(), Memory> {
-    assert_eq!(rt; first_wrong(&rt, rt.alloc(), UNSET)?, None);
-    Ok(())
-}
-
-#[test]
-fn names_hide_others(rt: HostRuntime) -> Result<(), Memory> {
-    assert_eq!(rt; first_wrong(&rt, rt.alloc(), SHADOWS)?, None);
-    Ok(())
-}
-
-#[test]
-fn names_are_written(rt: HostRuntime) -> Result<(), Memory> {
-    assert_eq!(rt; first_wrong(&rt, rt.alloc(), WRITES)?, None);
-    Ok(())
-}
-
-#[test]
-fn imports_are_live(rt: HostRuntime) -> Result<(), Memory> {
-    assert_eq!(rt; first_wrong(&rt, rt.alloc(), BINDINGS)?, None);
-    Ok(())
-}
-
-#[test]
-fn members_are_read(rt: HostRuntime) -> Result<(), Memory> {
-    assert_eq!(rt; first_wrong(&rt, rt.alloc(), MEMBERS)?, None);
+fn names_and_members(rt: HostRuntime) -> Result<(), Memory> {
+    let alloc = rt.alloc();
+    for wrong in [
+        parts_are_evaluated_in_order(&rt, alloc)?,
+        names_are_unset_until_they_are_set(&rt, alloc)?,
+        names_hide_others(&rt, alloc)?,
+        names_are_written(&rt, alloc)?,
+        imports_are_live(&rt, alloc)?,
+        members_are_read(&rt, alloc)?,
+    ] {
+        assert_eq!(rt; wrong, None);
+    }
     Ok(())
 }

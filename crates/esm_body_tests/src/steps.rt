@@ -1,7 +1,6 @@
 // Worked bodies that take as many steps as they may, and one more.
+use crate::running::{push_times, text_ends_so};
 use esm_base::{Memory, Status};
-use esm_ports::SureSink;
-use esm_sites::{add_named, run_over};
 use std::alloc::Global;
 use std::marker::Sync;
 use std::sync::Wait;
@@ -276,14 +275,6 @@ const JOINS: &[Form] = &[
     },
 ];
 
-/// Adds the same text so many times.
-pub fn push_times(text: &mut String, many: u64, piece: &str) -> Result<(), Memory> {
-    for _ in 0..many {
-        text.push_str(piece)?;
-    }
-    Ok(())
-}
-
 // Functions whose calls, as statements, take 100, 1,000, 10,000 and 100,000 steps.
 fn push_functions(text: &mut String) -> Result<(), Memory> {
     text.push_str("function f0(){")?;
@@ -324,28 +315,49 @@ fn body_of(alloc: Global, form: &Form, taken: u64) -> Result<String, Memory> {
     Ok(text)
 }
 
-// The first of these forms that doesn't run with just as many steps left as it takes, or runs with one fewer.
+// Whether the form, with so many steps taken before it, writes this text and ends so.
+fn form_ends_so<R: Threads + Wait + Sync>(
+    rt: &R,
+    alloc: Global,
+    form: &Form,
+    taken: u64,
+    output: &str,
+    status: Status,
+) -> Result<bool, Memory> {
+    let body = body_of(alloc, form, taken)?;
+    text_ends_so(rt, alloc, body.as_str(), output, status)
+}
+
+// Whether the form runs with just as many steps left as it takes, and meets the limit with one fewer.
+fn takes_its_steps<R: Threads + Wait + Sync>(
+    rt: &R,
+    alloc: Global,
+    form: &Form,
+) -> Result<bool, Memory> {
+    let most = MAX_STEPS.wrapping_sub(form.steps);
+    if !form_ends_so(rt, alloc, form, most, form.output, form.status)? {
+        return Ok(false);
+    }
+    let short = format!(in alloc; "{}Limit L3\n", form.short)?;
+    form_ends_so(
+        rt,
+        alloc,
+        form,
+        most.wrapping_add(1),
+        short.as_str(),
+        Status::Limit,
+    )
+}
+
+// The first of these forms of which that doesn't hold.
 fn first_wrong<R: Threads + Wait + Sync>(
     rt: &R,
     alloc: Global,
     forms: &[Form],
 ) -> Result<Option<&'static str>, Memory> {
     for form in forms {
-        let most = MAX_STEPS.wrapping_sub(form.steps);
-        let short = format!(in alloc; "{}Limit L3\n", form.short)?;
-        for (taken, output, status) in [
-            (most, form.output, form.status),
-            (most.wrapping_add(1), short.as_str(), Status::Limit),
-        ] {
-            let body = body_of(alloc, form, taken)?;
-            let mut files = Vec::new(alloc);
-            add_named(alloc, &mut files, "main.js", body.as_str())?;
-            let mut out = SureSink::new(alloc);
-            let report = run_over(rt, alloc, files, &mut out)?;
-            let holds = report.status == status && out.written() == output.as_bytes();
-            if !holds {
-                return Ok(Some(form.name));
-            }
+        if !takes_its_steps(rt, alloc, form)? {
+            return Ok(Some(form.name));
         }
     }
     Ok(None)
@@ -353,82 +365,55 @@ fn first_wrong<R: Threads + Wait + Sync>(
 
 #[test]
 fn blocks_take_their_steps_and_no_more(rt: HostRuntime) -> Result<(), Memory> {
-    let alloc = rt.alloc();
-    if let Some(name) = first_wrong(&rt, alloc, BLOCKS)? {
-        assert!(rt; false, "{name}");
-    }
+    assert_eq!(rt; first_wrong(&rt, rt.alloc(), BLOCKS)?, None);
     Ok(())
 }
 
 #[test]
 fn declarations_take_their_steps_and_no_more(rt: HostRuntime) -> Result<(), Memory> {
-    let alloc = rt.alloc();
-    if let Some(name) = first_wrong(&rt, alloc, DECLARATIONS)? {
-        assert!(rt; false, "{name}");
-    }
+    assert_eq!(rt; first_wrong(&rt, rt.alloc(), DECLARATIONS)?, None);
     Ok(())
 }
 
 #[test]
 fn branches_take_their_steps_and_no_more(rt: HostRuntime) -> Result<(), Memory> {
-    let alloc = rt.alloc();
-    if let Some(name) = first_wrong(&rt, alloc, BRANCHES)? {
-        assert!(rt; false, "{name}");
-    }
+    assert_eq!(rt; first_wrong(&rt, rt.alloc(), BRANCHES)?, None);
     Ok(())
 }
 
 #[test]
 fn handlers_take_their_steps_and_no_more(rt: HostRuntime) -> Result<(), Memory> {
-    let alloc = rt.alloc();
-    if let Some(name) = first_wrong(&rt, alloc, HANDLERS)? {
-        assert!(rt; false, "{name}");
-    }
+    assert_eq!(rt; first_wrong(&rt, rt.alloc(), HANDLERS)?, None);
     Ok(())
 }
 
 #[test]
 fn values_take_their_steps_and_no_more(rt: HostRuntime) -> Result<(), Memory> {
-    let alloc = rt.alloc();
-    if let Some(name) = first_wrong(&rt, alloc, VALUES)? {
-        assert!(rt; false, "{name}");
-    }
+    assert_eq!(rt; first_wrong(&rt, rt.alloc(), VALUES)?, None);
     Ok(())
 }
 
 #[test]
 fn prints_take_their_steps_and_no_more(rt: HostRuntime) -> Result<(), Memory> {
-    let alloc = rt.alloc();
-    if let Some(name) = first_wrong(&rt, alloc, PRINTS)? {
-        assert!(rt; false, "{name}");
-    }
+    assert_eq!(rt; first_wrong(&rt, rt.alloc(), PRINTS)?, None);
     Ok(())
 }
 
 #[test]
 fn calls_take_their_steps_and_no_more(rt: HostRuntime) -> Result<(), Memory> {
-    let alloc = rt.alloc();
-    if let Some(name) = first_wrong(&rt, alloc, CALLS)? {
-        assert!(rt; false, "{name}");
-    }
+    assert_eq!(rt; first_wrong(&rt, rt.alloc(), CALLS)?, None);
     Ok(())
 }
 
 #[test]
 fn exports_take_their_steps_and_no_more(rt: HostRuntime) -> Result<(), Memory> {
-    let alloc = rt.alloc();
-    if let Some(name) = first_wrong(&rt, alloc, EXPORTS)? {
-        assert!(rt; false, "{name}");
-    }
+    assert_eq!(rt; first_wrong(&rt, rt.alloc(), EXPORTS)?, None);
     Ok(())
 }
 
 #[test]
 fn joins_take_their_steps_and_no_more(rt: HostRuntime) -> Result<(), Memory> {
-    let alloc = rt.alloc();
-    if let Some(name) = first_wrong(&rt, alloc, JOINS)? {
-        assert!(rt; false, "{name}");
-    }
+    assert_eq!(rt; first_wrong(&rt, rt.alloc(), JOINS)?, None);
     Ok(())
 }
 
@@ -447,9 +432,21 @@ fn body_of_imports(alloc: Global, before: &str, many: u64) -> Result<String, Mem
     Ok(text)
 }
 
+// Whether a run over such a body writes this text, and ends so.
+fn imports_end_so<R: Threads + Wait + Sync>(
+    rt: &R,
+    alloc: Global,
+    before: &str,
+    many: u64,
+    output: &str,
+    status: Status,
+) -> Result<bool, Memory> {
+    let body = body_of_imports(alloc, before, many)?;
+    text_ends_so(rt, alloc, body.as_str(), output, status)
+}
+
 #[test]
 fn import_may_be_called_4096_times(rt: HostRuntime) -> Result<(), Memory> {
-    let alloc = rt.alloc();
     for (before, many, output, status) in [
         ("", 4096, "m\n", Status::Fulfilled),
         ("", 4097, "Limit L4\n", Status::Limit),
@@ -458,13 +455,8 @@ fn import_may_be_called_4096_times(rt: HostRuntime) -> Result<(), Memory> {
         // a specifier that isn't mapped is
         ("import(\"x\");", 4096, "Limit L4\n", Status::Limit),
     ] {
-        let body = body_of_imports(alloc, before, many)?;
-        let mut files = Vec::new(alloc);
-        add_named(alloc, &mut files, "main.js", body.as_str())?;
-        let mut out = SureSink::new(alloc);
-        let report = run_over(&rt, alloc, files, &mut out)?;
-        assert_eq!(rt; report.status, status, "{before} {many}");
-        assert!(rt; out.written() == output.as_bytes(), "{before} {many}");
+        let holds = imports_end_so(&rt, rt.alloc(), before, many, output, status)?;
+        assert!(rt; holds, "{before} {many}");
     }
     Ok(())
 }

@@ -1,6 +1,11 @@
 // Worked bodies: values, their display texts and operators, and the order of evaluation.
+use crate::running::Wrong;
 use esm_base::{Memory, Status};
 use esm_sites::{Row, first_wrong};
+use std::alloc::Global;
+use std::marker::Sync;
+use std::sync::Wait;
+use std::thread::Threads;
 
 /// What is printed.
 const PRINTED: &[Row] = &[
@@ -347,32 +352,37 @@ const COMPLAINTS: &[Row] = &[
     },
 ];
 
-#[test]
-fn values_are_printed(rt: HostRuntime) -> Result<(), Memory> {
-    assert_eq!(rt; first_wrong(&rt, rt.alloc(), PRINTED)?, None);
-    Ok(())
+fn values_are_printed<R: Threads + Wait + Sync>(rt: &R, alloc: Global) -> Wrong {
+    first_wrong(rt, alloc, PRINTED)
+}
+
+fn operators_of_truth<R: Threads + Wait + Sync>(rt: &R, alloc: Global) -> Wrong {
+    first_wrong(rt, alloc, LOGIC)
+}
+
+fn values_are_the_same<R: Threads + Wait + Sync>(rt: &R, alloc: Global) -> Wrong {
+    first_wrong(rt, alloc, SAME)
+}
+
+fn values_are_joined<R: Threads + Wait + Sync>(rt: &R, alloc: Global) -> Wrong {
+    first_wrong(rt, alloc, JOINS)
+}
+
+fn values_are_no_operands<R: Threads + Wait + Sync>(rt: &R, alloc: Global) -> Wrong {
+    first_wrong(rt, alloc, COMPLAINTS)
 }
 
 #[test]
-fn operators_of_truth(rt: HostRuntime) -> Result<(), Memory> {
-    assert_eq!(rt; first_wrong(&rt, rt.alloc(), LOGIC)?, None);
-    Ok(())
-}
-
-#[test]
-fn values_are_the_same(rt: HostRuntime) -> Result<(), Memory> {
-    assert_eq!(rt; first_wrong(&rt, rt.alloc(), SAME)?, None);
-    Ok(())
-}
-
-#[test]
-fn values_are_joined(rt: HostRuntime) -> Result<(), Memory> {
-    assert_eq!(rt; first_wrong(&rt, rt.alloc(), JOINS)?, None);
-    Ok(())
-}
-
-#[test]
-fn values_are_no_operands(rt: HostRuntime) -> Result<(), Memory> {
-    assert_eq!(rt; first_wrong(&rt, rt.alloc(), COMPLAINTS)?, None);
+fn values_and_operators(rt: HostRuntime) -> Result<(), Memory> {
+    let alloc = rt.alloc();
+    for wrong in [
+        values_are_printed(&rt, alloc)?,
+        operators_of_truth(&rt, alloc)?,
+        values_are_the_same(&rt, alloc)?,
+        values_are_joined(&rt, alloc)?,
+        values_are_no_operands(&rt, alloc)?,
+    ] {
+        assert_eq!(rt; wrong, None);
+    }
     Ok(())
 }
