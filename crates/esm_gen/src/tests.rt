@@ -1,6 +1,7 @@
 // Worked examples of generated input, and the ends of its range.
-use crate::{Summary, entry_url, files};
+use crate::{GeneratedSource, Summary, entry_url, files};
 use esm_base::{Memory, Status, Text};
+use esm_ports::{FetchEnd, Source};
 use std::alloc::Global;
 
 // The files' URLs and texts, one behind another.
@@ -55,6 +56,53 @@ fn the_last_of_many_modules(rt: HostRuntime) -> Result<(), Memory> {
         assert_eq!(rt; url.as_str(), "https://gen.test/m4095.js");
         assert!(rt; body.as_slice() == b"import \"./m4090.js\";\nprint(\"4095\");\n".as_slice());
     }
+    Ok(())
+}
+
+// What stands at a URL where 1 generates two modules; nothing where the text is empty. By hand from the rule: both await,
+// and the last import of each is the module 1.
+const OF_TWO: [(&str, &str); 9] = [
+    (
+        "https://gen.test/m0.js",
+        "import \"./m1.js\";\nimport \"./m1.js\";\nawait undefined;\nprint(\"0\");\n",
+    ),
+    (
+        "https://gen.test/m1.js",
+        "import \"./m1.js\";\nawait undefined;\nprint(\"1\");\n",
+    ),
+    ("https://gen.test/m2.js", ""),
+    ("https://gen.test/m00.js", ""),
+    ("https://gen.test/m+1.js", ""),
+    ("https://gen.test/m4294967296.js", ""),
+    ("https://gen.test/m.js", ""),
+    ("https://gen.test/m1", ""),
+    ("https://b.test/m1.js", ""),
+];
+
+// Whether the source answers with this text, and with nothing where it is empty.
+fn is_answered(
+    alloc: Global,
+    source: &mut GeneratedSource,
+    url: &str,
+    text: &str,
+) -> Result<bool, Memory> {
+    match source.fetch(alloc, url) {
+        Ok(body) => Ok(!text.is_empty() && body.as_slice() == text.as_bytes()),
+        Err(FetchEnd::Absent) => Ok(text.is_empty()),
+        Err(FetchEnd::Failed) => Ok(false),
+        Err(FetchEnd::Memory) => Err(Memory),
+    }
+}
+
+#[test]
+fn a_source_makes_its_own_modules_alone(rt: HostRuntime) -> Result<(), Memory> {
+    let alloc = rt.alloc();
+    let mut source = GeneratedSource::new(alloc, 1, 2);
+    for (url, text) in OF_TWO {
+        assert!(rt; is_answered(alloc, &mut source, url, text)?);
+    }
+    assert_eq!(rt; source.asked.len(), 9);
+    assert_eq!(rt; source.faults(), 0);
     Ok(())
 }
 

@@ -120,23 +120,73 @@ fn turn<R: Wait, S: Source>(
 
 const URL: &str = "https://a.test/main.js";
 
+// What comes of two turns over a source of nothing, and whether nothing is what is posted; then the map is shut.
+#[derive(Clone, Copy)]
+struct AbsentTurns {
+    first: Turned,
+    absent: bool,
+    second: Turned,
+}
+
+// The URL is asked for by one caller, and the turns are the other's.
+fn absent_turns<R: Wait, S: Source>(
+    rt: &R,
+    alloc: Global,
+    modules: &ModuleMap<Posted>,
+    bell: &Bell,
+    main: &mut Caller<Posted>,
+    caller: &mut Caller<Posted>,
+    source: &mut S,
+) -> Result<AbsentTurns, Fail>
+    requires main { table_of modules.now.lock.table.shared.table_id main.old.pass
+        ≡ modules.now.lock.table.shared.table_id }
+    requires own { table_of modules.now.lock.table.shared.table_id caller.old.pass
+        ≡ modules.now.lock.table.shared.table_id }
+    requires served { Serves (S.holds source.old) (S.asked source.old) caller.old.number
+        (view_in caller.old.pass).seen }
+    ensures main { table_of modules.now.lock.table.shared.table_id main.new.pass
+        ≡ modules.now.lock.table.shared.table_id }
+    ensures own { table_of modules.now.lock.table.shared.table_id caller.new.pass
+        ≡ modules.now.lock.table.shared.table_id }
+    ensures served { OnOk result (Serves (S.holds source.new) (S.asked source.new)
+        caller.new.number (view_in caller.new.pass).seen) }
+{
+    if !ask(rt, alloc, modules, main, URL) {
+        return Err("the URL isn't asked for".into());
+    }
+    let first = turn(rt, alloc, modules, bell, caller, source)?;
+    let absent = match modules.entry(rt, main, 0) {
+        Ok(Some(posted)) => matches!(&posted.outcome, Outcome::Absent),
+        _ => false,
+    };
+    let second = turn(rt, alloc, modules, bell, caller, source)?;
+    modules.shut(rt, main);
+    Ok(AbsentTurns {
+        first,
+        absent,
+        second,
+    })
+}
+
 #[test]
 fn an_absent_url_and_a_shut_map(rt: HostRuntime) -> Result<(), Fail> {
     let alloc = rt.alloc();
     let bell = Bell::new();
+    let mut source = source_of(alloc, &[])?;
     let (modules, mut main) = opened(&rt, alloc)?;
     let mut caller = another(&rt, &modules, &mut main)?;
-    let mut source = source_of(alloc, &[])?;
-    assert!(rt; ask(&rt, alloc, &modules, &mut main, URL));
-    let first = turn(&rt, alloc, &modules, &bell, &mut caller, &mut source)?;
-    assert_eq!(rt; first, Turned::Posted(0));
-    let posted = modules
-        .entry(&rt, &mut main, 0)?
-        .ok_or("nothing is posted")?;
-    assert!(rt; matches!(&posted.outcome, Outcome::Absent));
-    let second = turn(&rt, alloc, &modules, &bell, &mut caller, &mut source)?;
-    assert_eq!(rt; second, Turned::NotYet);
-    modules.shut(&rt, &mut main);
+    let turns = absent_turns(
+        &rt,
+        alloc,
+        &modules,
+        &bell,
+        &mut main,
+        &mut caller,
+        &mut source,
+    )?;
+    assert_eq!(rt; turns.first, Turned::Posted(0));
+    assert!(rt; turns.absent);
+    assert_eq!(rt; turns.second, Turned::NotYet);
     let end = worker(&rt, alloc, &modules, &bell, caller, source);
     assert!(rt; !end.short);
     assert_eq!(rt; end.source.asked().len(), 1);
@@ -173,6 +223,54 @@ fn job<S: Source>(modules: &ModuleMap<Posted>, caller: Caller<Posted>, source: S
     ensures { IsToBegin modules.now.lock.table.shared.table_id S.holds S.asked result }
 {
     Job { caller, source }
+}
+
+// A job of a new caller and a source that wasn't asked.
+fn new_job<R: Wait, S: Source>(
+    rt: &R,
+    modules: &ModuleMap<Posted>,
+    main: &mut Caller<Posted>,
+    source: S,
+) -> Result<Job<S>, Fail>
+    requires own { table_of modules.now.lock.table.shared.table_id main.old.pass
+        ≡ modules.now.lock.table.shared.table_id }
+    requires shares { 1 < (view_in main.old.pass).shares }
+    requires unasked { S.asked source ≡ [] }
+    ensures own { table_of modules.now.lock.table.shared.table_id main.new.pass
+        ≡ modules.now.lock.table.shared.table_id }
+    ensures shares { (view_in main.new.pass).shares + 1 ≡ (view_in main.old.pass).shares }
+    ensures job { IfOk result (IsToBegin modules.now.lock.table.shared.table_id S.holds S.asked) }
+{
+    match another(rt, modules, main) {
+        Ok(caller) => Ok(job(modules, caller, source)),
+        Err(fail) => Err(fail),
+    }
+}
+
+// Two of them.
+fn new_jobs<R: Wait, S: Source>(
+    rt: &R,
+    alloc: Global,
+    modules: &ModuleMap<Posted>,
+    main: &mut Caller<Posted>,
+    first: S,
+    second: S,
+) -> Result<Vec<Job<S>>, Fail>
+    requires own { table_of modules.now.lock.table.shared.table_id main.old.pass
+        ≡ modules.now.lock.table.shared.table_id }
+    requires shares { 2 < (view_in main.old.pass).shares }
+    requires unasked { (S.asked first ≡ []) × (S.asked second ≡ []) }
+    ensures own { table_of modules.now.lock.table.shared.table_id main.new.pass
+        ≡ modules.now.lock.table.shared.table_id }
+    ensures shares { OnOk result
+        ((view_in main.new.pass).shares + 2 ≡ (view_in main.old.pass).shares) }
+    ensures jobs { IfOk result (λ v. All (IsToBegin modules.now.lock.table.shared.table_id S.holds
+        S.asked) v.items) }
+    ensures two { IfOk result (λ v. vec_len v ≡ 2) }
+{
+    let one = new_job(rt, modules, main, first)?;
+    let other = new_job(rt, modules, main, second)?;
+    two_jobs(alloc, modules, one, other)
 }
 
 const URLS: [&str; 3] = [
@@ -258,31 +356,35 @@ fn work_and_lead<R: Threads + Wait + Sync, S: Source + Send>(
     )
 }
 
+// One source has what was asked for, the other has none of it: three asks together.
+fn have_shared(done: &[Done<MemSource>]) -> bool {
+    match done {
+        [files, nothing] => {
+            let found = files.source.asked();
+            let missed = nothing.source.asked();
+            found.iter().all(|ask| ask.kind == AskKind::Body)
+                && missed.iter().all(|ask| ask.kind == AskKind::Absent)
+                && found.len().checked_add(missed.len()) == Some(3)
+        }
+        _ => false,
+    }
+}
+
 #[test]
 fn two_workers_fetch_what_is_asked_for(rt: HostRuntime) -> Result<(), Fail> {
     let alloc = rt.alloc();
     let bell = Bell::new();
-    let (modules, mut main) = opened(&rt, alloc)?;
-    let first = another(&rt, &modules, &mut main)?;
-    let second = another(&rt, &modules, &mut main)?;
-    let spare = another(&rt, &modules, &mut main)?;
     let text = "print(\"m\");";
+    let done = Vec::with_capacity(alloc, 2)?;
     let files = source_of(alloc, &[(URLS[0], text), (URLS[1], text), (URLS[2], text)])?;
     let nothing = source_of(alloc, &[])?;
-    let one = job(&modules, first, files);
-    let other = job(&modules, second, nothing);
-    let jobs = two_jobs(alloc, &modules, one, other)?;
-    let done = Vec::with_capacity(alloc, 2)?;
+    let (modules, mut main) = opened(&rt, alloc)?;
+    let jobs = new_jobs(&rt, alloc, &modules, &mut main, files, nothing)?;
+    let spare = another(&rt, &modules, &mut main)?;
     let (pool, main) = work_and_lead(&rt, alloc, &modules, &bell, main, spare, jobs, done);
     let Pool { caller, done } = pool;
     let caller = modules.meet(caller, main);
-    let files = done.first().ok_or("no first source")?;
-    let nothing = done.last().ok_or("no last source")?;
-    let found = files.source.asked();
-    let missed = nothing.source.asked();
-    assert!(rt; found.iter().all(|ask| ask.kind == AskKind::Body));
-    assert!(rt; missed.iter().all(|ask| ask.kind == AskKind::Absent));
-    assert_eq!(rt; found.len().checked_add(missed.len()), Some(3));
+    assert!(rt; have_shared(done.as_slice()));
     assert!(rt; modules.close(caller).is_ok());
     Ok(())
 }

@@ -64,17 +64,27 @@ fn another<R: Wait>(
     }
 }
 
-// The text of an ask's answer.
-fn told(answer: Result<Asked, MapEnd>) -> (&'static str, u32) {
-    match answer {
-        Ok(Asked::New(number)) => ("New", number),
-        Ok(Asked::Waiting(number)) => ("Waiting", number),
-        Ok(Asked::Here(number)) => ("Here", number),
-        Err(MapEnd::Full) => ("Full", 0),
-        Err(MapEnd::Closed) => ("Closed", 0),
-        Err(MapEnd::Memory) => ("Memory", 0),
+// A map and two callers.
+fn pair<R: Wait>(
+    rt: &R,
+    alloc: Global,
+) -> Result<(ModuleMap<Body>, Caller<Body>, Caller<Body>), Fail>
+    ensures one { IfOk result (λ made. table_of made.0.lock.table.shared.table_id made.1.pass
+        ≡ made.0.lock.table.shared.table_id) }
+    ensures other { IfOk result (λ made. table_of made.0.lock.table.shared.table_id made.2.pass
+        ≡ made.0.lock.table.shared.table_id) }
+{
+    let (map, mut one) = opened(rt, alloc)?;
+    match another(rt, &map, &mut one) {
+        Ok(other) => Ok((map, one, other)),
+        Err(fail) => Err(fail),
     }
 }
+
+// What a call answers, in a word, and a number that goes with it (0 where none does).
+type Told = (&'static str, u64);
+
+const MEMORY: Told = ("Memory", 0);
 
 // Asks for a URL, as wanted.
 fn ask<R: Wait>(
@@ -83,26 +93,29 @@ fn ask<R: Wait>(
     map: &ModuleMap<Body>,
     caller: &mut Caller<Body>,
     url: &str,
-) -> Result<(&'static str, u32), Fail>
+) -> Told
     requires { table_of map.now.lock.table.shared.table_id caller.old.pass
         ≡ map.now.lock.table.shared.table_id }
     ensures { table_of map.now.lock.table.shared.table_id caller.new.pass
         ≡ map.now.lock.table.shared.table_id }
 {
-    let url = Text::copy(alloc, url)?;
-    if !is_usable(alloc, url.as_str())? {
-        return Err("no usable URL".into());
+    let Ok(url) = Text::copy(alloc, url) else {
+        return MEMORY;
+    };
+    let Ok(usable) = is_usable(alloc, url.as_str()) else {
+        return MEMORY;
+    };
+    if !usable {
+        return ("no usable URL", 0);
     }
-    Ok(told(map.ask(rt, caller, &url, Why::Wanted)))
-}
-
-// What a take came to.
-#[derive(Clone, Copy, Debug, PartialEq, Eq)]
-enum Turn {
-    Posted(u32),
-    NotYet,
-    Closed,
-    Memory,
+    match map.ask(rt, caller, &url, Why::Wanted) {
+        Ok(Asked::New(number)) => ("New", u64::from(number)),
+        Ok(Asked::Waiting(number)) => ("Waiting", u64::from(number)),
+        Ok(Asked::Here(number)) => ("Here", u64::from(number)),
+        Err(MapEnd::Full) => ("Full", 0),
+        Err(MapEnd::Closed) => ("Closed", 0),
+        Err(MapEnd::Memory) => MEMORY,
+    }
 }
 
 // Takes what is to be taken, and posts a body under it.
@@ -112,27 +125,106 @@ fn fill<R: Wait>(
     map: &ModuleMap<Body>,
     caller: &mut Caller<Body>,
     bytes: usize,
-) -> Turn
+) -> Told
     requires { table_of map.now.lock.table.shared.table_id caller.old.pass
         ≡ map.now.lock.table.shared.table_id }
     ensures { table_of map.now.lock.table.shared.table_id caller.new.pass
         ≡ map.now.lock.table.shared.table_id }
 {
     let Ok(payload) = Arc::new(alloc, Body { bytes }) else {
-        return Turn::Memory;
+        return MEMORY;
     };
     let Ok(taken) = map.take(rt, alloc, caller) else {
-        return Turn::Memory;
+        return MEMORY;
     };
     match taken {
         Taken::Order(order) => {
             let number = order.number();
             map.post(rt, caller, order, payload);
-            Turn::Posted(number)
+            ("Posted", u64::from(number))
         }
-        Taken::NotYet => Turn::NotYet,
-        Taken::Closed => Turn::Closed,
+        Taken::NotYet => ("NotYet", 0),
+        Taken::Closed => ("Closed", 0),
     }
+}
+
+// The weight of the body that was posted under this number.
+fn entry<R: Wait>(rt: &R, map: &ModuleMap<Body>, caller: &mut Caller<Body>, number: u32) -> Told
+    requires { table_of map.now.lock.table.shared.table_id caller.old.pass
+        ≡ map.now.lock.table.shared.table_id }
+    ensures { table_of map.now.lock.table.shared.table_id caller.new.pass
+        ≡ map.now.lock.table.shared.table_id }
+{
+    match map.entry(rt, caller, number) {
+        Ok(Some(body)) => ("Body", body.bytes as u64),
+        Ok(None) => ("None", 0),
+        Err(_) => MEMORY,
+    }
+}
+
+// The number of the post with this index.
+fn post_at<R: Wait>(rt: &R, map: &ModuleMap<Body>, caller: &mut Caller<Body>, from: usize) -> Told
+    requires { table_of map.now.lock.table.shared.table_id caller.old.pass
+        ≡ map.now.lock.table.shared.table_id }
+    ensures { table_of map.now.lock.table.shared.table_id caller.new.pass
+        ≡ map.now.lock.table.shared.table_id }
+{
+    match map.post_at(rt, caller, from) {
+        Some(number) => ("Post", u64::from(number)),
+        None => ("None", 0),
+    }
+}
+
+// What a caller may do: each the function of its name.
+#[derive(Clone, Copy)]
+enum Call {
+    Ask(&'static str),
+    Fill(usize),
+    Entry(u32),
+    PostAt(usize),
+}
+
+// Calls.
+fn make_call<R: Wait>(
+    rt: &R,
+    alloc: Global,
+    map: &ModuleMap<Body>,
+    caller: &mut Caller<Body>,
+    call: Call,
+) -> Told
+    requires { table_of map.now.lock.table.shared.table_id caller.old.pass
+        ≡ map.now.lock.table.shared.table_id }
+    ensures { table_of map.now.lock.table.shared.table_id caller.new.pass
+        ≡ map.now.lock.table.shared.table_id }
+{
+    match call {
+        Call::Ask(url) => ask(rt, alloc, map, caller, url),
+        Call::Fill(bytes) => fill(rt, alloc, map, caller, bytes),
+        Call::Entry(number) => entry(rt, map, caller, number),
+        Call::PostAt(from) => post_at(rt, map, caller, from),
+    }
+}
+
+// Makes these calls, one behind the other: the first answer that isn't the one that stands beside its call.
+fn first_wrong<R: Wait>(
+    rt: &R,
+    alloc: Global,
+    map: &ModuleMap<Body>,
+    caller: &mut Caller<Body>,
+    steps: &[(Call, Told)],
+) -> Option<Told>
+    requires { table_of map.now.lock.table.shared.table_id caller.old.pass
+        ≡ map.now.lock.table.shared.table_id }
+    ensures { table_of map.now.lock.table.shared.table_id caller.new.pass
+        ≡ map.now.lock.table.shared.table_id }
+{
+    for step in steps {
+        let told = make_call(rt, alloc, map, caller, step.0);
+        if told != step.1 {
+            return Some(told);
+        }
+    }
+    None
 }
 
 // Fills what it can, a hundred times.
@@ -185,81 +277,154 @@ fn fill_in_two<R: Threads + Wait + Sync>(
     map.meet(one, other)
 }
 
-// Asks for the URLs with the numbers below `count`, each New.
+// Asks for the URLs with the numbers below `count`: the first answer that isn't New.
 fn ask_all<R: Wait>(
     rt: &R,
     alloc: Global,
     map: &ModuleMap<Body>,
     caller: &mut Caller<Body>,
-    count: usize,
-) -> Result<(), Fail>
+    count: u64,
+) -> Option<Told>
     requires { table_of map.now.lock.table.shared.table_id caller.old.pass
         ≡ map.now.lock.table.shared.table_id }
     ensures { table_of map.now.lock.table.shared.table_id caller.new.pass
         ≡ map.now.lock.table.shared.table_id }
 {
     for number in 0..count {
-        let url = format!(in alloc; "https://a.test/{number}")?;
-        let (word, _) = ask(rt, alloc, map, caller, url.as_str())?;
-        if word != "New" {
-            return Err("a URL that was asked for before".into());
+        let Ok(url) = format!(in alloc; "https://a.test/{number}") else {
+            return Some(MEMORY);
+        };
+        let told = ask(rt, alloc, map, caller, url.as_str());
+        if told != ("New", number) {
+            return Some(told);
         }
     }
-    Ok(())
+    None
 }
 
 const URL: &str = "https://a.test/main.js";
 
+const TAKEN_BY_ANOTHER: &[(Call, Told)] = &[
+    (Call::Fill(1), ("NotYet", 0)),
+    (Call::Entry(0), ("None", 0)),
+    (Call::PostAt(0), ("None", 0)),
+];
+
+const POSTED: &[(Call, Told)] = &[
+    (Call::Entry(0), ("Body", 7)),
+    (Call::PostAt(0), ("Post", 0)),
+    (Call::PostAt(1), ("None", 0)),
+];
+
+const SHUT: &[(Call, Told)] = &[
+    (Call::Ask(URL), ("Closed", 0)),
+    (Call::Fill(1), ("Closed", 0)),
+];
+
+// One takes, the other finds nothing, and then one posts a body that weighs seven.
+fn take_and_post<R: Wait>(
+    rt: &R,
+    alloc: Global,
+    map: &ModuleMap<Body>,
+    one: &mut Caller<Body>,
+    other: &mut Caller<Body>,
+) -> Option<Told>
+    requires one { table_of map.now.lock.table.shared.table_id one.old.pass
+        ≡ map.now.lock.table.shared.table_id }
+    requires other { table_of map.now.lock.table.shared.table_id other.old.pass
+        ≡ map.now.lock.table.shared.table_id }
+    ensures one { table_of map.now.lock.table.shared.table_id one.new.pass
+        ≡ map.now.lock.table.shared.table_id }
+    ensures other { table_of map.now.lock.table.shared.table_id other.new.pass
+        ≡ map.now.lock.table.shared.table_id }
+{
+    let Ok(payload) = Arc::new(alloc, Body { bytes: 7 }) else {
+        return Some(MEMORY);
+    };
+    let Ok(taken) = map.take(rt, alloc, one) else {
+        return Some(MEMORY);
+    };
+    let Taken::Order(order) = taken else {
+        return Some(("nothing to take", 0));
+    };
+    let found = first_wrong(rt, alloc, map, other, TAKEN_BY_ANOTHER);
+    map.post(rt, one, order, payload);
+    found
+}
+
+// A URL's way from the first ask to the map's end: the first answer that is wrong.
+fn wrong_on_the_way<R: Wait>(
+    rt: &R,
+    alloc: Global,
+    map: &ModuleMap<Body>,
+    one: &mut Caller<Body>,
+    other: &mut Caller<Body>,
+) -> Option<Told>
+    requires one { table_of map.now.lock.table.shared.table_id one.old.pass
+        ≡ map.now.lock.table.shared.table_id }
+    requires other { table_of map.now.lock.table.shared.table_id other.old.pass
+        ≡ map.now.lock.table.shared.table_id }
+    ensures one { table_of map.now.lock.table.shared.table_id one.new.pass
+        ≡ map.now.lock.table.shared.table_id }
+    ensures other { table_of map.now.lock.table.shared.table_id other.new.pass
+        ≡ map.now.lock.table.shared.table_id }
+{
+    let first = ask(rt, alloc, map, one, URL);
+    if first != ("New", 0) {
+        return Some(first);
+    }
+    let second = ask(rt, alloc, map, other, URL);
+    if second != ("Waiting", 0) {
+        return Some(second);
+    }
+    let beside = take_and_post(rt, alloc, map, one, other);
+    if beside.is_some() {
+        return beside;
+    }
+    let posted = first_wrong(rt, alloc, map, other, POSTED);
+    if posted.is_some() {
+        return posted;
+    }
+    let here = ask(rt, alloc, map, one, URL);
+    if here != ("Here", 0) {
+        return Some(here);
+    }
+    map.shut(rt, other);
+    first_wrong(rt, alloc, map, one, SHUT)
+}
+
 #[test]
 fn one_url_from_ask_to_post(rt: HostRuntime) -> Result<(), Fail> {
-    let alloc = rt.alloc();
-    let payload = Arc::new(alloc, Body { bytes: 7 })?;
-    let (map, mut one) = opened(&rt, alloc)?;
-    let mut other = another(&rt, &map, &mut one)?;
-    assert_eq!(rt; ask(&rt, alloc, &map, &mut one, URL)?, ("New", 0));
-    assert_eq!(rt; ask(&rt, alloc, &map, &mut other, URL)?, ("Waiting", 0));
-    let taken = map.take(&rt, alloc, &mut one)?;
-    let Taken::Order(order) = taken else {
-        return Err("nothing to take".into());
-    };
-    assert_eq!(rt; fill(&rt, alloc, &map, &mut other, 1), Turn::NotYet);
-    assert!(rt; map.entry(&rt, &mut other, 0)?.is_none());
-    assert_eq!(rt; map.post_at(&rt, &mut other, 0), None);
-    map.post(&rt, &mut one, order, payload);
-    let posted = map.entry(&rt, &mut other, 0)?.ok_or("nothing is posted")?;
-    assert_eq!(rt; posted.bytes, 7);
-    assert_eq!(rt; map.post_at(&rt, &mut other, 0), Some(0));
-    assert_eq!(rt; map.post_at(&rt, &mut other, 1), None);
-    assert_eq!(rt; ask(&rt, alloc, &map, &mut one, URL)?, ("Here", 0));
-    map.shut(&rt, &mut other);
-    assert_eq!(rt; ask(&rt, alloc, &map, &mut one, URL)?, ("Closed", 0));
-    assert_eq!(rt; fill(&rt, alloc, &map, &mut one, 1), Turn::Closed);
+    let (map, mut one, mut other) = pair(&rt, rt.alloc())?;
+    let wrong = wrong_on_the_way(&rt, rt.alloc(), &map, &mut one, &mut other);
     let caller = map.meet(one, other);
     let events = map.close(caller).ok().ok_or("busy")?;
+    assert_eq!(rt; wrong, None);
     assert_eq!(rt; events.len(), 9);
     Ok(())
 }
 
+const BEHIND_THE_LAST: &[(Call, Told)] = &[
+    (Call::Ask(URL), ("Full", 0)),
+    (Call::Ask("https://a.test/0"), ("Waiting", 0)),
+];
+
 #[test]
 fn asks_make_no_more_numbers(rt: HostRuntime) -> Result<(), Fail> {
-    let alloc = rt.alloc();
-    let (map, mut caller) = opened(&rt, alloc)?;
-    ask_all(&rt, alloc, &map, &mut caller, MAX_URLS)?;
-    assert_eq!(rt; ask(&rt, alloc, &map, &mut caller, URL)?, ("Full", 0));
-    assert_eq!(rt;
-        ask(&rt, alloc, &map, &mut caller, "https://a.test/0")?,
-        ("Waiting", 0)
-    );
+    let (map, mut caller) = opened(&rt, rt.alloc())?;
+    let before = ask_all(&rt, rt.alloc(), &map, &mut caller, MAX_URLS as u64);
+    assert_eq!(rt; before, None);
+    let behind = first_wrong(&rt, rt.alloc(), &map, &mut caller, BEHIND_THE_LAST);
+    assert_eq!(rt; behind, None);
     Ok(())
 }
 
 #[test]
 fn two_threads_take_each_url_once(rt: HostRuntime) -> Result<(), Fail> {
-    let alloc = rt.alloc();
-    let (map, mut one) = opened(&rt, alloc)?;
-    let other = another(&rt, &map, &mut one)?;
-    ask_all(&rt, alloc, &map, &mut one, 100)?;
-    let caller = fill_in_two(&rt, alloc, &map, one, other);
+    let (map, mut one, other) = pair(&rt, rt.alloc())?;
+    let wrong = ask_all(&rt, rt.alloc(), &map, &mut one, 100);
+    assert_eq!(rt; wrong, None);
+    let caller = fill_in_two(&rt, rt.alloc(), &map, one, other);
     let events = map.close(caller).ok().ok_or("busy")?;
     // Begin, two callers, and for each URL an ask, a take and a post.
     assert_eq!(rt; events.len(), 303);

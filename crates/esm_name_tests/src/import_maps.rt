@@ -1,98 +1,143 @@
 // Texts that are import maps, and texts that aren't.
-use esm_import_map::{ImportMap, MapFault, MapReadEnd};
+use crate::reading::{number, read_map, row_parts, url};
+use esm_base::Memory;
+use esm_import_map::ImportMap;
 use std::alloc::Global;
-use std::test::Fail;
-use url::Url;
 
 // The fault of a text, or `ok`.
-fn fault_of(alloc: Global, text: &[u8]) -> Result<&'static str, Fail> {
-    let base = Url::parse(alloc, "https://a.test/")?;
-    match ImportMap::read(alloc, text, &base) {
-        Ok(_) => Ok("ok"),
-        Err(MapReadEnd::Fault(MapFault::M1)) => Ok("M1"),
-        Err(MapReadEnd::Fault(MapFault::M2)) => Ok("M2"),
-        Err(MapReadEnd::Fault(MapFault::M3)) => Ok("M3"),
-        Err(MapReadEnd::Fault(MapFault::M4)) => Ok("M4"),
-        Err(MapReadEnd::Memory) => Ok("Memory"),
+fn fault_of(alloc: Global, text: &[u8]) -> Result<&'static str, Memory> {
+    let base = url(alloc, "https://a.test/")?;
+    match read_map(alloc, text, &base) {
+        Ok(_map) => Ok("ok"),
+        Err(fault) => Ok(fault),
     }
 }
 
-#[test]
-fn texts_have_their_faults(rt: HostRuntime) -> Result<(), Fail> {
-    let rows = [
-        // No JSON text.
-        ("{", "M1"),
-        ("", "M1"),
-        ("{}x", "M1"),
-        (r#"{"imports":{"a":"\ud800"}}"#, "M1"),
-        (r#"{"other":"\ud800"}"#, "M1"),
-        (r#"{"other":1e999}"#, "M1"),
-        ("\u{FEFF}\u{FEFF}{}", "M1"),
-        (" {} ", "ok"),
-        ("\u{FEFF}{}", "ok"),
-        (r#"{"other":1e99,"integrity":[]}"#, "ok"),
-        // No object.
-        ("[]", "M2"),
-        ("null", "M2"),
-        ("7", "M2"),
-        (r#""{}""#, "M2"),
-        // A part that is no object.
-        (r#"{"imports":[]}"#, "M3"),
-        (r#"{"imports":null}"#, "M3"),
-        (r#"{"scopes":7}"#, "M3"),
-        (r#"{"scopes":{"/a/":{},"/b/":"x"}}"#, "M3"),
-        (r#"{"scopes":{"https://:x/":7}}"#, "M3"),
-        (r#"{"imports":{"./a":1,"/a":1},"scopes":[]}"#, "M3"),
-        (r#"{"imports":7,"imports":{}}"#, "ok"),
-        (r#"{"imports":{},"scopes":{"/a/":{}}}"#, "ok"),
-        // Two keys that become one.
-        (r#"{"imports":{"./a":"/b","https://a.test/a":"/c"}}"#, "M4"),
-        (r#"{"imports":{"./a":null,"/a":7}}"#, "M4"),
-        (r#"{"scopes":{"/x/":{},"https://a.test/x/":{}}}"#, "M4"),
-        (r#"{"scopes":{"/x/":{"./a":"/b","/a":"/c"}}}"#, "M4"),
-        (r#"{"imports":{"a":"/b","./a":"/c"}}"#, "ok"),
-        (r#"{"imports":{"a":"/b","a":"/c"}}"#, "ok"),
-        (
-            r#"{"imports":{"/a":"/b"},"scopes":{"/x/":{"/a":"/c"}}}"#,
-            "ok",
-        ),
-        (r#"{"scopes":{"https://:x/":{"./a":"/b","/a":"/c"}}}"#, "ok"),
-        (r#"{"scopes":{"https://:x/":{},"https://:y/":{}}}"#, "ok"),
-    ];
-    for (text, wanted) in rows {
-        assert_eq!(rt; fault_of(rt.alloc(), text.as_bytes())?, wanted, "at {text}");
+// The fault of each text, or `ok`. A text stands between two bars.
+const TEXTS: &str = r##"# no JSON text
+M1 |{|
+M1 ||
+M1 |{}x|
+M1 |{"imports":{"a":"\ud800"}}|
+M1 |{"other":"\ud800"}|
+M1 |{"other":1e999}|
+ok | {} |
+ok |{"other":1e99,"integrity":[]}|
+# no object
+M2 |[]|
+M2 |null|
+M2 |7|
+M2 |"{}"|
+# a part that is no object
+M3 |{"imports":[]}|
+M3 |{"imports":null}|
+M3 |{"scopes":7}|
+M3 |{"scopes":{"/a/":{},"/b/":"x"}}|
+M3 |{"scopes":{"https://:x/":7}}|
+M3 |{"imports":{"./a":1,"/a":1},"scopes":[]}|
+ok |{"imports":7,"imports":{}}|
+ok |{"imports":{},"scopes":{"/a/":{}}}|
+# two keys that become one
+M4 |{"imports":{"./a":"/b","https://a.test/a":"/c"}}|
+M4 |{"imports":{"./a":null,"/a":7}}|
+M4 |{"scopes":{"/x/":{},"https://a.test/x/":{}}}|
+M4 |{"scopes":{"/x/":{"./a":"/b","/a":"/c"}}}|
+ok |{"imports":{"a":"/b","./a":"/c"}}|
+ok |{"imports":{"a":"/b","a":"/c"}}|
+ok |{"imports":{"/a":"/b"},"scopes":{"/x/":{"/a":"/c"}}}|
+ok |{"scopes":{"https://:x/":{"./a":"/b","/a":"/c"}}}|
+ok |{"scopes":{"https://:x/":{},"https://:y/":{}}}|"##;
+
+// Marks of the byte order: two, and one.
+const MARKED: &str = "M1 |\u{FEFF}\u{FEFF}{}|\nok |\u{FEFF}{}|";
+
+// So many blanks before `{}`, so many behind a mark of the byte order and `{}`, and so many lists within one another, on both
+// sides of the greatest length and of the greatest depth.
+const BOUNDS: &str = "\
+ok 1048574 blanks
+M1 1048575 blanks
+ok 1048571 marked
+M1 1048572 marked
+M2 127 lists
+M1 128 lists";
+
+// The fault of this byte so many times, with these before it and behind it.
+fn fault_amid(
+    alloc: Global,
+    front: &[u8],
+    byte: u8,
+    count: usize,
+    back: &[u8],
+) -> Result<&'static str, Memory> {
+    let mut text = Vec::from_slice(alloc, front)?;
+    text.resize(front.len().saturating_add(count), byte)?;
+    text.extend_from_slice(back)?;
+    fault_of(alloc, text.as_slice())
+}
+
+// The fault of a text that `BOUNDS` tells by its size.
+fn fault_of_size(alloc: Global, count: usize, kind: &str) -> Result<&'static str, Memory> {
+    if kind == "blanks" {
+        return fault_amid(alloc, b"", b' ', count, b"{}");
     }
-    assert_eq!(rt; fault_of(rt.alloc(), b"{\"a\":\"\xFF\"}")?, "M1");
+    if kind == "marked" {
+        return fault_amid(alloc, b"\xEF\xBB\xBF{}", b' ', count, b"");
+    }
+    let mut ends = Vec::new(alloc);
+    ends.resize(count, b']')?;
+    fault_amid(alloc, b"", b'[', count, ends.as_slice())
+}
+
+// Whether a row without bars has the fault that it says, or is a comment.
+fn has_fault_of_size(alloc: Global, row: &str) -> Result<bool, Memory> {
+    let Some((wanted, text)) = row.split_once(' ') else {
+        return Ok(false);
+    };
+    match text.split_once(' ') {
+        Some((count, kind)) if wanted != "#" => {
+            Ok(fault_of_size(alloc, number(count) as usize, kind)? == wanted)
+        }
+        _ => Ok(wanted == "#"),
+    }
+}
+
+// Whether the text of a row has the fault that it says.
+fn has_its_fault(alloc: Global, row: &str) -> Result<bool, Memory> {
+    match row_parts(row) {
+        Some((wanted, text)) => Ok(fault_of(alloc, text.as_bytes())? == wanted),
+        None => has_fault_of_size(alloc, row),
+    }
+}
+
+// The first row of a table whose text has another fault, if there is one.
+fn wrong_row(alloc: Global, table: &'static str) -> Result<Option<&'static str>, Memory> {
+    for row in table.lines() {
+        if !has_its_fault(alloc, row)? {
+            return Ok(Some(row));
+        }
+    }
+    Ok(None)
+}
+
+// The first row of all.
+fn wrong_text(alloc: Global) -> Result<Option<&'static str>, Memory> {
+    for table in [TEXTS, MARKED, BOUNDS] {
+        if let Some(row) = wrong_row(alloc, table)? {
+            return Ok(Some(row));
+        }
+    }
+    Ok(None)
+}
+
+#[test]
+fn texts_have_their_faults(rt: HostRuntime) -> Result<(), Memory> {
+    assert_eq!(rt; wrong_text(rt.alloc())?, None);
     Ok(())
 }
 
-// So many bytes of one kind.
-fn bytes_of(alloc: Global, byte: u8, count: usize) -> Result<Vec<u8>, Fail> {
-    let mut bytes = Vec::new(alloc);
-    bytes.resize(count, byte)?;
-    Ok(bytes)
-}
-
 #[test]
-fn the_bounds_are_exact(rt: HostRuntime) -> Result<(), Fail> {
-    let alloc = rt.alloc();
-    for (count, wanted) in [(1_048_574, "ok"), (1_048_575, "M1")] {
-        let mut text = bytes_of(alloc, b' ', count)?;
-        text.push(b'{')?;
-        text.push(b'}')?;
-        assert_eq!(rt; fault_of(alloc, text.as_slice())?, wanted);
-    }
-    for (count, wanted) in [(1_048_571, "ok"), (1_048_572, "M1")] {
-        let mut text = Vec::new(alloc);
-        text.extend_from_slice(b"\xEF\xBB\xBF{}")?;
-        text.extend_from_slice(bytes_of(alloc, b' ', count)?.as_slice())?;
-        assert_eq!(rt; fault_of(alloc, text.as_slice())?, wanted);
-    }
-    for (depth, wanted) in [(127, "M2"), (128, "M1")] {
-        let mut text = bytes_of(alloc, b'[', depth)?;
-        text.extend_from_slice(bytes_of(alloc, b']', depth)?.as_slice())?;
-        assert_eq!(rt; fault_of(alloc, text.as_slice())?, wanted);
-    }
+fn bytes_that_are_no_text_have_a_fault(rt: HostRuntime) -> Result<(), Memory> {
+    assert_eq!(rt; fault_of(rt.alloc(), b"{\"a\":\"\xFF\"}")?, "M1");
     Ok(())
 }
 
@@ -105,27 +150,45 @@ fn import_of(map: &ImportMap, key: &str) -> &'static str {
     }
 }
 
-#[test]
-fn entries_are_kept(rt: HostRuntime) -> Result<(), Fail> {
-    let alloc = rt.alloc();
-    let base = Url::parse(alloc, "https://a.test/d/")?;
-    let text = br#"{"imports":{"":"/b","./a":"/b","b":"c","c/":"/c","d/":"/d/","e":7}}"#;
-    let Ok(map) = ImportMap::read(alloc, text.as_slice(), &base) else {
-        return Err("no import map".into());
-    };
-    for (key, wanted) in [
-        ("", "nothing"),
-        ("./a", "nothing"),
-        ("https://a.test/d/a", "address"),
-        ("b", "null"),
-        ("c/", "null"),
-        ("d/", "address"),
-        ("e", "null"),
-    ] {
-        assert_eq!(rt; import_of(&map, key), wanted, "at {key}");
+const KEPT: &str = r#"{"imports":{"":"/b","./a":"/b","b":"c","c/":"/c","d/":"/d/","e":7}}"#;
+
+// What is kept of `KEPT` at each key.
+const KEYS: &str = "\
+nothing ||
+nothing |./a|
+address |https://a.test/d/a|
+null |b|
+null |c/|
+address |d/|
+null |e|";
+
+// The first row of `KEYS` at whose key something else is kept, if there is one.
+fn wrong_key(map: &ImportMap) -> Option<&'static str> {
+    for row in KEYS.lines() {
+        match row_parts(row) {
+            Some((wanted, key)) if import_of(map, key) == wanted => {}
+            _ => return Some(row),
+        }
     }
-    let none = ImportMap::empty(alloc);
-    assert_eq!(rt; import_of(&none, "b"), "nothing");
-    assert!(rt; none.scopes().get("https://a.test/").is_none());
+    None
+}
+
+#[test]
+fn entries_are_kept(rt: HostRuntime) -> Result<(), Memory> {
+    let base = url(rt.alloc(), "https://a.test/d/")?;
+    match read_map(rt.alloc(), KEPT.as_bytes(), &base) {
+        Ok(map) => assert_eq!(rt; wrong_key(&map), None),
+        Err(fault) => assert_eq!(rt; fault, "ok"),
+    }
     Ok(())
+}
+
+// Whether a map has none of these entries.
+fn is_empty(map: &ImportMap) -> bool {
+    map.imports().get("b").is_none() && map.scopes().get("https://a.test/").is_none()
+}
+
+#[test]
+fn the_empty_map_has_no_entries(rt: HostRuntime) {
+    assert!(rt; is_empty(&ImportMap::empty(rt.alloc())));
 }

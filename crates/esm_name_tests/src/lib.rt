@@ -6,4 +6,6 @@ mod exports;
 #[cfg(test)]
 mod import_maps;
 #[cfg(test)]
+mod reading;
+#[cfg(test)]
 mod specifiers;

@@ -1,15 +1,19 @@
 // What specifiers resolve to, by the rules of the HTML Standard and the URL Standard.
-use esm_base::is_canonical;
-use esm_import_map::{ImportMap, MapFault, MapReadEnd};
+use crate::reading::{read_map, url};
+use esm_base::{Memory, is_canonical};
+use esm_import_map::ImportMap;
 use esm_specifier::{SpecEnd, SpecFault, resolve};
 use std::alloc::Global;
-use std::test::Fail;
-use url::Url;
 
 // The URL of a specifier, or the name of its fault.
-fn answer(alloc: Global, map: &ImportMap, referrer: &str, specifier: &str) -> Result<String, Fail> {
+fn answer(
+    alloc: Global,
+    map: &ImportMap,
+    referrer: &str,
+    specifier: &str,
+) -> Result<String, Memory> {
     if !is_canonical(alloc, referrer)? {
-        return Err("the referrer is not canonical".into());
+        return Err(Memory);
     }
     let fault = match resolve(alloc, map, referrer, specifier) {
         Ok(url) => return Ok(String::from_str(alloc, url.as_str())?),
@@ -24,18 +28,18 @@ fn answer(alloc: Global, map: &ImportMap, referrer: &str, specifier: &str) -> Re
 }
 
 // The map that a text says in the document at `https://a.test/`.
-fn map_of(alloc: Global, text: &str) -> Result<ImportMap, Fail> {
-    let base = Url::parse(alloc, "https://a.test/")?;
-    match ImportMap::read(alloc, text.as_bytes(), &base) {
+fn map_of(alloc: Global, text: &str) -> Result<ImportMap, Memory> {
+    let base = url(alloc, "https://a.test/")?;
+    match read_map(alloc, text.as_bytes(), &base) {
         Ok(map) => Ok(map),
-        Err(MapReadEnd::Fault(MapFault::M4)) => Err("two keys are one".into()),
-        Err(_) => Err("no import map".into()),
+        Err(_fault) => Err(Memory),
     }
 }
 
-// Each map, followed by rows of a referrer, a specifier and what it resolves to.
-const TABLE: &str = r##"# The longest key decides, and scopes come before the imports.
-{"imports":{"lib/":"/v1/","lib/x/":"/v2/","bad":7},"scopes":{"/old/":{"lib/":"/v0/"}}}
+// Each map, followed by what it shows and by rows of a referrer, a specifier and what it resolves to.
+const TABLE: &str =
+    r##"{"imports":{"lib/":"/v1/","lib/x/":"/v2/","bad":7},"scopes":{"/old/":{"lib/":"/v0/"}}}
+# The longest key decides, and scopes come before the imports.
 https://a.test/main.js lib/x/a.js https://a.test/v2/a.js
 https://a.test/old/m.js lib/x/a.js https://a.test/v0/x/a.js
 https://a.test/main.js lib/a.js https://a.test/v1/a.js
@@ -53,25 +57,31 @@ https://a.test/main.js bad S1
 https://a.test/old/m.js bad S1
 https://a.test/main.js react S4
 https://a.test/old lib/a.js https://a.test/v1/a.js
-# Scopes: the longest in which a key matches.
+
 {"scopes":{"/a/":{"x":"/1","y":"/2"},"/a/b/":{"x":"/3","z":null}},"imports":{"y":"/4","z":"/5"}}
+# Scopes: the longest in which a key matches.
 https://a.test/a/b/m.js x https://a.test/3
 https://a.test/a/m.js x https://a.test/1
 https://a.test/a/b/m.js y https://a.test/2
 https://a.test/main.js y https://a.test/4
 https://a.test/a/b/m.js z S1
 https://a.test/a/m.js z https://a.test/5
+
 {"scopes":{"/old":{"x":"/1"}}}
 https://a.test/old x https://a.test/1
 https://a.test/old/m.js x S4
+
 {"scopes":{"./old/":{"x":"/1"}}}
 https://a.test/old/m.js x https://a.test/1
+
 {"scopes":{"https://:x/":{"x":"/1"}}}
 https://a.test/main.js x S4
-# Null entries decide.
+
 {"imports":{"a/":"/1/","a/b/":null}}
+# Null entries decide.
 https://a.test/main.js a/b/c S1
 https://a.test/main.js a/c https://a.test/1/c
+
 {"imports":{"a":"b","b":"https://:x","c/":"/b","d":"/b","e":"./b","f":"../b","":"/b"}}
 https://a.test/main.js a S1
 https://a.test/main.js b S1
@@ -80,12 +90,14 @@ https://a.test/main.js d https://a.test/b
 https://a.test/a/b/m.js e https://a.test/b
 https://a.test/main.js f https://a.test/b
 https://a.test/main.js  S4
-# The key as written ends in no slash, and its URL does.
+
 {"imports":{"https://b.test":"/x"}}
+# The key as written ends in no slash, and its URL does.
 https://a.test/main.js https://b.test https://a.test/x
 https://a.test/main.js https://b.test/y S3
-# URL-like keys and specifiers.
+
 {"imports":{"./a.js":"/b.js","https://b.test/":"/m/","data:text/":"/m/","data:text/y":"/d.js"}}
+# URL-like keys and specifiers.
 https://a.test/main.js ./a.js https://a.test/b.js
 https://a.test/main.js /a.js https://a.test/b.js
 https://a.test/old/m.js ../a.js https://a.test/b.js
@@ -96,11 +108,13 @@ https://a.test/main.js https://b.test/x.js https://a.test/m/x.js
 https://a.test/main.js https://c.test/x.js https://c.test/x.js
 https://a.test/main.js data:text/x data:text/x
 https://a.test/main.js data:text/y https://a.test/d.js
+
 {"imports":{"a.js":"/b.js"}}
 https://a.test/main.js ./a.js https://a.test/a.js
 https://a.test/main.js a.js https://a.test/b.js
-# Prefixes count for the special schemes alone.
+
 {"imports":{"ftp://h/":"/m/","file:///f/":"/m/","http://h/":"/m/","ws://h/":"/m/","wss://h/":"/m/","no://h/":"/m/"}}
+# Prefixes count for the special schemes alone.
 https://a.test/main.js ftp://h/x https://a.test/m/x
 https://a.test/main.js file:///f/x https://a.test/m/x
 https://a.test/main.js http://h/x https://a.test/m/x
@@ -108,14 +122,17 @@ https://a.test/main.js ws://h/x https://a.test/m/x
 https://a.test/main.js wss://h/x https://a.test/m/x
 https://a.test/main.js no://h/x no://h/x
 https://a.test/main.js no://h/ https://a.test/m/
-# Where a JSON key stands twice, the last counts.
+
 {"imports":{"a":"/1","a":"/2"}}
+# Where a JSON key stands twice, the last counts.
 https://a.test/main.js a https://a.test/2
+
 {"imports":{"a":"/1"},"imports":{"b":"/2"}}
 https://a.test/main.js a S4
 https://a.test/main.js b https://a.test/2
-# Without a match.
+
 {}
+# Without a match.
 https://a.test/main.js ./x.js https://a.test/x.js
 https://a.test/main.js ./x.js?y#z https://a.test/x.js?y#z
 https://a.test/main.js HTTPS://A.test/%41 https://a.test/%41
@@ -126,43 +143,74 @@ https://a.test/main.js https://:x S4
 data:text/x ./y S4
 data:text/x https://b.test/ https://b.test/"##;
 
-// How many rows the table has.
-const ROWS: usize = 69;
+// Whether a row says what its specifier resolves to under the map that this text says.
+fn resolves_so(alloc: Global, map: &str, row: &str) -> Result<bool, Memory> {
+    let Some((referrer, rest)) = row.split_once(' ') else {
+        return Ok(false);
+    };
+    let Some((specifier, wanted)) = rest.split_once(' ') else {
+        return Ok(false);
+    };
+    let map = map_of(alloc, map)?;
+    let found = answer(alloc, &map, referrer, specifier)?;
+    Ok(found.as_str() == wanted)
+}
 
-#[test]
-fn specifiers_resolve(rt: HostRuntime) -> Result<(), Fail> {
-    let alloc = rt.alloc();
-    let mut map = ImportMap::empty(alloc);
-    let mut rows: usize = 0;
-    for line in TABLE.lines() {
-        if line.starts_with('{') {
-            map = map_of(alloc, line)?;
-        } else if !line.starts_with('#') {
-            let (referrer, rest) = line.split_once(' ').ok_or("no row")?;
-            let (specifier, wanted) = rest.split_once(' ').ok_or("no row")?;
-            let found = answer(alloc, &map, referrer, specifier)?;
-            assert_eq!(rt; found.as_str(), wanted, "at {line}");
-            rows = rows.saturating_add(1);
+// The first row of a block whose specifier resolves to something else, if there is one.
+fn wrong_in(alloc: Global, block: &'static str) -> Result<Option<&'static str>, Memory> {
+    let Some((map, rows)) = block.split_once('\n') else {
+        return Ok(Some(block));
+    };
+    for row in rows.lines() {
+        if !row.starts_with('#') && !resolves_so(alloc, map, row)? {
+            return Ok(Some(row));
         }
     }
-    assert_eq!(rt; rows, ROWS);
-    Ok(())
+    Ok(None)
+}
+
+// The first of all blocks.
+fn wrong_row(alloc: Global) -> Result<Option<&'static str>, Memory> {
+    for block in TABLE.split("\n\n") {
+        if let Some(row) = wrong_in(alloc, block)? {
+            return Ok(Some(row));
+        }
+    }
+    Ok(None)
 }
 
 #[test]
-fn the_longest_url_has_8192_bytes(rt: HostRuntime) -> Result<(), Fail> {
-    let alloc = rt.alloc();
-    let map = ImportMap::empty(alloc);
-    for (rest, short) in [(8177, true), (8178, false)] {
-        let mut bytes = Vec::new(alloc);
-        bytes.extend_from_slice(b"https://a.test/")?;
-        bytes.resize(15 + rest, b'x')?;
-        let specifier = String::from_utf8(bytes)?;
-        let wanted = if short { specifier.as_str() } else { "S5" };
-        assert_eq!(rt;
-            answer(alloc, &map, "https://a.test/main.js", specifier.as_str())?.as_str(),
-            wanted
-        );
+fn specifiers_resolve(rt: HostRuntime) -> Result<(), Memory> {
+    assert_eq!(rt; wrong_row(rt.alloc())?, None);
+    // fourteen maps with thirteen empty lines between them, eight lines on what they show, and 69 rows
+    assert!(rt; TABLE.lines().count() == 104);
+    Ok(())
+}
+
+// A URL below `https://a.test/` of so many bytes behind it.
+fn long_url(alloc: Global, rest: usize) -> Result<String, Memory> {
+    let mut text = String::from_str(alloc, "https://a.test/")?;
+    for _ in 0..rest {
+        text.push('x')?;
     }
+    Ok(text)
+}
+
+// Whether it resolves to this under the empty map, or to itself where nothing else is given.
+fn is_answer(alloc: Global, specifier: &str, wanted: Option<&str>) -> Result<bool, Memory> {
+    let map = ImportMap::empty(alloc);
+    let found = answer(alloc, &map, "https://a.test/main.js", specifier)?;
+    Ok(found.as_str() == wanted.unwrap_or(specifier))
+}
+
+fn bound_is_exact(alloc: Global) -> Result<bool, Memory> {
+    let longest = long_url(alloc, 8177)?;
+    let longer = long_url(alloc, 8178)?;
+    Ok(is_answer(alloc, longest.as_str(), None)? && is_answer(alloc, longer.as_str(), Some("S5"))?)
+}
+
+#[test]
+fn the_longest_url_has_8192_bytes(rt: HostRuntime) -> Result<(), Memory> {
+    assert!(rt; bound_is_exact(rt.alloc())?);
     Ok(())
 }

@@ -1,627 +1,530 @@
 // Worked sites with `import()`.
 use crate::orders::first_wrong_order;
-use esm_base::{Memory, Status};
-use esm_sites::Row;
+use esm_base::Memory;
 
 /// Modules that load, or are there.
-const LOADS: &[Row] = &[
-    Row {
-        name: "a module that nobody has asked for",
-        files: &[
-            (
-                "main.js",
-                r#"print("m1"); const n = await import("./a.js"); print(n.x, n);"#,
-            ),
-            ("a.js", r#"export const x = "1"; print("a");"#),
-        ],
-        output: "m1\na\n1 [module x]\n",
-        status: Status::Fulfilled,
-    },
-    Row {
-        name: "a module that is evaluated",
-        files: &[
-            (
-                "main.js",
-                r#"import "./a.js";await import("./a.js");print("m");"#,
-            ),
-            ("a.js", r#"print("a");"#),
-        ],
-        output: "a\nm\n",
-        status: Status::Fulfilled,
-    },
-    Row {
-        name: "a module that is evaluated gives the namespace that an import names",
-        files: &[
-            (
-                "main.js",
-                r#"import * as n from "./a.js"; const k = await import("./a.js"); print(n === k);"#,
-            ),
-            ("a.js", ""),
-        ],
-        output: "true\n",
-        status: Status::Fulfilled,
-    },
-    Row {
-        name: "a promise is shown",
-        files: &[
-            ("main.js", r#"print(import("./a.js"));"#),
-            ("a.js", r#"print("a");"#),
-        ],
-        output: "[promise]\na\n",
-        status: Status::Fulfilled,
-    },
-    Row {
-        name: "each call gives a promise of its own",
-        files: &[
-            (
-                "main.js",
-                r#"const p = import("./a.js"); print(p === p, p === import("./a.js"));"#,
-            ),
-            ("a.js", r#"print("a");"#),
-        ],
-        output: "true false\na\n",
-        status: Status::Fulfilled,
-    },
-    Row {
-        name: "a module that is loading",
-        files: &[
-            (
-                "main.js",
-                r#"import("./a.js"); import("./a.js");print("m");"#,
-            ),
-            ("a.js", r#"print("a");"#),
-        ],
-        output: "m\na\n",
-        status: Status::Fulfilled,
-    },
-    Row {
-        name: "a module that is loading, by another spelling",
-        files: &[
-            (
-                "main.js",
-                r#"const p = await import("./a.js"); const q = await import("././a.js"); print(p === q);"#,
-            ),
-            ("a.js", r#"print("a");"#),
-        ],
-        output: "a\ntrue\n",
-        status: Status::Fulfilled,
-    },
-    Row {
-        name: "an import that nobody awaits",
-        files: &[
-            ("main.js", r#"import("./a.js");print("m");"#),
-            ("a.js", r#"print("a1");await undefined;print("a2");"#),
-        ],
-        output: "m\na1\na2\n",
-        status: Status::Fulfilled,
-    },
-    Row {
-        name: "an import waits for the awaits of its module",
-        files: &[
-            (
-                "main.js",
-                r#"print("m1");await import("./a.js");print("m2");"#,
-            ),
-            ("a.js", r#"print("a1");await undefined;print("a2");"#),
-        ],
-        output: "m1\na1\na2\nm2\n",
-        status: Status::Fulfilled,
-    },
-];
+const LOADS: &str = r#"== a module that nobody has asked for
+-- main.js
+print("m1"); const n = await import("./a.js"); print(n.x, n);
+-- a.js
+export const x = "1"; print("a");
+>> Fulfilled
+m1
+a
+1 [module x]
+
+== a module that is evaluated
+-- main.js
+import "./a.js";await import("./a.js");print("m");
+-- a.js
+print("a");
+>> Fulfilled
+a
+m
+
+== a module that is evaluated gives the namespace that an import names
+-- main.js
+import * as n from "./a.js"; const k = await import("./a.js"); print(n === k);
+-- a.js
+>> Fulfilled
+true
+
+== a promise is shown
+-- main.js
+print(import("./a.js"));
+-- a.js
+print("a");
+>> Fulfilled
+[promise]
+a
+
+== each call gives a promise of its own
+-- main.js
+const p = import("./a.js"); print(p === p, p === import("./a.js"));
+-- a.js
+print("a");
+>> Fulfilled
+true false
+a
+
+== a module that is loading
+-- main.js
+import("./a.js"); import("./a.js");print("m");
+-- a.js
+print("a");
+>> Fulfilled
+m
+a
+
+== a module that is loading, by another spelling
+-- main.js
+const p = await import("./a.js"); const q = await import("././a.js"); print(p === q);
+-- a.js
+print("a");
+>> Fulfilled
+a
+true
+
+== an import that nobody awaits
+-- main.js
+import("./a.js");print("m");
+-- a.js
+print("a1");await undefined;print("a2");
+>> Fulfilled
+m
+a1
+a2
+
+== an import waits for the awaits of its module
+-- main.js
+print("m1");await import("./a.js");print("m2");
+-- a.js
+print("a1");await undefined;print("a2");
+>> Fulfilled
+m1
+a1
+a2
+m2"#;
 
 /// Modules that lead to themselves.
-const CIRCLES: &[Row] = &[
-    Row {
-        name: "the entry imports itself and waits for itself",
-        files: &[(
-            "main.js",
-            r#"print("m1");await import("./main.js");print("m2");"#,
-        )],
-        output: "m1\nUnsettled\n",
-        status: Status::Unsettled,
-    },
-    Row {
-        name: "the entry imports itself and does not wait",
-        files: &[("main.js", r#"import("./main.js");print("m");"#)],
-        output: "m\n",
-        status: Status::Fulfilled,
-    },
-    Row {
-        name: "a dependency waits for the entry",
-        files: &[
-            ("main.js", r#"import "./a.js";print("m");"#),
-            (
-                "a.js",
-                r#"print("a1");await import("./main.js");print("a2");"#,
-            ),
-        ],
-        output: "a1\nUnsettled\n",
-        status: Status::Unsettled,
-    },
-    Row {
-        name: "a dependency imports the entry and does not wait",
-        files: &[
-            ("main.js", r#"import "./a.js";print("m");"#),
-            ("a.js", r#"import("./main.js");print("a");"#),
-        ],
-        output: "a\nm\n",
-        status: Status::Fulfilled,
-    },
-    Row {
-        name: "two modules wait for each other",
-        files: &[
-            ("main.js", r#"await import("./a.js");print("m");"#),
-            ("a.js", r#"print("a");await import("./b.js");"#),
-            ("b.js", r#"print("b");await import("./a.js");"#),
-        ],
-        output: "a\nb\nUnsettled\n",
-        status: Status::Unsettled,
-    },
-];
+const CIRCLES: &str = r#"== the entry imports itself and waits for itself
+-- main.js
+print("m1");await import("./main.js");print("m2");
+>> Unsettled
+m1
+Unsettled
+
+== the entry imports itself and does not wait
+-- main.js
+import("./main.js");print("m");
+>> Fulfilled
+m
+
+== a dependency waits for the entry
+-- main.js
+import "./a.js";print("m");
+-- a.js
+print("a1");await import("./main.js");print("a2");
+>> Unsettled
+a1
+Unsettled
+
+== a dependency imports the entry and does not wait
+-- main.js
+import "./a.js";print("m");
+-- a.js
+import("./main.js");print("a");
+>> Fulfilled
+a
+m
+
+== two modules wait for each other
+-- main.js
+await import("./a.js");print("m");
+-- a.js
+print("a");await import("./b.js");
+-- b.js
+print("b");await import("./a.js");
+>> Unsettled
+a
+b
+Unsettled"#;
 
 /// Files and texts that fail, and specifiers.
-const MISSING: &[Row] = &[
-    Row {
-        name: "a file that is missing",
-        files: &[("main.js", r#"await import("./no.js");"#)],
-        output: "Uncaught TypeError: cannot fetch https://a.test/no.js\n",
-        status: Status::EntryFailed,
-    },
-    Row {
-        name: "a file that is missing is caught",
-        files: &[(
-            "main.js",
-            r#"try { await import("./no.js"); } catch (e) { print(e); }print("m");"#,
-        )],
-        output: "TypeError: cannot fetch https://a.test/no.js\nm\n",
-        status: Status::Fulfilled,
-    },
-    Row {
-        name: "a file that is missing has an error for each import",
-        files: &[(
-            "main.js",
-            r#"let e; let f; try { await import("./no.js"); } catch (x) { e = x; } try { await import("./no.js"); } catch (x) { f = x; } print(e === f, e.message === f.message);"#,
-        )],
-        output: "false true\n",
-        status: Status::Fulfilled,
-    },
-    Row {
-        name: "a broken text has one error",
-        files: &[
-            (
-                "main.js",
-                r#"let e; let f; try { await import("./b.js"); } catch (x) { e = x; } try { await import("./b.js"); } catch (x) { f = x; } print(e === f, e);"#,
-            ),
-            ("b.js", "const"),
-        ],
-        output: "true SyntaxError: https://a.test/b.js: P2 no module text\n",
-        status: Status::Fulfilled,
-    },
-    Row {
-        name: "a broken text below what is imported has that error too",
-        files: &[
-            (
-                "main.js",
-                r#"let e; let f; try { await import("./b.js"); } catch (x) { e = x; } try { await import("./a.js"); } catch (x) { f = x; } print(e === f);"#,
-            ),
-            ("a.js", r#"import "./b.js";print("a");"#),
-            ("b.js", "const"),
-        ],
-        output: "true\n",
-        status: Status::Fulfilled,
-    },
-    Row {
-        name: "a specifier that is not mapped",
-        files: &[(
-            "main.js",
-            r#"try { await import("x"); } catch (e) { print(e); }"#,
-        )],
-        output: "TypeError: https://a.test/main.js: specifier x: S4 bare and not mapped\n",
-        status: Status::Fulfilled,
-    },
-    Row {
-        name: "a specifier that is not mapped, below what is imported",
-        files: &[
-            (
-                "main.js",
-                r#"try { await import("./a.js"); } catch (e) { print(e); }"#,
-            ),
-            ("a.js", r#"import "x";"#),
-        ],
-        output: "TypeError: https://a.test/a.js: specifier x: S4 bare and not mapped\n",
-        status: Status::Fulfilled,
-    },
-    Row {
-        name: "undefined is a specifier",
-        files: &[(
-            "main.js",
-            "try { await import(undefined); } catch (e) { print(e); }",
-        )],
-        output: "TypeError: https://a.test/main.js: specifier undefined: S4 bare and not mapped\n",
-        status: Status::Fulfilled,
-    },
-    Row {
-        name: "a value that is no text rejects the promise",
-        files: &[(
-            "main.js",
-            "function f(){} const p = import(f); print(p);try { await p; } catch (e) { print(e); }",
-        )],
-        output: "[promise]\nTypeError: cannot convert to text\n",
-        status: Status::Fulfilled,
-    },
-    Row {
-        name: "the operand throws",
-        files: &[("main.js", "try { import(x); } catch (e) { print(e); }")],
-        output: "ReferenceError: x is not defined\n",
-        status: Status::Fulfilled,
-    },
-];
+const MISSING: &str = r#"== a file that is missing
+-- main.js
+await import("./no.js");
+>> EntryFailed
+Uncaught TypeError: cannot fetch https://a.test/no.js
+
+== a file that is missing is caught
+-- main.js
+try { await import("./no.js"); } catch (e) { print(e); }print("m");
+>> Fulfilled
+TypeError: cannot fetch https://a.test/no.js
+m
+
+== a file that is missing has an error for each import
+-- main.js
+let e; let f; try { await import("./no.js"); } catch (x) { e = x; } try { await import("./no.js"); } catch (x) { f = x; } print(e === f, e.message === f.message);
+>> Fulfilled
+false true
+
+== a broken text has one error
+-- main.js
+let e; let f; try { await import("./b.js"); } catch (x) { e = x; } try { await import("./b.js"); } catch (x) { f = x; } print(e === f, e);
+-- b.js
+const
+>> Fulfilled
+true SyntaxError: https://a.test/b.js: P2 no module text
+
+== a broken text below what is imported has that error too
+-- main.js
+let e; let f; try { await import("./b.js"); } catch (x) { e = x; } try { await import("./a.js"); } catch (x) { f = x; } print(e === f);
+-- a.js
+import "./b.js";print("a");
+-- b.js
+const
+>> Fulfilled
+true
+
+== a specifier that is not mapped
+-- main.js
+try { await import("x"); } catch (e) { print(e); }
+>> Fulfilled
+TypeError: https://a.test/main.js: specifier x: S4 bare and not mapped
+
+== a specifier that is not mapped, below what is imported
+-- main.js
+try { await import("./a.js"); } catch (e) { print(e); }
+-- a.js
+import "x";
+>> Fulfilled
+TypeError: https://a.test/a.js: specifier x: S4 bare and not mapped
+
+== undefined is a specifier
+-- main.js
+try { await import(undefined); } catch (e) { print(e); }
+>> Fulfilled
+TypeError: https://a.test/main.js: specifier undefined: S4 bare and not mapped
+
+== a value that is no text rejects the promise
+-- main.js
+function f(){} const p = import(f); print(p);try { await p; } catch (e) { print(e); }
+>> Fulfilled
+[promise]
+TypeError: cannot convert to text
+
+== the operand throws
+-- main.js
+try { import(x); } catch (e) { print(e); }
+>> Fulfilled
+ReferenceError: x is not defined"#;
 
 /// Links and bodies that fail.
-const FAILURES: &[Row] = &[
-    Row {
-        name: "a name that is missing",
-        files: &[
-            (
-                "main.js",
-                r#"try { await import("./a.js"); } catch (e) { print(e); }print("m");"#,
-            ),
-            ("a.js", r#"import {q} from "./b.js";"#),
-            ("b.js", ""),
-        ],
-        output: "SyntaxError: https://a.test/a.js: no export q in https://a.test/b.js\nm\n",
-        status: Status::Fulfilled,
-    },
-    Row {
-        name: "a name that is missing has an error for each import",
-        files: &[
-            (
-                "main.js",
-                r#"let e; let f; try { await import("./a.js"); } catch (x) { e = x; } try { await import("./a.js"); } catch (x) { f = x; } print(e === f);"#,
-            ),
-            ("a.js", r#"import {q} from "./b.js";"#),
-            ("b.js", ""),
-        ],
-        output: "false\n",
-        status: Status::Fulfilled,
-    },
-    Row {
-        name: "a name that is missing leaves its target linked",
-        files: &[
-            (
-                "main.js",
-                r#"try { await import("./a.js"); } catch (e) { print(e); }await import("./b.js");print("m");"#,
-            ),
-            ("a.js", r#"import {q} from "./b.js";"#),
-            ("b.js", r#"print("b");"#),
-        ],
-        output: "SyntaxError: https://a.test/a.js: no export q in https://a.test/b.js\nb\nm\n",
-        status: Status::Fulfilled,
-    },
-    Row {
-        name: "a body that throws has one error",
-        files: &[
-            (
-                "main.js",
-                r#"let e; let f; try { await import("./a.js"); } catch (x) { e = x; } try { await import("./a.js"); } catch (x) { f = x; } print(e === f, e);"#,
-            ),
-            ("a.js", r#"print("a");throw new Error("x");"#),
-        ],
-        output: "a\ntrue Error: x\n",
-        status: Status::Fulfilled,
-    },
-    Row {
-        name: "an evaluation meets a module that was rejected",
-        files: &[
-            (
-                "main.js",
-                r#"try { await import("./a.js"); } catch (e) { print(e); }try { await import("./b.js"); } catch (e) { print(e); }"#,
-            ),
-            ("a.js", r#"print("a");throw "x";"#),
-            ("b.js", r#"import "./a.js";print("b");"#),
-        ],
-        output: "a\nx\nx\n",
-        status: Status::Fulfilled,
-    },
-    Row {
-        name: "an evaluation meets a module that was rejected behind an await",
-        files: &[
-            (
-                "main.js",
-                r#"try { await import("./a.js"); } catch (e) { print(e); }try { await import("./b.js"); } catch (e) { print(e); }"#,
-            ),
-            ("a.js", r#"print("a");await undefined;throw "x";"#),
-            ("b.js", r#"import "./a.js";print("b");"#),
-        ],
-        output: "a\nx\nx\n",
-        status: Status::Fulfilled,
-    },
-    Row {
-        name: "an evaluation meets a module that waits",
-        files: &[
-            (
-                "main.js",
-                r#"const p = import("./a.js"); const q = import("./b.js"); await q;print("m");"#,
-            ),
-            ("a.js", r#"print("a1");await import("./z.js");print("a2");"#),
-            ("b.js", r#"import "./a.js";print("b");"#),
-            ("z.js", r#"print("z");"#),
-        ],
-        output: "a1\nz\na2\nb\nm\n",
-        status: Status::Fulfilled,
-    },
-    Row {
-        name: "an import of a module that waits",
-        files: &[
-            (
-                "main.js",
-                r#"const p = import("./a.js"); const q = import("./b.js"); await q;print("m");"#,
-            ),
-            ("a.js", r#"print("a1");await import("./z.js");print("a2");"#),
-            ("b.js", r#"await import("./a.js");print("b");"#),
-            ("z.js", r#"print("z");"#),
-        ],
-        output: "a1\nz\na2\nb\nm\n",
-        status: Status::Fulfilled,
-    },
-    Row {
-        name: "an import that fails and that nobody awaits",
-        files: &[("main.js", r#"import("./no.js");print("m");"#)],
-        output: "m\n",
-        status: Status::Fulfilled,
-    },
-    Row {
-        name: "a body that throws and that nobody awaits",
-        files: &[
-            ("main.js", r#"import("./a.js");print("m");"#),
-            ("a.js", r#"print("a");throw "x";"#),
-        ],
-        output: "m\na\n",
-        status: Status::Fulfilled,
-    },
-];
+const FAILURES: &str = r#"== a name that is missing
+-- main.js
+try { await import("./a.js"); } catch (e) { print(e); }print("m");
+-- a.js
+import {q} from "./b.js";
+-- b.js
+>> Fulfilled
+SyntaxError: https://a.test/a.js: no export q in https://a.test/b.js
+m
+
+== a name that is missing has an error for each import
+-- main.js
+let e; let f; try { await import("./a.js"); } catch (x) { e = x; } try { await import("./a.js"); } catch (x) { f = x; } print(e === f);
+-- a.js
+import {q} from "./b.js";
+-- b.js
+>> Fulfilled
+false
+
+== a name that is missing leaves its target linked
+-- main.js
+try { await import("./a.js"); } catch (e) { print(e); }await import("./b.js");print("m");
+-- a.js
+import {q} from "./b.js";
+-- b.js
+print("b");
+>> Fulfilled
+SyntaxError: https://a.test/a.js: no export q in https://a.test/b.js
+b
+m
+
+== a body that throws has one error
+-- main.js
+let e; let f; try { await import("./a.js"); } catch (x) { e = x; } try { await import("./a.js"); } catch (x) { f = x; } print(e === f, e);
+-- a.js
+print("a");throw new Error("x");
+>> Fulfilled
+a
+true Error: x
+
+== an evaluation meets a module that was rejected
+-- main.js
+try { await import("./a.js"); } catch (e) { print(e); }try { await import("./b.js"); } catch (e) { print(e); }
+-- a.js
+print("a");throw "x";
+-- b.js
+import "./a.js";print("b");
+>> Fulfilled
+a
+x
+x
+
+== an evaluation meets a module that was rejected behind an await
+-- main.js
+try { await import("./a.js"); } catch (e) { print(e); }try { await import("./b.js"); } catch (e) { print(e); }
+-- a.js
+print("a");await undefined;throw "x";
+-- b.js
+import "./a.js";print("b");
+>> Fulfilled
+a
+x
+x
+
+== an evaluation meets a module that waits
+-- main.js
+const p = import("./a.js"); const q = import("./b.js"); await q;print("m");
+-- a.js
+print("a1");await import("./z.js");print("a2");
+-- b.js
+import "./a.js";print("b");
+-- z.js
+print("z");
+>> Fulfilled
+a1
+z
+a2
+b
+m
+
+== an import of a module that waits
+-- main.js
+const p = import("./a.js"); const q = import("./b.js"); await q;print("m");
+-- a.js
+print("a1");await import("./z.js");print("a2");
+-- b.js
+await import("./a.js");print("b");
+-- z.js
+print("z");
+>> Fulfilled
+a1
+z
+a2
+b
+m
+
+== an import that fails and that nobody awaits
+-- main.js
+import("./no.js");print("m");
+>> Fulfilled
+m
+
+== a body that throws and that nobody awaits
+-- main.js
+import("./a.js");print("m");
+-- a.js
+print("a");throw "x";
+>> Fulfilled
+m
+a"#;
 
 /// Loads side by side.
-const SIDE_BY_SIDE: &[Row] = &[
-    Row {
-        name: "the entry fails while an import goes on",
-        files: &[
-            ("main.js", r#"import("./a.js"); throw "x";"#),
-            ("a.js", r#"print("a");"#),
-        ],
-        output: "a\nUncaught x\n",
-        status: Status::EntryFailed,
-    },
-    Row {
-        name: "a function of another module imports against its own URL",
-        files: &[
-            (
-                "main.js",
-                r#"import {f} from "./d/a.js"; await f();print("m");"#,
-            ),
-            (
-                "d/a.js",
-                r#"export function f(){ return import("./b.js"); }"#,
-            ),
-            ("d/b.js", r#"print("d/b");"#),
-            ("b.js", r#"print("b");"#),
-        ],
-        output: "d/b\nm\n",
-        status: Status::Fulfilled,
-    },
-    Row {
-        name: "two loads share a module that is missing",
-        files: &[
-            (
-                "main.js",
-                r#"const p = import("./a.js"); const q = import("./b.js");try { await p; } catch (e) { print(e); }try { await q; } catch (e) { print(e); }print("m");"#,
-            ),
-            ("a.js", r#"import "./no.js";print("a");"#),
-            ("b.js", r#"import "./no.js";print("b");"#),
-        ],
-        output: "TypeError: cannot fetch https://a.test/no.js\nTypeError: cannot fetch https://a.test/no.js\nm\n",
-        status: Status::Fulfilled,
-    },
-];
+const SIDE_BY_SIDE: &str = r#"== the entry fails while an import goes on
+-- main.js
+import("./a.js"); throw "x";
+-- a.js
+print("a");
+>> EntryFailed
+a
+Uncaught x
+
+== a function of another module imports against its own URL
+-- main.js
+import {f} from "./d/a.js"; await f();print("m");
+-- d/a.js
+export function f(){ return import("./b.js"); }
+-- d/b.js
+print("d/b");
+-- b.js
+print("b");
+>> Fulfilled
+d/b
+m
+
+== two loads share a module that is missing
+-- main.js
+const p = import("./a.js"); const q = import("./b.js");try { await p; } catch (e) { print(e); }try { await q; } catch (e) { print(e); }print("m");
+-- a.js
+import "./no.js";print("a");
+-- b.js
+import "./no.js";print("b");
+>> Fulfilled
+TypeError: cannot fetch https://a.test/no.js
+TypeError: cannot fetch https://a.test/no.js
+m"#;
 
 /// Promises as values.
-const PROMISES: &[Row] = &[
-    Row {
-        name: "three jobs between an import() and the body behind its await",
-        files: &[
-            ("main.js", r#"import "./x.js";import "./t.js";print("m");"#),
-            (
-                "x.js",
-                r#"import "./a.js";print("x1");await import("./a.js");print("x2");"#,
-            ),
-            ("a.js", r#"print("a");"#),
-            (
-                "t.js",
-                r#"print("t1");await undefined;print("t2");await undefined;print("t3");await undefined;print("t4");await undefined;print("t5");await undefined;print("t6");await undefined;print("t7");await undefined;print("t8");await undefined;print("t9");"#,
-            ),
-        ],
-        output: "a\nx1\nt1\nt2\nt3\nx2\nt4\nt5\nt6\nt7\nt8\nt9\nm\n",
-        status: Status::Fulfilled,
-    },
-    Row {
-        name: "a member of a promise",
-        files: &[
-            (
-                "main.js",
-                r#"try { import("./a.js").x; } catch (e) { print(e); }"#,
-            ),
-            ("a.js", r#"print("a");"#),
-        ],
-        output: "TypeError: no members\na\n",
-        status: Status::Fulfilled,
-    },
-    Row {
-        name: "a promise is no operand",
-        files: &[
-            (
-                "main.js",
-                r#"try { "a" + import("./a.js"); } catch (e) { print(e); }"#,
-            ),
-            ("a.js", r#"print("a");"#),
-        ],
-        output: "TypeError: bad operands\na\n",
-        status: Status::Fulfilled,
-    },
-    Row {
-        name: "a promise is true",
-        files: &[
-            ("main.js", r#"if (import("./a.js")) { print("m"); }"#),
-            ("a.js", r#"print("a");"#),
-        ],
-        output: "m\na\n",
-        status: Status::Fulfilled,
-    },
-    Row {
-        name: "a promise is awaited twice",
-        files: &[
-            (
-                "main.js",
-                r#"const p = import("./a.js"); const n = await p; const k = await p; print(n === k);"#,
-            ),
-            ("a.js", r#"print("a");"#),
-        ],
-        output: "a\ntrue\n",
-        status: Status::Fulfilled,
-    },
-    Row {
-        name: "a rejected promise is awaited twice",
-        files: &[(
-            "main.js",
-            r#"const p = import("./no.js"); let e; try { await p; } catch (x) { e = x; } try { await p; } catch (x) { print(e === x); }"#,
-        )],
-        output: "true\n",
-        status: Status::Fulfilled,
-    },
-];
+const PROMISES: &str = r#"== three jobs between an import() and the body behind its await
+-- main.js
+import "./x.js";import "./t.js";print("m");
+-- x.js
+import "./a.js";print("x1");await import("./a.js");print("x2");
+-- a.js
+print("a");
+-- t.js
+print("t1");await undefined;print("t2");await undefined;print("t3");await undefined;print("t4");await undefined;print("t5");await undefined;print("t6");await undefined;print("t7");await undefined;print("t8");await undefined;print("t9");
+>> Fulfilled
+a
+x1
+t1
+t2
+t3
+x2
+t4
+t5
+t6
+t7
+t8
+t9
+m
+
+== a member of a promise
+-- main.js
+try { import("./a.js").x; } catch (e) { print(e); }
+-- a.js
+print("a");
+>> Fulfilled
+TypeError: no members
+a
+
+== a promise is no operand
+-- main.js
+try { "a" + import("./a.js"); } catch (e) { print(e); }
+-- a.js
+print("a");
+>> Fulfilled
+TypeError: bad operands
+a
+
+== a promise is true
+-- main.js
+if (import("./a.js")) { print("m"); }
+-- a.js
+print("a");
+>> Fulfilled
+m
+a
+
+== a promise is awaited twice
+-- main.js
+const p = import("./a.js"); const n = await p; const k = await p; print(n === k);
+-- a.js
+print("a");
+>> Fulfilled
+a
+true
+
+== a rejected promise is awaited twice
+-- main.js
+const p = import("./no.js"); let e; try { await p; } catch (x) { e = x; } try { await p; } catch (x) { print(e === x); }
+>> Fulfilled
+true"#;
 
 /// What an import reaches.
-const REACHES: &[Row] = &[
-    Row {
-        name: "a live binding by a namespace that was imported",
-        files: &[
-            (
-                "main.js",
-                r#"const n = await import("./a.js"); print(n.x); n.set("2"); print(n.x);"#,
-            ),
-            (
-                "a.js",
-                r#"export let x = "1"; export function set(v){ x = v; }"#,
-            ),
-        ],
-        output: "1\n2\n",
-        status: Status::Fulfilled,
-    },
-    Row {
-        name: "an import in a function that nobody calls",
-        files: &[(
-            "main.js",
-            r#"function f(){ return import("./no.js"); }print("m");"#,
-        )],
-        output: "m\n",
-        status: Status::Fulfilled,
-    },
-    Row {
-        name: "a module is imported from what it imports",
-        files: &[
-            ("main.js", r#"import "./a.js";print("m");"#),
-            (
-                "a.js",
-                r#"export function f(){ return import("./b.js"); }f();print("a");"#,
-            ),
-            ("b.js", r#"import "./a.js";print("b");"#),
-        ],
-        output: "a\nm\nb\n",
-        status: Status::Fulfilled,
-    },
-    Row {
-        name: "an import of an import",
-        files: &[
-            ("main.js", r#"await import("./a.js");print("m");"#),
-            ("a.js", r#"print("a1");await import("./b.js");print("a2");"#),
-            ("b.js", r#"print("b1");await import("./c.js");print("b2");"#),
-            ("c.js", r#"print("c");"#),
-        ],
-        output: "a1\nb1\nc\nb2\na2\nm\n",
-        status: Status::Fulfilled,
-    },
-];
+const REACHES: &str = r#"== a live binding by a namespace that was imported
+-- main.js
+const n = await import("./a.js"); print(n.x); n.set("2"); print(n.x);
+-- a.js
+export let x = "1"; export function set(v){ x = v; }
+>> Fulfilled
+1
+2
 
-/// A site whose run depends on the order in which its fetches end. Each run ends Fulfilled.
-pub struct Race {
-    /// What it shows.
-    pub name: &'static str,
-    /// The name of each file, and its text.
-    pub files: &'static [(&'static str, &'static str)],
-    /// What is delivered, in order, and what is written then; first the order of asking.
-    pub runs: &'static [(&'static [&'static str], &'static str)],
-}
+== an import in a function that nobody calls
+-- main.js
+function f(){ return import("./no.js"); }print("m");
+>> Fulfilled
+m
 
-/// Sites whose run depends on the order in which their fetches end, with all orders of each.
-pub const RACES: &[Race] = &[
-    Race {
-        name: "two files that nothing else imports",
-        files: &[
-            (
-                "main.js",
-                r#"const p = import("./a.js"); const q = import("./b.js"); await p; await q;"#,
-            ),
-            ("a.js", r#"print("A");"#),
-            ("b.js", r#"print("B");"#),
-        ],
-        runs: &[
-            (&["main.js", "a.js", "b.js"], "A\nB\n"),
-            (&["main.js", "b.js", "a.js"], "B\nA\n"),
-        ],
-    },
-    Race {
-        name: "two loads share a module that is not there yet",
-        files: &[
-            (
-                "main.js",
-                r#"import("./a.js"); import("./b.js");print("m");"#,
-            ),
-            ("a.js", r#"import "./c.js";print("a");"#),
-            ("b.js", r#"import "./c.js";print("b");"#),
-            ("c.js", r#"print("c");"#),
-        ],
-        runs: &[
-            (&["main.js", "a.js", "b.js", "c.js"], "m\nc\na\nb\n"),
-            (&["main.js", "a.js", "c.js", "b.js"], "m\nc\na\nb\n"),
-            (&["main.js", "b.js", "a.js", "c.js"], "m\nc\nb\na\n"),
-            (&["main.js", "b.js", "c.js", "a.js"], "m\nc\nb\na\n"),
-        ],
-    },
-    Race {
-        name: "a load fails while another goes on",
-        files: &[
-            (
-                "main.js",
-                r#"const p = import("./a.js"); const q = import("./b.js");try { await p; } catch (e) { print(e); }await q;print("m");"#,
-            ),
-            ("a.js", r#"import "./no.js";print("a");"#),
-            ("b.js", r#"print("b");"#),
-        ],
-        runs: &[
-            (
-                &["main.js", "a.js", "b.js", "no.js"],
-                "b\nTypeError: cannot fetch https://a.test/no.js\nm\n",
-            ),
-            (
-                &["main.js", "a.js", "no.js", "b.js"],
-                "TypeError: cannot fetch https://a.test/no.js\nb\nm\n",
-            ),
-            (
-                &["main.js", "b.js", "a.js", "no.js"],
-                "b\nTypeError: cannot fetch https://a.test/no.js\nm\n",
-            ),
-        ],
-    },
-];
+== a module is imported from what it imports
+-- main.js
+import "./a.js";print("m");
+-- a.js
+export function f(){ return import("./b.js"); }f();print("a");
+-- b.js
+import "./a.js";print("b");
+>> Fulfilled
+a
+m
+b
+
+== an import of an import
+-- main.js
+await import("./a.js");print("m");
+-- a.js
+print("a1");await import("./b.js");print("a2");
+-- b.js
+print("b1");await import("./c.js");print("b2");
+-- c.js
+print("c");
+>> Fulfilled
+a1
+b1
+c
+b2
+a2
+m"#;
+
+/// Sites whose run depends on the order in which their fetches end, with all orders of each. Each run ends Fulfilled: behind
+/// `>> ` stands what is delivered, in order, and on the lines below what is written then; first the order of asking.
+pub const RACES: &str = r#"== two files that nothing else imports
+-- main.js
+const p = import("./a.js"); const q = import("./b.js"); await p; await q;
+-- a.js
+print("A");
+-- b.js
+print("B");
+>> main.js a.js b.js
+A
+B
+>> main.js b.js a.js
+B
+A
+
+== two loads share a module that is not there yet
+-- main.js
+import("./a.js"); import("./b.js");print("m");
+-- a.js
+import "./c.js";print("a");
+-- b.js
+import "./c.js";print("b");
+-- c.js
+print("c");
+>> main.js a.js b.js c.js
+m
+c
+a
+b
+>> main.js a.js c.js b.js
+m
+c
+a
+b
+>> main.js b.js a.js c.js
+m
+c
+b
+a
+>> main.js b.js c.js a.js
+m
+c
+b
+a
+
+== a load fails while another goes on
+-- main.js
+const p = import("./a.js"); const q = import("./b.js");try { await p; } catch (e) { print(e); }await q;print("m");
+-- a.js
+import "./no.js";print("a");
+-- b.js
+print("b");
+>> main.js a.js b.js no.js
+b
+TypeError: cannot fetch https://a.test/no.js
+m
+>> main.js a.js no.js b.js
+TypeError: cannot fetch https://a.test/no.js
+b
+m
+>> main.js b.js a.js no.js
+b
+TypeError: cannot fetch https://a.test/no.js
+m"#;
 
 #[test]
 fn modules_are_imported(rt: HostRuntime) -> Result<(), Memory> {

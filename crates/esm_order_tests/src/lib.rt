@@ -8,4 +8,6 @@ mod dynamic;
 #[cfg(test)]
 mod orders;
 #[cfg(test)]
+mod texts;
+#[cfg(test)]
 mod worked;

@@ -4,13 +4,14 @@ ghost use Rattle.esm_machine.specs.Machine.{state_of};
 ghost use Rattle.esm_machine.specs.Represents.{MayTake};
 
 use crate::dynamic::RACES;
+use crate::texts::{Wanted, ending, files_of, is_wanted, title, wanted_by, wanted_of};
 use esm_ast::Outcome;
 use esm_base::{Memory, Status, Text};
 use esm_import_map::ImportMap;
 use esm_machine::{Machine, TurnEnd};
-use esm_ports::SureSink;
-use esm_run::Delivery;
-use esm_sites::{Row, SITES, run_over, site};
+use esm_ports::{SureSink, SureSource};
+use esm_run::{Delivery, RunReport};
+use esm_sites::{Row, SITES, add_named, run_over, site};
 use std::alloc::Global;
 use std::marker::Sync;
 use std::sync::{Arc, Wait};
@@ -116,61 +117,94 @@ fn ended(alloc: Global, machine: &Machine) -> Result<Option<(Status, Vec<u8>)>, 
     Ok(Some((status, text)))
 }
 
-// Whether a run by these choices ends as the row says.
-fn ends_so(
-    alloc: Global,
-    row: &Row,
-    choices: &mut Vec<Choice>,
-    taken: &[Delivery],
-) -> Result<bool, Memory> {
-    let mut machine = new_machine(alloc)?;
-    drive(&mut machine, choices, taken)?;
-    match ended(alloc, &machine)? {
-        Some((status, text)) => Ok(
-            status == row.status && text.as_slice() == row.output.as_bytes(),
-        ),
+// Whether a run has ended so.
+fn has_ended(alloc: Global, machine: &Machine, wanted: Wanted<'_>) -> Result<bool, Memory> {
+    match ended(alloc, machine)? {
+        Some((status, text)) => Ok(is_wanted(wanted, status, text.as_slice())),
         None => Ok(false),
     }
 }
 
-// In how many orders the fetches of a site can end; none where its run, or one of these orders, doesn't end as the row
-// says.
-fn orders_of<R: Threads + Wait + Sync>(
-    rt: &R,
+// Whether the run of this machine by these choices ends so.
+fn is_driven_so(
     alloc: Global,
-    row: &Row,
+    machine: &mut Machine,
+    wanted: Wanted<'_>,
+    choices: &mut Vec<Choice>,
+    taken: &[Delivery],
+) -> Result<bool, Memory> {
+    drive(machine, choices, taken)?;
+    has_ended(alloc, machine, wanted)
+}
+
+// Whether a run by these choices ends so.
+fn ends_so(
+    alloc: Global,
+    wanted: Wanted<'_>,
+    choices: &mut Vec<Choice>,
+    taken: &[Delivery],
+) -> Result<bool, Memory> {
+    let mut machine = new_machine(alloc)?;
+    is_driven_so(alloc, &mut machine, wanted, choices, taken)
+}
+
+// In how many orders these deliveries can be made, if the run ends so in each of them.
+fn count_orders(
+    alloc: Global,
+    wanted: Wanted<'_>,
+    taken: &[Delivery],
+    choices: &mut Vec<Choice>,
 ) -> Result<Option<u64>, Memory> {
-    let mut out = SureSink::new(alloc);
-    let report = run_over(rt, alloc, site(alloc, row.files)?, &mut out)?;
-    let holds = report.status == row.status && out.written() == row.output.as_bytes();
-    if !holds {
-        return Ok(None);
-    }
-    let mut choices = Vec::new(alloc);
     for order in 0..1000u64 {
-        if !ends_so(alloc, row, &mut choices, &report.taken)? {
+        if !ends_so(alloc, wanted, choices, taken)? {
             return Ok(None);
         }
-        if !next_choices(&mut choices)? {
+        if !next_choices(choices)? {
             return Ok(Some(order.wrapping_add(1)));
         }
     }
     Ok(None)
 }
 
-/// The first of these sites that doesn't run as its row says, in each order in which its fetches may end. Together the
+// The same behind a run that came to this, if that ended so too.
+fn orders_behind(
+    alloc: Global,
+    wanted: Wanted<'_>,
+    report: &RunReport<SureSource>,
+    written: &[u8],
+) -> Result<Option<u64>, Memory> {
+    if !is_wanted(wanted, report.status, written) {
+        return Ok(None);
+    }
+    let mut choices = Vec::new(alloc);
+    count_orders(alloc, wanted, report.taken.as_slice(), &mut choices)
+}
+
+// In how many orders the fetches of these files can end; none where their run, or one of these orders, doesn't end so.
+fn orders_of<R: Threads + Wait + Sync>(
+    rt: &R,
+    alloc: Global,
+    files: Vec<(Text, Vec<u8>)>,
+    wanted: Wanted<'_>,
+) -> Result<Option<u64>, Memory> {
+    let mut out = SureSink::new(alloc);
+    let report = run_over(rt, alloc, files, &mut out)?;
+    orders_behind(alloc, wanted, &report, out.written())
+}
+
+/// The first of these sites that doesn't run as its text says, in each order in which its fetches may end. Together the
 /// sites have so many orders.
 pub fn first_wrong_order<R: Threads + Wait + Sync>(
     rt: &R,
     alloc: Global,
-    rows: &[Row],
+    table: &'static str,
     orders: u64,
 ) -> Result<Option<&'static str>, Memory> {
     let mut counted = 0u64;
-    for row in rows {
-        match orders_of(rt, alloc, row)? {
+    for site in table.split("\n\n== ") {
+        match orders_of(rt, alloc, files_of(alloc, site)?, wanted_of(site))? {
             Some(more) => counted = counted.wrapping_add(more),
-            None => return Ok(Some(row.name)),
+            None => return Ok(Some(title(site))),
         }
     }
     if counted == orders {
@@ -181,16 +215,16 @@ pub fn first_wrong_order<R: Threads + Wait + Sync>(
 }
 
 /// A site that writes another text where its fetches end in another order.
-const UNORDERED: &[Row] = &[Row {
-    name: "two files that nothing else imports",
-    files: &[
-        ("main.js", r#"import("./a.js"); import("./b.js");"#),
-        ("a.js", r#"print("A");"#),
-        ("b.js", r#"print("B");"#),
-    ],
-    output: "A\nB\n",
-    status: Status::Fulfilled,
-}];
+const UNORDERED: &str = r#"== two files that nothing else imports
+-- main.js
+import("./a.js"); import("./b.js");
+-- a.js
+print("A");
+-- b.js
+print("B");
+>> Fulfilled
+A
+B"#;
 
 #[test]
 fn a_site_whose_orders_differ_is_found(rt: HostRuntime) -> Result<(), Memory> {
@@ -199,105 +233,181 @@ fn a_site_whose_orders_differ_is_found(rt: HostRuntime) -> Result<(), Memory> {
     Ok(())
 }
 
+/// A site that writes the same in its one order.
+const ORDERED: &str = r#"== one file
+-- main.js
+print("A");
+>> Fulfilled
+A"#;
+
 #[test]
 fn orders_are_counted(rt: HostRuntime) -> Result<(), Memory> {
-    let found = first_wrong_order(&rt, rt.alloc(), SITES, 16)?;
+    assert_eq!(rt; first_wrong_order(&rt, rt.alloc(), ORDERED, 1)?, None);
+    let found = first_wrong_order(&rt, rt.alloc(), ORDERED, 2)?;
     assert_eq!(rt; found, Some("the number of orders"));
     Ok(())
 }
 
+// In how many orders the fetches of these sites may end, together. The first that doesn't end as its row says counts for
+// a thousand.
+fn orders_of_rows<R: Threads + Wait + Sync>(
+    rt: &R,
+    alloc: Global,
+    rows: &[Row],
+) -> Result<u64, Memory> {
+    let mut counted = 0u64;
+    for row in rows {
+        match orders_of(rt, alloc, site(alloc, row.files)?, wanted_by(row))? {
+            Some(more) => counted = counted.wrapping_add(more),
+            None => return Ok(1000),
+        }
+    }
+    Ok(counted)
+}
+
 #[test]
 fn sites_run_the_same_in_every_order(rt: HostRuntime) -> Result<(), Memory> {
-    assert_eq!(rt; first_wrong_order(&rt, rt.alloc(), SITES, 17)?, None);
+    assert_eq!(rt; orders_of_rows(&rt, rt.alloc(), SITES)?, 17);
     Ok(())
 }
 
-#[test]
-fn one_worker_delivers_in_the_order_of_asking(rt: HostRuntime) -> Result<(), Memory> {
-    let alloc = rt.alloc();
-    for race in RACES {
-        let mut out = SureSink::new(alloc);
-        let report = run_over(&rt, alloc, site(alloc, race.files)?, &mut out)?;
-        assert_eq!(rt; report.status, Status::Fulfilled, "{}", race.name);
-        let (_, output) = &race.runs[0];
-        assert!(rt; out.written() == output.as_bytes(), "{}", race.name);
-    }
-    Ok(())
-}
-
-// Delivers these files in this order, and gives what the run wrote; none where one wasn't asked for.
-fn written_in_order(
+// Delivers the file of this name. `false` where it isn't asked for.
+fn deliver_named(
     alloc: Global,
-    names: &[&str],
+    machine: &mut Machine,
+    name: &str,
     taken: &[Delivery],
-) -> Result<Option<Vec<u8>>, Memory> {
+) -> Result<bool, Memory> {
+    let url = format!(in alloc; "https://a.test/{name}")?;
+    match machine.asks().iter().position(|ask| ask.is(url.as_str())) {
+        Some(place) => deliver_at(machine, place, taken),
+        None => Ok(false),
+    }
+}
+
+// How a run of a race is to end.
+fn fulfilled(run: &str) -> Wanted<'_> {
+    Wanted {
+        status: "Fulfilled",
+        lines: ending(run).lines,
+    }
+}
+
+// Delivers the files that a run of a race names, in that order. Whether it ends as it says.
+fn is_delivered_so(
+    alloc: Global,
+    machine: &mut Machine,
+    run: &str,
+    taken: &[Delivery],
+) -> Result<bool, Memory> {
+    for name in ending(run).status.split(' ') {
+        if !deliver_named(alloc, machine, name, taken)? {
+            return Ok(false);
+        }
+    }
+    has_ended(alloc, machine, fulfilled(run))
+}
+
+// The same with a new machine.
+fn runs_so(alloc: Global, run: &str, taken: &[Delivery]) -> Result<bool, Memory> {
     let mut machine = new_machine(alloc)?;
-    for name in names {
-        let url = format!(in alloc; "https://a.test/{name}")?;
-        let Some(place) = machine.asks().iter().position(|ask| ask.is(url.as_str())) else {
-            return Ok(None);
-        };
-        let _ = deliver_at(&mut machine, place, taken)?;
+    is_delivered_so(alloc, &mut machine, run, taken)
+}
+
+// Whether each run of a race ends as it says.
+fn all_run_so(alloc: Global, race: &str, taken: &[Delivery]) -> Result<bool, Memory> {
+    for run in race.split("\n>> ").skip(1) {
+        if !runs_so(alloc, run, taken)? {
+            return Ok(false);
+        }
     }
-    match ended(alloc, &machine)? {
-        Some((Status::Fulfilled, text)) => Ok(Some(text)),
-        _ => Ok(None),
+    Ok(true)
+}
+
+// Whether a run by one worker came to what the first run of the race says.
+fn is_in_order_of_asking(race: &str, status: Status, written: &[u8]) -> bool {
+    match race.split("\n>> ").nth(1) {
+        Some(run) => is_wanted(fulfilled(run), status, written),
+        None => false,
     }
+}
+
+// Whether one worker delivers in the order of asking, and each run of the race ends as it says.
+fn is_raced_so<R: Threads + Wait + Sync>(
+    rt: &R,
+    alloc: Global,
+    race: &str,
+) -> Result<bool, Memory> {
+    let mut out = SureSink::new(alloc);
+    let report = run_over(rt, alloc, files_of(alloc, race)?, &mut out)?;
+    if is_in_order_of_asking(race, report.status, out.written()) {
+        all_run_so(alloc, race, report.taken.as_slice())
+    } else {
+        Ok(false)
+    }
+}
+
+// The first race that doesn't run as its text says, if there is one.
+fn wrong_race<R: Threads + Wait + Sync>(
+    rt: &R,
+    alloc: Global,
+) -> Result<Option<&'static str>, Memory> {
+    for race in RACES.split("\n\n== ") {
+        if !is_raced_so(rt, alloc, race)? {
+            return Ok(Some(title(race)));
+        }
+    }
+    Ok(None)
 }
 
 #[test]
 fn a_race_runs_as_its_order_says(rt: HostRuntime) -> Result<(), Memory> {
-    let alloc = rt.alloc();
-    for race in RACES {
-        let mut out = SureSink::new(alloc);
-        let report = run_over(&rt, alloc, site(alloc, race.files)?, &mut out)?;
-        for (names, output) in race.runs {
-            match written_in_order(alloc, names, &report.taken)? {
-                Some(text) => assert!(rt; text.as_slice() == output.as_bytes(), "{}", race.name),
-                None => assert!(rt; false, "{}", race.name),
-            }
-        }
-    }
+    assert_eq!(rt; wrong_race(&rt, rt.alloc())?, None);
     Ok(())
 }
 
-// How a run ends whose first open ask is delivered, then the one at this place, and then the one that is left; nothing
-// where it doesn't end just then.
-fn ended_behind(
+// Delivers the first open ask, then the one at this place, and then the one that is left. Whether the run ends just then,
+// and so.
+fn ends_behind(
     alloc: Global,
+    machine: &mut Machine,
     place: usize,
+    wanted: Wanted<'_>,
     taken: &[Delivery],
-) -> Result<Option<(Status, Vec<u8>)>, Memory> {
-    let mut machine = new_machine(alloc)?;
-    let began = deliver_at(&mut machine, 0, taken)?;
-    let went_on = deliver_at(&mut machine, place, taken)?;
+) -> Result<bool, Memory> {
+    let began = deliver_at(machine, 0, taken)?;
+    let went_on = deliver_at(machine, place, taken)?;
     if !began || !went_on || machine.end().is_some() {
-        return Ok(None);
+        return Ok(false);
     }
-    let _ = deliver_at(&mut machine, 0, taken)?;
-    ended(alloc, &machine)
+    let _ = deliver_at(machine, 0, taken)?;
+    has_ended(alloc, machine, wanted)
+}
+
+// The same with a new machine, by the text of the ending.
+fn fails_so(alloc: Global, place: usize, end: &str, taken: &[Delivery]) -> Result<bool, Memory> {
+    let mut machine = new_machine(alloc)?;
+    ends_behind(alloc, &mut machine, place, ending(end), taken)
+}
+
+// Of two missing files the one that is delivered first is named.
+fn first_is_named(alloc: Global, taken: &[Delivery]) -> Result<bool, Memory> {
+    let a = "EntryFailed\nUncaught TypeError: cannot fetch https://a.test/a.js";
+    let b = "EntryFailed\nUncaught TypeError: cannot fetch https://a.test/b.js";
+    Ok(fails_so(alloc, 0, a, taken)? && fails_so(alloc, 1, b, taken)?)
+}
+
+fn is_first_named<R: Threads + Wait + Sync>(rt: &R, alloc: Global) -> Result<bool, Memory> {
+    let mut files = Vec::new(alloc);
+    let text = "import \"./a.js\";import \"./b.js\";print(\"m\")";
+    add_named(alloc, &mut files, "main.js", text)?;
+    let mut out = SureSink::new(alloc);
+    let report = run_over(rt, alloc, files, &mut out)?;
+    first_is_named(alloc, report.taken.as_slice())
 }
 
 #[test]
 fn the_missing_file_that_is_delivered_first_is_named(rt: HostRuntime) -> Result<(), Memory> {
-    let alloc = rt.alloc();
-    let files = [(
-        "main.js",
-        "import \"./a.js\";import \"./b.js\";print(\"m\")",
-    )];
-    let mut out = SureSink::new(alloc);
-    let report = run_over(&rt, alloc, site(alloc, &files)?, &mut out)?;
-    for (place, line) in [
-        (0, "Uncaught TypeError: cannot fetch https://a.test/a.js\n"),
-        (1, "Uncaught TypeError: cannot fetch https://a.test/b.js\n"),
-    ] {
-        match ended_behind(alloc, place, &report.taken)? {
-            Some((status, text)) => {
-                assert_eq!(rt; status, Status::EntryFailed);
-                assert!(rt; text.as_slice() == line.as_bytes(), "{line}");
-            }
-            None => assert!(rt; false, "{line}"),
-        }
-    }
+    assert!(rt; is_first_named(&rt, rt.alloc())?);
     Ok(())
 }

@@ -25,7 +25,7 @@ use std::marker::Sync;
 use std::sync::Wait;
 use std::thread::Threads;
 
-// A source of the generated files for each worker.
+// A source of the generated modules for each worker.
 fn generated_sources(alloc: Global, generation: &Generation) -> Result<Vec<GeneratedSource>, Memory>
     ensures many { IfOk result (λ v. vec_len v ≡ generation.now.workers) }
     ensures fresh { IfOk result (λ v. All (λ s. s.asked ≡ []) v.items) }

@@ -58,17 +58,10 @@ fn enrolled<R: Wait, P: Payload>(
     }
 }
 
-// The text of an ask's answer, and its number.
-fn told(answer: Result<Asked, MapEnd>) -> (&'static str, u32) {
-    match answer {
-        Ok(Asked::New(number)) => ("New", number),
-        Ok(Asked::Waiting(number)) => ("Waiting", number),
-        Ok(Asked::Here(number)) => ("Here", number),
-        Err(MapEnd::Full) => ("Full", 0),
-        Err(MapEnd::Closed) => ("Closed", 0),
-        Err(MapEnd::Memory) => ("Memory", 0),
-    }
-}
+// What a call answers, in a word, and a number that goes with it (0 where none does).
+type Told = (&'static str, u64);
+
+const MEMORY: Told = ("Memory", 0);
 
 // Asks for the URL, as wanted.
 fn ask<R: Wait, P: Payload>(
@@ -76,17 +69,133 @@ fn ask<R: Wait, P: Payload>(
     alloc: Global,
     map: &ModuleMap<P>,
     caller: &mut Caller<P>,
-) -> Result<(&'static str, u32), Fail>
+) -> Told
     requires { table_of map.now.lock.table.shared.table_id caller.old.pass
         ≡ map.now.lock.table.shared.table_id }
     ensures { table_of map.now.lock.table.shared.table_id caller.new.pass
         ≡ map.now.lock.table.shared.table_id }
 {
-    let url = Text::copy(alloc, URL)?;
-    if !is_usable(alloc, url.as_str())? {
-        return Err("no usable URL".into());
+    let Ok(url) = Text::copy(alloc, URL) else {
+        return MEMORY;
+    };
+    let Ok(usable) = is_usable(alloc, url.as_str()) else {
+        return MEMORY;
+    };
+    if !usable {
+        return ("no usable URL", 0);
     }
-    Ok(told(map.ask(rt, caller, &url, Why::Wanted)))
+    match map.ask(rt, caller, &url, Why::Wanted) {
+        Ok(Asked::New(number)) => ("New", u64::from(number)),
+        Ok(Asked::Waiting(number)) => ("Waiting", u64::from(number)),
+        Ok(Asked::Here(number)) => ("Here", u64::from(number)),
+        Err(MapEnd::Full) => ("Full", 0),
+        Err(MapEnd::Closed) => ("Closed", 0),
+        Err(MapEnd::Memory) => MEMORY,
+    }
+}
+
+// Takes what is to be taken.
+fn take<R: Wait>(
+    rt: &R,
+    alloc: Global,
+    map: &ModuleMap<Body>,
+    caller: &mut Caller<Body>,
+) -> Told
+    requires { table_of map.now.lock.table.shared.table_id caller.old.pass
+        ≡ map.now.lock.table.shared.table_id }
+    ensures { table_of map.now.lock.table.shared.table_id caller.new.pass
+        ≡ map.now.lock.table.shared.table_id }
+{
+    match map.take(rt, alloc, caller) {
+        Ok(Taken::Order(order)) => ("Order", u64::from(order.number())),
+        Ok(Taken::NotYet) => ("NotYet", 0),
+        Ok(Taken::Closed) => ("Closed", 0),
+        Err(_) => MEMORY,
+    }
+}
+
+// The weight of the body that was posted under this number.
+fn entry<R: Wait>(rt: &R, map: &ModuleMap<Body>, caller: &mut Caller<Body>, number: u32) -> Told
+    requires { table_of map.now.lock.table.shared.table_id caller.old.pass
+        ≡ map.now.lock.table.shared.table_id }
+    ensures { table_of map.now.lock.table.shared.table_id caller.new.pass
+        ≡ map.now.lock.table.shared.table_id }
+{
+    match map.entry(rt, caller, number) {
+        Ok(Some(body)) => ("Body", body.bytes as u64),
+        Ok(None) => ("None", 0),
+        Err(_) => MEMORY,
+    }
+}
+
+// The number of the post with this index.
+fn post_at<R: Wait>(rt: &R, map: &ModuleMap<Body>, caller: &mut Caller<Body>, from: usize) -> Told
+    requires { table_of map.now.lock.table.shared.table_id caller.old.pass
+        ≡ map.now.lock.table.shared.table_id }
+    ensures { table_of map.now.lock.table.shared.table_id caller.new.pass
+        ≡ map.now.lock.table.shared.table_id }
+{
+    match map.post_at(rt, caller, from) {
+        Some(number) => ("Post", u64::from(number)),
+        None => ("None", 0),
+    }
+}
+
+// What a caller may do: each the function of its name, but the last, by which the map is shut.
+#[derive(Clone, Copy)]
+enum Call {
+    Ask,
+    Take,
+    Entry(u32),
+    PostAt(usize),
+    Shut,
+}
+
+// Calls.
+fn make_call<R: Wait>(
+    rt: &R,
+    alloc: Global,
+    map: &ModuleMap<Body>,
+    caller: &mut Caller<Body>,
+    call: Call,
+) -> Told
+    requires { table_of map.now.lock.table.shared.table_id caller.old.pass
+        ≡ map.now.lock.table.shared.table_id }
+    ensures { table_of map.now.lock.table.shared.table_id caller.new.pass
+        ≡ map.now.lock.table.shared.table_id }
+{
+    match call {
+        Call::Ask => ask(rt, alloc, map, caller),
+        Call::Take => take(rt, alloc, map, caller),
+        Call::Entry(number) => entry(rt, map, caller, number),
+        Call::PostAt(from) => post_at(rt, map, caller, from),
+        Call::Shut => {
+            map.shut(rt, caller);
+            ("Shut", 0)
+        }
+    }
+}
+
+// Makes these calls, one behind the other: the first answer that isn't the one that stands beside its call.
+fn first_wrong<R: Wait>(
+    rt: &R,
+    alloc: Global,
+    map: &ModuleMap<Body>,
+    caller: &mut Caller<Body>,
+    steps: &[(Call, Told)],
+) -> Option<Told>
+    requires { table_of map.now.lock.table.shared.table_id caller.old.pass
+        ≡ map.now.lock.table.shared.table_id }
+    ensures { table_of map.now.lock.table.shared.table_id caller.new.pass
+        ≡ map.now.lock.table.shared.table_id }
+{
+    for step in steps {
+        let told = make_call(rt, alloc, map, caller, step.0);
+        if told != step.1 {
+            return Some(told);
+        }
+    }
+    None
 }
 
 // A caller that has an order finds nothing more to take.
@@ -96,7 +205,7 @@ fn takes_nothing<R: Wait, P: Payload>(
     map: &ModuleMap<P>,
     caller: &mut Caller<P>,
     order: &Order,
-) -> Result<(), Fail>
+) -> Result<(), &'static str>
     requires own { table_of map.now.lock.table.shared.table_id caller.old.pass
         ≡ map.now.lock.table.shared.table_id }
     requires order { IsOrderIn P.weight (view_in caller.old.pass).seen caller.old.number
@@ -110,7 +219,7 @@ fn takes_nothing<R: Wait, P: Payload>(
     laws::urls_stay::<P>();
     match map.take(rt, alloc, caller) {
         Ok(Taken::NotYet) => Ok(()),
-        _ => Err("the second take isn't NotYet".into()),
+        _ => Err("the second take isn't NotYet"),
     }
 }
 
@@ -120,7 +229,7 @@ fn finds_nothing<R: Wait, P: Payload>(
     map: &ModuleMap<P>,
     caller: &mut Caller<P>,
     order: &Order,
-) -> Result<(), Fail>
+) -> Result<(), &'static str>
     requires own { table_of map.now.lock.table.shared.table_id caller.old.pass
         ≡ map.now.lock.table.shared.table_id }
     requires order { IsOrderIn P.weight (view_in caller.old.pass).seen caller.old.number
@@ -134,7 +243,7 @@ fn finds_nothing<R: Wait, P: Payload>(
     laws::urls_stay::<P>();
     match map.entry(rt, caller, order.number()) {
         Ok(None) => Ok(()),
-        _ => Err("something is posted".into()),
+        _ => Err("something is posted"),
     }
 }
 
@@ -160,35 +269,81 @@ fn kinds_of(alloc: Global, events: &[MapEvent<Body>]) -> Result<String, Fail> {
     Ok(kinds)
 }
 
+// The order that is taken is that of the URL, nothing more is to be taken or found before it is posted, and then a body
+// that weighs seven is.
+fn take_and_post<R: Wait>(
+    rt: &R,
+    alloc: Global,
+    map: &ModuleMap<Body>,
+    caller: &mut Caller<Body>,
+) -> Result<(), &'static str>
+    requires { table_of map.now.lock.table.shared.table_id caller.old.pass
+        ≡ map.now.lock.table.shared.table_id }
+    ensures { table_of map.now.lock.table.shared.table_id caller.new.pass
+        ≡ map.now.lock.table.shared.table_id }
+{
+    let Ok(payload) = Arc::new(alloc, Body { bytes: 7 }) else {
+        return Err("memory ran out");
+    };
+    let Ok(taken) = map.take(rt, alloc, caller) else {
+        return Err("memory ran out");
+    };
+    let Taken::Order(order) = taken else {
+        return Err("nothing to take");
+    };
+    if order.number() != 0 || !order.url().is(URL) {
+        return Err("another order");
+    }
+    takes_nothing(rt, alloc, map, caller, &order)?;
+    finds_nothing(rt, map, caller, &order)?;
+    map.post(rt, caller, order, payload);
+    Ok(())
+}
+
+const BEFORE: &[(Call, Told)] = &[(Call::Ask, ("New", 0)), (Call::Ask, ("Waiting", 0))];
+
+const BEHIND: &[(Call, Told)] = &[
+    (Call::Entry(0), ("Body", 7)),
+    (Call::Ask, ("Here", 0)),
+    (Call::PostAt(0), ("Post", 0)),
+    (Call::PostAt(1), ("None", 0)),
+    (Call::Shut, ("Shut", 0)),
+    (Call::Ask, ("Closed", 0)),
+    (Call::Take, ("Closed", 0)),
+];
+
+// What one caller finds from its first ask to the map's end: the first answer that is wrong.
+fn wrong_on_the_way<R: Wait>(
+    rt: &R,
+    alloc: Global,
+    map: &ModuleMap<Body>,
+    caller: &mut Caller<Body>,
+) -> Option<Told>
+    requires { table_of map.now.lock.table.shared.table_id caller.old.pass
+        ≡ map.now.lock.table.shared.table_id }
+    ensures { table_of map.now.lock.table.shared.table_id caller.new.pass
+        ≡ map.now.lock.table.shared.table_id }
+{
+    let before = first_wrong(rt, alloc, map, caller, BEFORE);
+    if before.is_some() {
+        return before;
+    }
+    match take_and_post(rt, alloc, map, caller) {
+        Ok(()) => first_wrong(rt, alloc, map, caller, BEHIND),
+        Err(wrong) => Some((wrong, 0)),
+    }
+}
+
 #[test]
 fn one_caller_makes_a_history_of_eight_events(rt: HostRuntime) -> Result<(), Fail> {
     let alloc = rt.alloc();
-    let payload = Arc::new(alloc, Body { bytes: 7 })?;
     let guide = Arc::new(alloc, 0)?;
     let (map, pass) = ModuleMap::<Body>::new(alloc, guide)?;
     let mut caller = enrolled(&rt, &map, pass)?;
     assert_eq!(rt; caller.number(), 0);
-    assert_eq!(rt; ask(&rt, alloc, &map, &mut caller)?, ("New", 0));
-    assert_eq!(rt; ask(&rt, alloc, &map, &mut caller)?, ("Waiting", 0));
-    let taken = map.take(&rt, alloc, &mut caller)?;
-    let Taken::Order(order) = taken else {
-        return Err("nothing to take".into());
-    };
-    assert_eq!(rt; order.number(), 0);
-    assert!(rt; order.url().is(URL));
-    takes_nothing(&rt, alloc, &map, &mut caller, &order)?;
-    finds_nothing(&rt, &map, &mut caller, &order)?;
-    map.post(&rt, &mut caller, order, payload);
-    let posted = map.entry(&rt, &mut caller, 0)?.ok_or("nothing is posted")?;
-    assert_eq!(rt; posted.bytes, 7);
-    assert_eq!(rt; ask(&rt, alloc, &map, &mut caller)?, ("Here", 0));
-    assert_eq!(rt; map.post_at(&rt, &mut caller, 0), Some(0));
-    assert_eq!(rt; map.post_at(&rt, &mut caller, 1), None);
-    map.shut(&rt, &mut caller);
-    assert_eq!(rt; ask(&rt, alloc, &map, &mut caller)?, ("Closed", 0));
-    let late = map.take(&rt, alloc, &mut caller)?;
-    assert!(rt; matches!(&late, Taken::Closed));
+    let wrong = wrong_on_the_way(&rt, alloc, &map, &mut caller);
     let events = map.close(caller).ok().ok_or("busy")?;
+    assert_eq!(rt; wrong, None);
     let kinds = kinds_of(alloc, events.as_slice())?;
     assert_eq!(rt; kinds.as_str(), "Begin Enrol Ask Ask Take Post Ask Shut ");
     Ok(())
@@ -219,7 +374,7 @@ fn a_worker_asks_nothing_where_the_map_is_shut(rt: HostRuntime) -> Result<(), Fa
     let mut main = enrolled(&rt, &modules, pass)?;
     let pass = modules.split(&mut main);
     let caller = enrolled(&rt, &modules, pass)?;
-    assert_eq!(rt; ask(&rt, alloc, &modules, &mut main)?, ("New", 0));
+    assert_eq!(rt; ask(&rt, alloc, &modules, &mut main), ("New", 0));
     modules.shut(&rt, &mut main);
     let source = MemSource::new(alloc, Vec::new(alloc), Vec::new(alloc))?;
     let end = begin(&rt, alloc, &modules, caller, source);

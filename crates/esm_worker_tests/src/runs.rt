@@ -4,7 +4,7 @@ use crate::sleepy::{all_sleepy, sleepy};
 use crate::standard::standard_end;
 use esm_base::{Memory, Status};
 use esm_ports::SureSink;
-use esm_run::run;
+use esm_run::{Delivery, run};
 use std::alloc::Global;
 use std::marker::{Send, Sync};
 use std::sync::Wait;
@@ -21,6 +21,24 @@ fn words(alloc: Global, workers: u64) -> Result<Vec<String>, Memory> {
     Ok(words)
 }
 
+// The status of a run that took these deliveries and wrote this text, where their order is allowed and the standard run of
+// it ends so too.
+fn status_as_standard(
+    alloc: Global,
+    taken: &[Delivery],
+    status: Status,
+    written: &[u8],
+) -> Result<Option<Status>, Memory> {
+    match standard_end(alloc, taken) {
+        Ok(Some(end)) => {
+            let holds = end.status == status && end.text.as_slice() == written;
+            Ok(holds.then_some(status))
+        }
+        Ok(None) => Ok(None),
+        Err(Memory) => Err(Memory),
+    }
+}
+
 // How a run over sleepy sources ends, where the order that it took is allowed and the standard run of it ends so too.
 fn standard_status<R: Threads + Wait + Sync + Send + Clone + Drop + Clock>(
     rt: &R,
@@ -35,14 +53,7 @@ fn standard_status<R: Threads + Wait + Sync + Send + Clone + Drop + Clock>(
     let sources = all_sleepy(rt, alloc, named, 16, seed, fail_at)?;
     let mut out = SureSink::new(alloc);
     let report = run(rt, alloc, &words, &mut desk, sources, &mut out);
-    let Some(end) = standard_end(alloc, &report.taken)? else {
-        return Ok(None);
-    };
-    if end.status == report.status && end.text.as_slice() == out.written() {
-        Ok(Some(end.status))
-    } else {
-        Ok(None)
-    }
+    status_as_standard(alloc, &report.taken, report.status, out.written())
 }
 
 // The first of these sites that doesn't run as the standard says, by so many workers, of which each has a source that

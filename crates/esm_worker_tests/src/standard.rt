@@ -57,28 +57,61 @@ fn deliver(machine: &mut Machine, delivery: &Delivery) -> Result<bool, Memory> {
     Ok(true)
 }
 
-// The status and the text of a run that has ended.
-fn ended(alloc: Global, machine: &Machine) -> Result<Option<RunEnd>, Memory> {
+// The deliveries in turn: false at the first that is no open ask then.
+fn deliver_all(machine: &mut Machine, taken: &[Delivery]) -> Result<bool, Memory> {
+    for delivery in taken {
+        match deliver(machine, delivery) {
+            Ok(true) => {}
+            Ok(false) => return Ok(false),
+            Err(Memory) => return Err(Memory),
+        }
+    }
+    Ok(true)
+}
+
+// The status of a run that has ended, and its last line.
+fn ended(machine: &Machine) -> Result<Option<(Status, Text)>, Memory> {
     let Some(status) = machine.end() else {
         return Ok(None);
     };
-    let mut text = Vec::from_slice(alloc, machine.log())?;
-    let last = machine.last_line()?;
+    match machine.last_line() {
+        Ok(line) => Ok(Some((status, line))),
+        Err(Memory) => Err(Memory),
+    }
+}
+
+// How the run of these deliveries ends; none where one of them isn't open in its turn, or an ask is open behind them.
+fn end_of(machine: &mut Machine, taken: &[Delivery]) -> Result<Option<(Status, Text)>, Memory> {
+    match deliver_all(machine, taken) {
+        Ok(true) => ended(machine),
+        Ok(false) => Ok(None),
+        Err(Memory) => Err(Memory),
+    }
+}
+
+// What is written: the log, and the last line where it isn't empty.
+fn written(log: Vec<u8>, last: &Text) -> Result<Vec<u8>, Memory> {
+    let mut text = log;
     if !last.is("") {
         text.extend_from_slice(last.as_str().as_bytes())?;
         text.push(b'\n')?;
     }
-    Ok(Some(RunEnd { status, text }))
+    Ok(text)
 }
 
 /// How the standard run of these deliveries ends; none where one of them is no open ask in its turn, or an ask is open
-/// behind them.
+/// behind them. The machine ends by giving its log away: a function that lets one go is proved at the cost of all its
+/// parts, at each of its ends.
 pub fn standard_end(alloc: Global, taken: &[Delivery]) -> Result<Option<RunEnd>, Memory> {
     let mut machine = new_machine(alloc)?;
-    for delivery in taken {
-        if !deliver(&mut machine, delivery)? {
-            return Ok(None);
-        }
+    let end = end_of(&mut machine, taken);
+    let log = machine.into_log();
+    match end {
+        Ok(Some((status, last))) => match written(log, &last) {
+            Ok(text) => Ok(Some(RunEnd { status, text })),
+            Err(Memory) => Err(Memory),
+        },
+        Ok(None) => Ok(None),
+        Err(Memory) => Err(Memory),
     }
-    ended(alloc, &machine)
 }

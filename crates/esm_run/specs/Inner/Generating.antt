@@ -17,4 +17,5 @@ EndsGenerated (Some machine) count status sink = ShownBy (state_of machine) (End
 
 -- the source holds the generated files
 abbrev pub HoldsGenerated : Generation → GeneratedSource → Type 0
-HoldsGenerated generation source = (url : List ℕ) → generated_at source.start source.count url ≡ generated_at generation.start generation.count url
+HoldsGenerated generation source =
+    (url : List ℕ) → generated_at source.start source.count url ≡ generated_at generation.start generation.count url
