@@ -95,12 +95,7 @@ fn ask<R: Wait, P: Payload>(
 }
 
 // Takes what is to be taken.
-fn take<R: Wait>(
-    rt: &R,
-    alloc: Global,
-    map: &ModuleMap<Body>,
-    caller: &mut Caller<Body>,
-) -> Told
+fn take<R: Wait>(rt: &R, alloc: Global, map: &ModuleMap<Body>, caller: &mut Caller<Body>) -> Told
     requires { table_of map.now.lock.table.shared.table_id caller.old.pass
         ≡ map.now.lock.table.shared.table_id }
     ensures { table_of map.now.lock.table.shared.table_id caller.new.pass
