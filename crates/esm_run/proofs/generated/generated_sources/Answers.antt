@@ -10,6 +10,6 @@ loop-preserved c =
     let one = c.in_ok-push.ensures.len in let all = c.loop.invariant.many in
     record {
       many = omega (arith, one, all);
-      fresh = rw c.in_ok-push.ensures.items (All-push (λ (s : GeneratedSource). s.asked ≡ []) c.loop.sources.items c.new-3.result c.loop.invariant.fresh c.new-3.ensures.asked);
-      holds = rw c.in_ok-push.ensures.items (All-push (HoldsGenerated c.args.generation.now) c.loop.sources.items c.new-3.result c.loop.invariant.holds (λ url. ap₂ (λ s n. generated_at s n url) c.new-3.ensures.start c.new-3.ensures.count));
+      fresh = rw c.in_ok-push.ensures.items (All-push (λ (s : GeneratedSource). s.asked ≡ []) c.loop.sources.items c.new.result c.loop.invariant.fresh c.new.ensures.asked);
+      holds = rw c.in_ok-push.ensures.items (All-push (HoldsGenerated c.args.generation.now) c.loop.sources.items c.new.result c.loop.invariant.holds (λ url. ap₂ (λ s n. generated_at s n url) c.new.ensures.start c.new.ensures.count));
     }
