@@ -104,6 +104,30 @@ fn all_gated<R: Wait + Clone + Drop>(
     Ok(sources)
 }
 
+// Whether the run of these words writes nothing, and no source gave up.
+fn writes_nothing<R: Threads + Wait + Sync + Send + Clone + Drop>(
+    rt: &R,
+    alloc: Global,
+    words: &[String],
+    mut desk: GatedSource<R>,
+    sources: Vec<GatedSource<R>>,
+) -> bool
+    requires some { 0 < vec_len sources }
+    requires fresh { All (λ s. s.files.asked ≡ []) sources.items }
+    requires fresh_desk { desk.files.asked ≡ [] }
+{
+    let mut out = SureSink::new(alloc);
+    let report = run(rt, alloc, words, &mut desk, sources, &mut out);
+    let gave_up = report.sources.iter().any(|source| source.gave_up);
+    report.status == Status::Fulfilled && out.written().is_empty() && !gave_up
+}
+
+// The words that run the entry by so many workers.
+fn words_for(alloc: Global, count: u64) -> Result<Vec<String>, Memory> {
+    let line = format!(in alloc; "{COMMAND} --workers {count}")?;
+    words(alloc, line.as_str())
+}
+
 // Whether the run over as many workers as there are sources writes nothing, and no source gave up.
 fn runs_at_once<R: Threads + Wait + Sync + Send + Clone + Drop>(
     rt: &R,
@@ -113,36 +137,33 @@ fn runs_at_once<R: Threads + Wait + Sync + Send + Clone + Drop>(
 ) -> Result<bool, Memory>
     requires { 0 < count }
 {
-    let line = format!(in alloc; "{COMMAND} --workers {count}")?;
-    let words = words(alloc, line.as_str())?;
+    let words = words_for(alloc, count)?;
     let begun = Arc::new(alloc, Mutex::new(0))?;
-    let mut desk = gated(rt, alloc, &[], &begun, 1)?;
+    let desk = gated(rt, alloc, &[], &begun, 1)?;
     let sources = all_gated(rt, alloc, named, count)?;
-    let mut out = SureSink::new(alloc);
-    let report = run(rt, alloc, &words, &mut desk, sources, &mut out);
-    let gave_up = report.sources.iter().any(|source| source.gave_up);
-    Ok(report.status == Status::Fulfilled && out.written().is_empty() && !gave_up)
+    Ok(writes_nothing(rt, alloc, &words, desk, sources))
 }
+
+const TWO: &[(&str, &str)] = &[
+    ("main.js", "import \"./a.js\";import \"./b.js\";"),
+    ("a.js", ""),
+    ("b.js", ""),
+];
+
+const FOUR: &[(&str, &str)] = &[
+    (
+        "main.js",
+        "import \"./a.js\";import \"./b.js\";import \"./c.js\";import \"./d.js\";",
+    ),
+    ("a.js", ""),
+    ("b.js", ""),
+    ("c.js", ""),
+    ("d.js", ""),
+];
 
 #[test]
 fn fetches_go_on_at_the_same_time(rt: HostRuntime) -> Result<(), Memory> {
-    let alloc = rt.alloc();
-    let two: &[(&str, &str)] = &[
-        ("main.js", "import \"./a.js\";import \"./b.js\";"),
-        ("a.js", ""),
-        ("b.js", ""),
-    ];
-    let four: &[(&str, &str)] = &[
-        (
-            "main.js",
-            "import \"./a.js\";import \"./b.js\";import \"./c.js\";import \"./d.js\";",
-        ),
-        ("a.js", ""),
-        ("b.js", ""),
-        ("c.js", ""),
-        ("d.js", ""),
-    ];
-    assert!(rt; runs_at_once(&rt, alloc, two, 2)?);
-    assert!(rt; runs_at_once(&rt, alloc, four, 4)?);
+    assert!(rt; runs_at_once(&rt, rt.alloc(), TWO, 2)?);
+    assert!(rt; runs_at_once(&rt, rt.alloc(), FOUR, 4)?);
     Ok(())
 }

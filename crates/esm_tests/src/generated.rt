@@ -1,10 +1,6 @@
 // Runs over generated input: a summary is written in place of the log, and neither desk nor sources are asked.
-ghost use Rattle.std.specs.Prelude.{◌≡◌, ◌<◌, ◌-◌, ◌^◌, [], ◌∷◌, All};
-
+use crate::told::{Ran, USAGE, is_cut, told_over};
 use esm_base::{Memory, Status};
-use esm_ports::{MemSink, SureSink, SureSource};
-use esm_run::{RunReport, run};
-use esm_sites::{sure, words};
 use std::alloc::Global;
 use std::marker::Sync;
 use std::sync::Wait;
@@ -14,102 +10,102 @@ const THREE: &str = "modules 3\nstarted 3\nlines 3\nstatus 0\n";
 
 const MANY: &str = "modules 64\nstarted 64\nlines 64\nstatus 0\n";
 
-// A run by these words; desk and source hold nothing, and are handed back.
-fn run_words<R: Threads + Wait + Sync>(
+// Words, how many modules are run, and the summary.
+const SUMS: &[(&str, usize, &str)] = &[
+    ("gen 1 1", 1, "modules 1\nstarted 1\nlines 1\nstatus 0\n"),
+    ("gen 1 3", 3, THREE),
+    ("gen --workers=2 1 3", 3, THREE),
+    ("gen 1 64", 64, MANY),
+    ("gen 1 64 --workers 1", 64, MANY),
+    ("gen 1 64 --workers 4", 64, MANY),
+    ("gen 1 --workers 16 -- 64", 64, MANY),
+    ("gen 2147483647 64", 64, MANY),
+    // as many as may be asked for
+    (
+        "gen 7 4096 --workers 2",
+        4096,
+        "modules 4096\nstarted 4096\nlines 4096\nstatus 0\n",
+    ),
+];
+
+// Whether a run ended well with this summary, took so many modules, and asked neither the desk nor its one source.
+fn is_summed_up(told: &Ran, modules: usize, summary: &str) -> bool {
+    told.is(Status::Fulfilled, summary)
+        && told.taken == modules
+        && told.desk == 0
+        && told.asked.as_slice() == [0usize].as_slice()
+}
+
+// The first of these words whose run isn't summed up so.
+fn wrong_sum<R: Threads + Wait + Sync>(
     rt: &R,
     alloc: Global,
-    line: &str,
-    desk: &mut SureSource,
-    out: &mut SureSink,
-) -> Result<RunReport<SureSource>, Memory>
-    requires { desk.old.asked ≡ [] }
-{
-    let words = words(alloc, line)?;
-    let mut sources = Vec::new(alloc);
-    sources.push(sure(alloc, None)?)?;
-    Ok(run(rt, alloc, &words, desk, sources, out))
+) -> Result<Option<&'static str>, Memory> {
+    for (line, modules, summary) in SUMS {
+        let told = told_over(rt, alloc, line, Vec::new(alloc))?;
+        if !is_summed_up(&told, *modules, summary) {
+            return Ok(Some(*line));
+        }
+    }
+    Ok(None)
 }
 
 #[test]
 fn generated_input_is_summed_up(rt: HostRuntime) -> Result<(), Memory> {
-    let alloc = rt.alloc();
-    for (line, modules, output) in [
-        ("gen 1 1", 1, "modules 1\nstarted 1\nlines 1\nstatus 0\n"),
-        ("gen 1 3", 3, THREE),
-        ("gen --workers=2 1 3", 3, THREE),
-        ("gen 1 64", 64, MANY),
-        ("gen 1 64 --workers 1", 64, MANY),
-        ("gen 1 64 --workers 4", 64, MANY),
-        ("gen 1 --workers 16 -- 64", 64, MANY),
-        ("gen 2147483647 64", 64, MANY),
-    ] {
-        let mut desk = sure(alloc, None)?;
-        let mut out = SureSink::new(alloc);
-        let report = run_words(&rt, alloc, line, &mut desk, &mut out)?;
-        assert_eq!(rt; report.status, Status::Fulfilled, "{line}");
-        assert!(rt; out.written() == output.as_bytes(), "{line}");
-        assert_eq!(rt; report.taken.len(), modules, "{line}");
-        assert_eq!(rt; report.sources.len(), 1, "{line}");
-        assert_eq!(rt; report.sources[0].asked.len(), 0, "{line}");
-        assert_eq!(rt; desk.asked.len(), 0, "{line}");
-    }
+    assert_eq!(rt; wrong_sum(&rt, rt.alloc())?, None);
     Ok(())
 }
 
-#[test]
-fn as_many_modules_as_may_be_asked_for_are_run(rt: HostRuntime) -> Result<(), Memory> {
-    let alloc = rt.alloc();
-    let mut desk = sure(alloc, None)?;
-    let mut out = SureSink::new(alloc);
-    let report = run_words(&rt, alloc, "gen 7 4096 --workers 2", &mut desk, &mut out)?;
-    assert_eq!(rt; report.status, Status::Fulfilled);
-    assert!(rt; out.written() == b"modules 4096\nstarted 4096\nlines 4096\nstatus 0\n".as_slice());
-    assert_eq!(rt; report.taken.len(), 4096);
-    Ok(())
+// Words of `gen` that are no command.
+const REFUSED: &str = "\
+gen
+gen 1
+gen 0 3
+gen 2147483648 3
+gen 1 0
+gen 1 4097
+gen 1 3 --workers 0
+gen 1 3 --workers 17
+gen 1 3 --trace
+gen 1 3 --record
+gen 1 3 --map x
+gen 1 3 5";
+
+// The first of them whose run doesn't show the usage line alone, with nothing taken.
+fn wrong_refusal<R: Threads + Wait + Sync>(
+    rt: &R,
+    alloc: Global,
+) -> Result<Option<&'static str>, Memory> {
+    for line in REFUSED.lines() {
+        let told = told_over(rt, alloc, line, Vec::new(alloc))?;
+        if !told.is(Status::Usage, USAGE) || told.taken != 0 {
+            return Ok(Some(line));
+        }
+    }
+    Ok(None)
 }
 
 #[test]
 fn words_of_gen_that_are_none_show_the_usage_line(rt: HostRuntime) -> Result<(), Memory> {
-    let alloc = rt.alloc();
-    for line in [
-        "gen",
-        "gen 1",
-        "gen 0 3",
-        "gen 2147483648 3",
-        "gen 1 0",
-        "gen 1 4097",
-        "gen 1 3 --workers 0",
-        "gen 1 3 --workers 17",
-        "gen 1 3 --trace",
-        "gen 1 3 --record",
-        "gen 1 3 --map x",
-        "gen 1 3 5",
-    ] {
-        let mut desk = sure(alloc, None)?;
-        let mut out = SureSink::new(alloc);
-        let report = run_words(&rt, alloc, line, &mut desk, &mut out)?;
-        assert_eq!(rt; report.status, Status::Usage, "{line}");
-        assert!(rt;
-            out.written() == b"esm: these words are no command\n".as_slice(),
-            "{line}"
-        );
-        assert_eq!(rt; report.taken.len(), 0, "{line}");
-    }
+    assert_eq!(rt; wrong_refusal(&rt, rt.alloc())?, None);
+    assert!(rt; REFUSED.lines().count() == 12);
     Ok(())
+}
+
+// Whether a sink that takes seven bytes at a time and fails at this write has this of the summary.
+fn has_front<R: Threads + Wait + Sync>(
+    rt: &R,
+    alloc: Global,
+    number: u64,
+    front: &str,
+) -> Result<bool, Memory> {
+    is_cut(rt, alloc, "gen 1 3", &[], 7, number, front)
 }
 
 #[test]
 fn a_failing_sink_keeps_what_it_took_of_a_summary(rt: HostRuntime) -> Result<(), Memory> {
-    let alloc = rt.alloc();
-    for (failing, output) in [(1, ""), (2, "modules"), (3, "modules 3\nstar")] {
-        let words = words(alloc, "gen 1 3")?;
-        let mut desk = sure(alloc, None)?;
-        let mut sources = Vec::new(alloc);
-        sources.push(sure(alloc, None)?)?;
-        let mut out = MemSink::new(alloc, 7, vec![in alloc; failing]?);
-        let report = run(&rt, alloc, &words, &mut desk, sources, &mut out);
-        assert_eq!(rt; report.status, Status::WriteFault, "{failing}");
-        assert!(rt; out.written() == output.as_bytes(), "{failing}");
-    }
+    assert!(rt; has_front(&rt, rt.alloc(), 1, "")?);
+    assert!(rt; has_front(&rt, rt.alloc(), 2, "modules")?);
+    assert!(rt; has_front(&rt, rt.alloc(), 3, "modules 3\nstar")?);
     Ok(())
 }

@@ -1,8 +1,11 @@
 // Runs over large graphs of modules.
+use crate::told::told_over;
 use esm_base::{Memory, Status, Text};
-use esm_ports::SureSink;
-use esm_sites::{add_named, run_over};
+use esm_sites::{COMMAND, add_named};
 use std::alloc::Global;
+use std::marker::Sync;
+use std::sync::Wait;
+use std::thread::Threads;
 
 // A module that imports this many others and prints nothing.
 fn many_imports(alloc: Global, many: u64) -> Result<String, Memory> {
@@ -14,98 +17,104 @@ fn many_imports(alloc: Global, many: u64) -> Result<String, Memory> {
     Ok(body)
 }
 
+// An entry that imports so many others.
+fn with_imports(alloc: Global, many: u64) -> Result<Vec<(Text, Vec<u8>)>, Memory> {
+    let mut files = Vec::new(alloc);
+    let body = many_imports(alloc, many)?;
+    add_named(alloc, &mut files, "main.js", body.as_str())?;
+    Ok(files)
+}
+
+// Adds the module of this number, which prints nothing.
+fn add_empty(alloc: Global, files: &mut Vec<(Text, Vec<u8>)>, i: u64) -> Result<(), Memory> {
+    let name = format!(in alloc; "m{i}.js")?;
+    add_named(alloc, files, name.as_str(), "")
+}
+
+// An entry that imports 4,095 others, with these.
+fn with_all_imports(alloc: Global) -> Result<Vec<(Text, Vec<u8>)>, Memory> {
+    let mut files = with_imports(alloc, 4095)?;
+    for i in 0..4095u64 {
+        add_empty(alloc, &mut files, i)?;
+    }
+    Ok(files)
+}
+
 #[test]
 fn more_than_4096_urls_stop_the_run(rt: HostRuntime) -> Result<(), Memory> {
-    let alloc = rt.alloc();
-    let mut files = Vec::new(alloc);
-    let body = many_imports(alloc, 4096)?;
-    add_named(alloc, &mut files, "main.js", body.as_str())?;
-    let mut out = SureSink::new(alloc);
-    let report = run_over(&rt, alloc, files, &mut out)?;
-    assert_eq!(rt; report.status, Status::Limit);
-    assert!(rt; out.written() == b"Limit L1\n".as_slice());
-    assert_eq!(rt; report.taken.len(), 1);
+    let told = told_over(&rt, rt.alloc(), COMMAND, with_imports(rt.alloc(), 4096)?)?;
+    assert!(rt; told.is(Status::Limit, "Limit L1\n"));
+    assert!(rt; told.taken == 1);
     Ok(())
 }
 
 #[test]
 fn exactly_4096_urls_are_loaded(rt: HostRuntime) -> Result<(), Memory> {
-    let alloc = rt.alloc();
-    let mut files = Vec::new(alloc);
-    let body = many_imports(alloc, 4095)?;
-    add_named(alloc, &mut files, "main.js", body.as_str())?;
-    for i in 0..4095u64 {
-        let name = format!(in alloc; "m{i}.js")?;
-        add_named(alloc, &mut files, name.as_str(), "")?;
-    }
-    let mut out = SureSink::new(alloc);
-    let report = run_over(&rt, alloc, files, &mut out)?;
-    assert_eq!(rt; report.status, Status::Fulfilled);
-    assert!(rt; out.written().is_empty());
-    assert_eq!(rt; report.taken.len(), 4096);
+    let told = told_over(&rt, rt.alloc(), COMMAND, with_all_imports(rt.alloc())?)?;
+    assert!(rt; told.is(Status::Fulfilled, ""));
+    assert!(rt; told.taken == 4096);
     Ok(())
+}
+
+// Adds a module that imports the next and then prints its number.
+fn add_link(alloc: Global, files: &mut Vec<(Text, Vec<u8>)>, i: u64) -> Result<(), Memory> {
+    let name = format!(in alloc; "m{i}.js")?;
+    let next = i.saturating_add(1);
+    let body = format!(in alloc; "import \"./m{next}.js\";print(\"{i}\")")?;
+    add_named(alloc, files, name.as_str(), body.as_str())
 }
 
 // A chain of 4,096 modules, each of which imports the next and then prints its number; the last has this text.
 fn chain(alloc: Global, foot: &str) -> Result<Vec<(Text, Vec<u8>)>, Memory> {
     let mut files = Vec::new(alloc);
-    add_named(
-        alloc,
-        &mut files,
-        "main.js",
-        "import \"./m1.js\";print(\"0\")",
-    )?;
+    let main = "import \"./m1.js\";print(\"0\")";
+    add_named(alloc, &mut files, "main.js", main)?;
     for i in 1..4095u64 {
-        let name = format!(in alloc; "m{i}.js")?;
-        let next = i + 1;
-        let body = format!(in alloc; "import \"./m{next}.js\";print(\"{i}\")")?;
-        add_named(alloc, &mut files, name.as_str(), body.as_str())?;
+        add_link(alloc, &mut files, i)?;
     }
     add_named(alloc, &mut files, "m4095.js", foot)?;
     Ok(files)
 }
 
-// What the modules above the foot of the chain print.
-fn push_numbers(text: &mut String, alloc: Global) -> Result<(), Memory> {
+// What the foot prints, and then the modules above it.
+fn with_numbers(alloc: Global, foot: &str) -> Result<String, Memory> {
+    let mut text = String::from_str(alloc, foot)?;
     for i in (0..4095u64).rev() {
         let line = format!(in alloc; "{i}\n")?;
         text.push_str(line.as_str())?;
     }
-    Ok(())
+    Ok(text)
+}
+
+// Whether a chain with this foot runs to its end and writes this first, and then its numbers.
+fn prints_all<R: Threads + Wait + Sync>(
+    rt: &R,
+    alloc: Global,
+    foot: &str,
+    first: &str,
+) -> Result<bool, Memory> {
+    let wanted = with_numbers(alloc, first)?;
+    let told = told_over(rt, alloc, COMMAND, chain(alloc, foot)?)?;
+    Ok(told.is(Status::Fulfilled, wanted.as_str()))
 }
 
 #[test]
 fn a_chain_of_4096_modules_runs_from_its_end(rt: HostRuntime) -> Result<(), Memory> {
-    let alloc = rt.alloc();
-    let mut wanted = String::from_str(alloc, "foot\n")?;
-    push_numbers(&mut wanted, alloc)?;
-    let mut out = SureSink::new(alloc);
-    let report = run_over(&rt, alloc, chain(alloc, "print(\"foot\")")?, &mut out)?;
-    assert_eq!(rt; report.status, Status::Fulfilled);
-    assert!(rt; out.written() == wanted.as_bytes());
+    assert!(rt; prints_all(&rt, rt.alloc(), "print(\"foot\")", "foot\n")?);
     Ok(())
 }
 
 #[test]
 fn a_chain_of_4096_modules_waits_for_its_foot(rt: HostRuntime) -> Result<(), Memory> {
-    let alloc = rt.alloc();
-    let mut wanted = String::from_str(alloc, "foot\nagain\n")?;
-    push_numbers(&mut wanted, alloc)?;
     let foot = "print(\"foot\");await undefined;print(\"again\")";
-    let mut out = SureSink::new(alloc);
-    let report = run_over(&rt, alloc, chain(alloc, foot)?, &mut out)?;
-    assert_eq!(rt; report.status, Status::Fulfilled);
-    assert!(rt; out.written() == wanted.as_bytes());
+    assert!(rt; prints_all(&rt, rt.alloc(), foot, "foot\nagain\n")?);
     Ok(())
 }
 
 #[test]
 fn a_chain_of_4096_modules_fails_with_its_foot(rt: HostRuntime) -> Result<(), Memory> {
-    let alloc = rt.alloc();
     let foot = "print(\"foot\");await undefined;throw \"x\"";
-    let mut out = SureSink::new(alloc);
-    let report = run_over(&rt, alloc, chain(alloc, foot)?, &mut out)?;
-    assert_eq!(rt; report.status, Status::EntryFailed);
-    assert!(rt; out.written() == b"foot\nUncaught x\n".as_slice());
+    let told = told_over(&rt, rt.alloc(), COMMAND, chain(rt.alloc(), foot)?)?;
+    assert!(rt; told.is(Status::EntryFailed, "foot\nUncaught x\n"));
     Ok(())
 }

@@ -21,6 +21,8 @@ mod shop;
 #[cfg(test)]
 mod sites;
 #[cfg(test)]
+mod told;
+#[cfg(test)]
 mod traces;
 #[cfg(test)]
 mod workers;

@@ -1,14 +1,19 @@
 // Runs under an import map.
-ghost use Rattle.std.specs.Prelude.{◌≡◌, ◌<◌, ◌-◌, ◌^◌, [], All};
+ghost use Rattle.std.specs.Prelude.{◌≡◌, ◌<◌, [], All, vec_len};
 
+use crate::told::{USAGE, one_failing, one_source, told};
 use esm_base::{Memory, Status};
-use esm_ports::{Source, SureSink, SureSource};
+use esm_ports::{MemSource, Source, SureSink};
 use esm_run::run;
 use esm_sites::{failing, files, site, words};
+use std::alloc::Global;
+use std::marker::Sync;
+use std::sync::Wait;
+use std::thread::Threads;
 
 const MAP: &str = "https://a.test/map.json";
 
-// A run with an import map, and how it ends.
+// A run that may have an import map, and how it ends.
 struct Row {
     name: &'static str,
     words: &'static str,
@@ -22,8 +27,6 @@ struct Row {
 }
 
 const NAMED: &str = "run https://a.test/ main.js --map map.json";
-
-const USAGE: &str = "esm: these words are no command\n";
 
 const SCOPED: &str =
     r#"{"imports":{"lib/":"/v1/","lib/x/":"/v2/","bad":7},"scopes":{"/old/":{"lib/":"/v0/"}}}"#;
@@ -121,6 +124,10 @@ const ROWS: &[Row] = &[
         status: Status::Fulfilled,
         asked: 1,
     },
+];
+
+// Where no import map is asked for.
+const UNASKED: &[Row] = &[
     Row {
         name: "no map",
         words: "run https://a.test/ main.js",
@@ -168,42 +175,75 @@ const ROWS: &[Row] = &[
     },
 ];
 
+// Whether the run of a row ends as it says, and asks the desk so often.
+fn is_run_so<R: Threads + Wait + Sync>(rt: &R, alloc: Global, row: &Row) -> Result<bool, Memory> {
+    let map = match row.map {
+        Some(map) => Some(map.as_bytes()),
+        None => None,
+    };
+    let map = files(alloc, MAP, map)?;
+    let sources = one_source(alloc, site(alloc, row.files)?)?;
+    let told = told(rt, alloc, row.words, map, sources)?;
+    Ok(told.is(row.status, row.output) && told.desk == row.asked)
+}
+
+// The first row that doesn't run so.
+fn wrong_row<R: Threads + Wait + Sync>(
+    rt: &R,
+    alloc: Global,
+    rows: &[Row],
+) -> Result<Option<&'static str>, Memory> {
+    for row in rows {
+        if !is_run_so(rt, alloc, row)? {
+            return Ok(Some(row.name));
+        }
+    }
+    Ok(None)
+}
+
 #[test]
 fn the_map_that_the_desk_answers_decides(rt: HostRuntime) -> Result<(), Memory> {
-    let alloc = rt.alloc();
-    for row in ROWS {
-        let words = words(alloc, row.words)?;
-        let map = match row.map {
-            Some(map) => Some(map.as_bytes()),
-            None => None,
-        };
-        let mut desk = SureSource::new(alloc, files(alloc, MAP, map)?)?;
-        let mut sources = Vec::new(alloc);
-        sources.push(SureSource::new(alloc, site(alloc, row.files)?)?)?;
-        let mut out = SureSink::new(alloc);
-        let report = run(&rt, alloc, &words, &mut desk, sources, &mut out);
-        assert_eq!(rt; report.status, row.status, "{}", row.name);
-        assert!(rt; out.written() == row.output.as_bytes(), "{}", row.name);
-        assert_eq!(rt; desk.asked.len(), row.asked, "{}", row.name);
-    }
-    assert_eq!(rt; ROWS.len(), 14);
+    assert_eq!(rt; wrong_row(&rt, rt.alloc(), ROWS)?, None);
     Ok(())
 }
 
 #[test]
-fn a_desk_that_fails_has_no_map(rt: HostRuntime) -> Result<(), Memory> {
-    let alloc = rt.alloc();
-    let words = words(alloc, NAMED)?;
-    let mut desk = failing(alloc, None, vec![in alloc; 1]?)?;
-    let mut sources = Vec::new(alloc);
-    sources.push(failing(alloc, Some(b"print(\"hi\")"), Vec::new(alloc))?)?;
+fn words_that_name_no_map_ask_for_none(rt: HostRuntime) -> Result<(), Memory> {
+    assert_eq!(rt; wrong_row(&rt, rt.alloc(), UNASKED)?, None);
+    Ok(())
+}
+
+// Whether a run whose desk fails at its first fetch has no map, and takes nothing.
+fn has_no_map<R: Threads + Wait + Sync>(
+    rt: &R,
+    alloc: Global,
+    words: &[String],
+    mut desk: MemSource,
+    sources: Vec<MemSource>,
+) -> bool
+    requires some { 0 < vec_len sources }
+    requires fresh { All (λ s. s.asked ≡ []) sources.items }
+    requires fresh_desk { desk.asked ≡ [] }
+{
     let mut out = SureSink::new(alloc);
-    let report = run(&rt, alloc, &words, &mut desk, sources, &mut out);
-    assert_eq!(rt; report.status, Status::MapRefused);
-    assert!(rt;
-        out.written() == b"import map refused: cannot fetch https://a.test/map.json\n".as_slice()
-    );
-    assert_eq!(rt; desk.faults(), 1);
-    assert_eq!(rt; report.taken.len(), 0);
+    let report = run(rt, alloc, words, &mut desk, sources, &mut out);
+    let refused = "import map refused: cannot fetch https://a.test/map.json\n";
+    report.status == Status::MapRefused
+        && out.written() == refused.as_bytes()
+        && desk.faults() == 1
+        && report.taken.len() == 0
+}
+
+// The same with a desk that fails so.
+fn fails_without_map<R: Threads + Wait + Sync>(rt: &R, alloc: Global) -> Result<bool, Memory> {
+    let words = words(alloc, NAMED)?;
+    let desk = failing(alloc, None, vec![in alloc; 1]?)?;
+    let sources = one_failing(alloc, Vec::new(alloc))?;
+    Ok(has_no_map(rt, alloc, &words, desk, sources))
+}
+
+#[test]
+fn a_desk_that_fails_has_no_map(rt: HostRuntime) -> Result<(), Memory> {
+    assert!(rt; fails_without_map(&rt, rt.alloc())?);
     Ok(())
 }

@@ -1,8 +1,11 @@
 // Whole runs with a record before the log: what was given and what was taken, byte by byte.
+use crate::told::{Ran, USAGE, is_cut, one_source, told, wrong_line};
 use esm_base::{Memory, Status};
-use esm_ports::{MemSink, SureSink, SureSource};
-use esm_run::run;
-use esm_sites::{COMMAND, files, site, sure, words};
+use esm_sites::{files, site};
+use std::alloc::Global;
+use std::marker::Sync;
+use std::sync::Wait;
+use std::thread::Threads;
 
 const HI: &str = "\
 esm-record 1
@@ -33,86 +36,61 @@ end
 Uncaught SyntaxError: https://a.test/b.js: P2 no module text
 ";
 
+const HI_FILES: &[(&str, &str)] = &[("main.js", "print(\"hi\")")];
+
+// Words, how their run ends, and what it writes: a record before the log, or none where no run began.
+const LINES: &[(&str, Status, &str)] = &[
+    (
+        "run https://a.test/ main.js --record",
+        Status::Fulfilled,
+        HI,
+    ),
+    (
+        "run --record https://a.test/ -- main.js",
+        Status::Fulfilled,
+        HI,
+    ),
+    (
+        "run https://a.test/ main.js --record --record",
+        Status::Usage,
+        USAGE,
+    ),
+    (
+        "run https://a.test/ main.js --record --map map.json",
+        Status::MapRefused,
+        "import map refused: cannot fetch https://a.test/map.json\n",
+    ),
+];
+
 #[test]
 fn a_record_stands_before_the_log(rt: HostRuntime) -> Result<(), Memory> {
-    let alloc = rt.alloc();
-    for line in [
-        "run https://a.test/ main.js --record",
-        "run --record https://a.test/ -- main.js",
-    ] {
-        let words = words(alloc, line)?;
-        let mut desk = sure(alloc, None)?;
-        let mut sources = Vec::new(alloc);
-        sources.push(sure(alloc, Some(b"print(\"hi\")"))?)?;
-        let mut out = SureSink::new(alloc);
-        let report = run(&rt, alloc, &words, &mut desk, sources, &mut out);
-        assert_eq!(rt; report.status, Status::Fulfilled);
-        assert!(rt; out.written() == HI.as_bytes());
-    }
+    assert_eq!(rt; wrong_line(&rt, rt.alloc(), HI_FILES, LINES)?, None);
     Ok(())
 }
 
-#[test]
-fn a_record_has_the_map_and_each_outcome(rt: HostRuntime) -> Result<(), Memory> {
-    let alloc = rt.alloc();
-    let words = words(
-        alloc,
-        "run https://a.test/ main.js --record --map map.json --workers 1",
-    )?;
+// A run with an import map and three files: a text that imports, one that is no module, and one that is missing.
+fn mixed<R: Threads + Wait + Sync>(rt: &R, alloc: Global) -> Result<Ran, Memory> {
+    let line = "run https://a.test/ main.js --record --map map.json --workers 1";
     let map = files(alloc, "https://a.test/map.json", Some(b"{}\n"))?;
-    let mut desk = SureSource::new(alloc, map)?;
-    let mut sources = Vec::new(alloc);
     let named: &[(&str, &str)] = &[
         ("main.js", "import \"./b.js\"; import \"./c.js\";"),
         ("b.js", "("),
     ];
-    sources.push(SureSource::new(alloc, site(alloc, named)?)?)?;
-    let mut out = SureSink::new(alloc);
-    let report = run(&rt, alloc, &words, &mut desk, sources, &mut out);
-    assert_eq!(rt; report.status, Status::EntryFailed);
-    assert!(rt; out.written() == MIXED.as_bytes());
-    assert_eq!(rt; report.taken.len(), 3);
-    Ok(())
+    let sources = one_source(alloc, site(alloc, named)?)?;
+    told(rt, alloc, line, map, sources)
 }
 
 #[test]
-fn no_record_where_no_run_began(rt: HostRuntime) -> Result<(), Memory> {
-    let alloc = rt.alloc();
-    for (line, wanted, status) in [
-        (
-            "run https://a.test/ main.js --record --record",
-            "esm: these words are no command\n",
-            Status::Usage,
-        ),
-        (
-            "run https://a.test/ main.js --record --map map.json",
-            "import map refused: cannot fetch https://a.test/map.json\n",
-            Status::MapRefused,
-        ),
-    ] {
-        let words = words(alloc, line)?;
-        let mut desk = sure(alloc, None)?;
-        let mut sources = Vec::new(alloc);
-        sources.push(sure(alloc, Some(b"print(\"hi\")"))?)?;
-        let mut out = SureSink::new(alloc);
-        let report = run(&rt, alloc, &words, &mut desk, sources, &mut out);
-        assert_eq!(rt; report.status, status);
-        assert!(rt; out.written() == wanted.as_bytes());
-    }
+fn a_record_has_the_map_and_each_outcome(rt: HostRuntime) -> Result<(), Memory> {
+    let told = mixed(&rt, rt.alloc())?;
+    assert!(rt; told.is(Status::EntryFailed, MIXED));
+    assert!(rt; told.taken == 3);
     Ok(())
 }
 
 #[test]
 fn a_failing_sink_has_a_front_of_the_record(rt: HostRuntime) -> Result<(), Memory> {
-    let alloc = rt.alloc();
-    let line = format!(in alloc; "{COMMAND} --record")?;
-    let words = words(alloc, line.as_str())?;
-    let mut desk = sure(alloc, None)?;
-    let mut sources = Vec::new(alloc);
-    sources.push(sure(alloc, Some(b"print(\"hi\")"))?)?;
-    let mut out = MemSink::new(alloc, 4, vec![in alloc; 3]?);
-    let report = run(&rt, alloc, &words, &mut desk, sources, &mut out);
-    assert_eq!(rt; report.status, Status::WriteFault);
-    assert!(rt; out.written() == b"esm-reco".as_slice());
+    let line = "run https://a.test/ main.js --record";
+    assert!(rt; is_cut(&rt, rt.alloc(), line, HI_FILES, 4, 3, "esm-reco")?);
     Ok(())
 }

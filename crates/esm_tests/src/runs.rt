@@ -1,17 +1,16 @@
 // Whole runs, from the words to the bytes.
-ghost use Rattle.std.specs.Prelude.{◌≡◌, ◌<◌, ◌-◌, ◌^◌, [], ◌∷◌, All};
+ghost use Rattle.std.specs.Prelude.{◌≡◌, ◌<◌, [], All, vec_len};
 
+use crate::told::{USAGE, is_cut, one_failing, told_over, wrong_line};
 use esm_ast::Outcome;
 use esm_base::{Memory, Status};
-use esm_ports::{MemSink, Source, SureSink, SureSource};
-use esm_run::run;
-use esm_sites::{COMMAND, failing, site, sure, words};
+use esm_ports::{MemSource, Source, SureSink};
+use esm_run::{Delivery, run};
+use esm_sites::{COMMAND, ENTRY, failing, files, run_over, words};
 use std::alloc::Global;
 use std::marker::Sync;
 use std::sync::Wait;
 use std::thread::Threads;
-
-const USAGE: &str = "esm: these words are no command\n";
 
 const CANNOT_FETCH: &str = "Uncaught TypeError: cannot fetch https://a.test/main.js\n";
 
@@ -106,26 +105,18 @@ const REFUSED: &[Entry] = &[
     },
 ];
 
-// Whether a run by these words, of an entry with this text, writes this and ends so.
-fn is_written<R: Threads + Wait + Sync>(
+// Whether the entry runs so.
+fn is_run_so<R: Threads + Wait + Sync>(
     rt: &R,
     alloc: Global,
-    line: &str,
-    body: Option<&str>,
-    output: &str,
-    status: Status,
+    entry: &Entry,
 ) -> Result<bool, Memory> {
-    let words = words(alloc, line)?;
-    let mut desk = sure(alloc, None)?;
-    let mut sources = Vec::new(alloc);
-    let bytes = match body {
+    let body = match entry.body {
         Some(body) => Some(body.as_bytes()),
         None => None,
     };
-    sources.push(sure(alloc, bytes)?)?;
-    let mut out = SureSink::new(alloc);
-    let report = run(rt, alloc, &words, &mut desk, sources, &mut out);
-    Ok(report.status == status && out.written() == output.as_bytes())
+    let told = told_over(rt, alloc, COMMAND, files(alloc, ENTRY, body)?)?;
+    Ok(told.is(entry.status, entry.output))
 }
 
 // The first of these entries that doesn't run so.
@@ -135,7 +126,7 @@ fn first_wrong<R: Threads + Wait + Sync>(
     entries: &[Entry],
 ) -> Result<Option<&'static str>, Memory> {
     for entry in entries {
-        if !is_written(rt, alloc, COMMAND, entry.body, entry.output, entry.status)? {
+        if !is_run_so(rt, alloc, entry)? {
             return Ok(Some(entry.name));
         }
     }
@@ -154,98 +145,135 @@ fn what_is_no_module_is_told(rt: HostRuntime) -> Result<(), Memory> {
     Ok(())
 }
 
+// Words that are no command.
+const WORDS: &[(&str, Status, &str)] = &[
+    ("", Status::Usage, USAGE),
+    ("run a.test main.js", Status::Usage, USAGE),
+    (
+        "run https://a.test/ main.js --trace --trace",
+        Status::Usage,
+        USAGE,
+    ),
+    (
+        "run https://a.test/ main.js --workers 0",
+        Status::Usage,
+        USAGE,
+    ),
+    ("run https://a.test/ --help", Status::Usage, USAGE),
+    ("gen 1 3 --trace", Status::Usage, USAGE),
+];
+
 #[test]
 fn words_that_are_no_command_are_told(rt: HostRuntime) -> Result<(), Memory> {
-    let alloc = rt.alloc();
-    for line in [
-        "",
-        "run a.test main.js",
-        "run https://a.test/ main.js --trace --trace",
-        "run https://a.test/ main.js --workers 0",
-        "run https://a.test/ --help",
-        "gen 1 3 --trace",
-    ] {
-        assert!(rt;
-            is_written(&rt, alloc, line, Some(""), USAGE, Status::Usage)?,
-            "{line}"
-        );
-    }
+    let named = &[("main.js", "")];
+    assert_eq!(rt; wrong_line(&rt, rt.alloc(), named, WORDS)?, None);
     Ok(())
+}
+
+// Whether a run over one source says that its fetch failed, counts it, and asks nothing of the desk.
+fn counts_fault<R: Threads + Wait + Sync>(
+    rt: &R,
+    alloc: Global,
+    words: &[String],
+    mut desk: MemSource,
+    sources: Vec<MemSource>,
+) -> bool
+    requires some { 0 < vec_len sources }
+    requires fresh { All (λ s. s.asked ≡ []) sources.items }
+    requires fresh_desk { desk.asked ≡ [] }
+{
+    let mut out = SureSink::new(alloc);
+    let report = run(rt, alloc, words, &mut desk, sources, &mut out);
+    match report.sources.as_slice() {
+        [source] => {
+            report.status == Status::EntryFailed
+                && out.written() == CANNOT_FETCH.as_bytes()
+                && source.faults() == 1
+                && desk.asked().len() == 0
+        }
+        _ => false,
+    }
+}
+
+// The same where the one fetch of a run fails.
+fn is_fault_counted<R: Threads + Wait + Sync>(rt: &R, alloc: Global) -> Result<bool, Memory> {
+    let words = words(alloc, COMMAND)?;
+    let desk = failing(alloc, None, Vec::new(alloc))?;
+    let sources = one_failing(alloc, vec![in alloc; 1]?)?;
+    Ok(counts_fault(rt, alloc, &words, desk, sources))
 }
 
 #[test]
 fn a_failed_fetch_is_reported_and_counted(rt: HostRuntime) -> Result<(), Memory> {
-    let alloc = rt.alloc();
-    let words = words(alloc, COMMAND)?;
-    let mut desk = failing(alloc, None, Vec::new(alloc))?;
-    let mut sources = Vec::new(alloc);
-    sources.push(failing(alloc, Some(b"print(\"hi\")"), vec![in alloc; 1]?)?)?;
-    let mut out = SureSink::new(alloc);
-    let report = run(&rt, alloc, &words, &mut desk, sources, &mut out);
-    assert_eq!(rt; report.status, Status::EntryFailed);
-    assert!(rt; out.written() == CANNOT_FETCH.as_bytes());
-    assert_eq!(rt; report.sources.len(), 1);
-    assert_eq!(rt; report.sources[0].faults(), 1);
-    assert_eq!(rt; desk.asked().len(), 0);
+    assert!(rt; is_fault_counted(&rt, rt.alloc())?);
     Ok(())
 }
 
+const TWO_PRINTS: &[(&str, &str)] = &[("main.js", "print(\"a1\")\nprint(\"b1\")")];
+
+const TWO_BODIES: &[(&str, &str)] = &[
+    (
+        "main.js",
+        "import \"./a.js\"; import \"./b.js\"; print(\"m\");",
+    ),
+    ("a.js", "print(\"a1\"); await undefined; print(\"a2\");"),
+    ("b.js", "print(\"b1\"); await undefined; print(\"b2\");"),
+];
+
 #[test]
 fn a_failing_sink_keeps_what_it_took(rt: HostRuntime) -> Result<(), Memory> {
-    let alloc = rt.alloc();
-    let words = words(alloc, COMMAND)?;
-    let mut desk = sure(alloc, None)?;
-    let mut sources = Vec::new(alloc);
-    sources.push(sure(alloc, Some(b"print(\"a1\")\nprint(\"b1\")"))?)?;
-    let mut out = MemSink::new(alloc, 4, vec![in alloc; 2]?);
-    let report = run(&rt, alloc, &words, &mut desk, sources, &mut out);
-    assert_eq!(rt; report.status, Status::WriteFault);
-    assert!(rt; out.written() == b"a1\nb".as_slice());
+    assert!(rt; is_cut(&rt, rt.alloc(), COMMAND, TWO_PRINTS, 4, 2, "a1\nb")?);
     Ok(())
 }
 
 #[test]
 fn a_failing_sink_keeps_what_two_bodies_wrote(rt: HostRuntime) -> Result<(), Memory> {
-    let alloc = rt.alloc();
-    let files = [
-        (
-            "main.js",
-            "import \"./a.js\"; import \"./b.js\"; print(\"m\");",
-        ),
-        ("a.js", "print(\"a1\"); await undefined; print(\"a2\");"),
-        ("b.js", "print(\"b1\"); await undefined; print(\"b2\");"),
-    ];
-    let words = words(alloc, COMMAND)?;
-    let mut desk = sure(alloc, None)?;
-    let mut sources = Vec::new(alloc);
-    sources.push(SureSource::new(alloc, site(alloc, &files)?)?)?;
-    let mut out = MemSink::new(alloc, 4, vec![in alloc; 2]?);
-    let report = run(&rt, alloc, &words, &mut desk, sources, &mut out);
-    assert_eq!(rt; report.status, Status::WriteFault);
-    assert!(rt; out.written() == b"a1\nb".as_slice());
+    assert!(rt; is_cut(&rt, rt.alloc(), COMMAND, TWO_BODIES, 4, 2, "a1\nb")?);
     Ok(())
+}
+
+// Whether an outcome, shared, is a script of this text with so many items and no requests, or a broken one of this text
+// where no number is given.
+fn is_shared(shared: Outcome, body: &str, printed: Option<usize>) -> Result<bool, Memory> {
+    match (shared, printed) {
+        (Outcome::Script(script), Some(printed)) => Ok(
+            script.bytes() == body.as_bytes()
+                && script.share_tree()?.items().len() == printed
+                && script.share_entries()?.requests().len() == 0,
+        ),
+        (Outcome::Broken(broken), None) => Ok(broken.bytes() == body.as_bytes()),
+        _ => Ok(false),
+    }
+}
+
+// Whether this text is all that was taken, and its outcome can be shared.
+fn is_taken(taken: &[Delivery], body: &str, printed: Option<usize>) -> Result<bool, Memory> {
+    match taken {
+        [delivery] => is_shared(delivery.outcome.share()?, body, printed),
+        _ => Ok(false),
+    }
+}
+
+// Runs an entry with this text. Whether the outcome that it took can be shared.
+fn can_be_shared<R: Threads + Wait + Sync>(
+    rt: &R,
+    alloc: Global,
+    body: &str,
+    printed: Option<usize>,
+) -> Result<bool, Memory> {
+    let mut out = SureSink::new(alloc);
+    let report = run_over(
+        rt,
+        alloc,
+        files(alloc, ENTRY, Some(body.as_bytes()))?,
+        &mut out,
+    )?;
+    is_taken(report.taken.as_slice(), body, printed)
 }
 
 #[test]
 fn an_outcome_can_be_shared(rt: HostRuntime) -> Result<(), Memory> {
-    let alloc = rt.alloc();
-    let words = words(alloc, COMMAND)?;
-    for (body, printed) in [("print(\"hi\")", 1), ("no module text", 0)] {
-        let mut desk = sure(alloc, None)?;
-        let mut sources = Vec::new(alloc);
-        sources.push(sure(alloc, Some(body.as_bytes()))?)?;
-        let mut out = SureSink::new(alloc);
-        let report = run(&rt, alloc, &words, &mut desk, sources, &mut out);
-        assert_eq!(rt; report.taken.len(), 1);
-        match report.taken[0].outcome.share()? {
-            Outcome::Script(script) => {
-                assert!(rt; script.bytes() == body.as_bytes());
-                assert_eq!(rt; script.share_tree()?.items().len(), printed);
-                assert_eq!(rt; script.share_entries()?.requests().len(), 0);
-            }
-            Outcome::Broken(broken) => assert!(rt; broken.bytes() == body.as_bytes()),
-            _ => assert!(rt; false, "a body"),
-        }
-    }
+    assert!(rt; can_be_shared(&rt, rt.alloc(), "print(\"hi\")", Some(1))?);
+    assert!(rt; can_be_shared(&rt, rt.alloc(), "no module text", None)?);
     Ok(())
 }

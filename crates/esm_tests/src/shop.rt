@@ -1,9 +1,10 @@
 // A site of forty modules in three packages under an import map with a scope.
 ghost use Rattle.std.specs.Prelude.{◌≡◌, ◌<◌, ◌≤◌, [], All, IfOk, vec_len};
 
+use crate::told::{Ran, told};
 use esm_base::{Memory, Status, Text};
 use esm_ports::{AskKind, MemSink, MemSource, Source, SureSink, SureSource};
-use esm_run::run;
+use esm_run::{RunReport, run};
 use esm_sites::{files, words};
 use std::alloc::Global;
 use std::marker::Sync;
@@ -115,13 +116,6 @@ fn map_file(alloc: Global) -> Result<Vec<(Text, Vec<u8>)>, Memory> {
     files(alloc, MAP_URL, Some(MAP.as_bytes()))
 }
 
-// What is asked for the import map.
-fn desk(alloc: Global) -> Result<SureSource, Memory>
-    ensures { IfOk result (λ s. s.asked ≡ []) }
-{
-    SureSource::new(alloc, map_file(alloc)?)
-}
-
 // Four sources over the same files.
 fn four_sources(alloc: Global) -> Result<Vec<SureSource>, Memory>
     ensures some { IfOk result (λ v. 0 < vec_len v) }
@@ -135,55 +129,37 @@ fn four_sources(alloc: Global) -> Result<Vec<SureSource>, Memory>
     Ok(sources)
 }
 
+// Runs the shop with these words behind the command.
+fn told_by<R: Threads + Wait + Sync>(rt: &R, alloc: Global, rest: &str) -> Result<Ran, Memory> {
+    let line = format!(in alloc; "{COMMAND}{rest}")?;
+    let sources = four_sources(alloc)?;
+    told(rt, alloc, line.as_str(), map_file(alloc)?, sources)
+}
+
 #[test]
 fn the_shop_runs_the_same_over_one_worker_and_four(rt: HostRuntime) -> Result<(), Memory> {
-    let alloc = rt.alloc();
-    for more in ["", " --workers 1", " --workers 4"] {
-        let line = format!(in alloc; "{COMMAND}{more}")?;
-        let words = words(alloc, line.as_str())?;
-        let mut desk = desk(alloc)?;
-        let mut out = SureSink::new(alloc);
-        let report = run(
-            &rt,
-            alloc,
-            &words,
-            &mut desk,
-            four_sources(alloc)?,
-            &mut out,
-        );
-        assert_eq!(rt; report.status, Status::Fulfilled, "{more}");
-        assert!(rt; out.written() == OUTPUT.as_bytes(), "{more}");
-        assert_eq!(rt; report.taken.len(), 40, "{more}");
+    for rest in ["", " --workers 1", " --workers 4"] {
+        let told = told_by(&rt, rt.alloc(), rest)?;
+        assert!(rt; told.is(Status::Fulfilled, OUTPUT), "{rest}");
+        assert!(rt; told.taken == 40, "{rest}");
     }
     Ok(())
 }
 
-// What the run of these words writes, where it ends well.
-fn written_by<R: Threads + Wait + Sync>(
-    rt: &R,
-    alloc: Global,
-    line: &str,
-) -> Result<Vec<u8>, Memory> {
-    let words = words(alloc, line)?;
-    let mut desk = desk(alloc)?;
-    let mut out = SureSink::new(alloc);
-    let report = run(rt, alloc, &words, &mut desk, four_sources(alloc)?, &mut out);
-    if report.status != Status::Fulfilled {
-        return Ok(Vec::new(alloc));
-    }
-    Ok(Vec::from_slice(alloc, out.written())?)
+// Whether both ended well, and wrote the same in so many lines.
+fn are_same(one: &Ran, four: &Ran, lines: usize) -> bool {
+    one.status == Status::Fulfilled
+        && four.status == Status::Fulfilled
+        && one.written == four.written
+        && one.written.iter().filter(|byte| **byte == b'\n').count() == lines
 }
 
 // A line for each start and end of forty bodies, and three that they print.
 #[test]
 fn the_traced_shop_runs_the_same_over_one_worker_and_four(rt: HostRuntime) -> Result<(), Memory> {
-    let alloc = rt.alloc();
-    let one = format!(in alloc; "{COMMAND} --trace --workers 1")?;
-    let four = format!(in alloc; "{COMMAND} --trace --workers 4")?;
-    let one = written_by(&rt, alloc, one.as_str())?;
-    let four = written_by(&rt, alloc, four.as_str())?;
-    assert_eq!(rt; one.iter().filter(|byte| **byte == b'\n').count(), 83);
-    assert!(rt; one == four);
+    let one = told_by(&rt, rt.alloc(), " --trace --workers 1")?;
+    let four = told_by(&rt, rt.alloc(), " --trace --workers 4")?;
+    assert!(rt; are_same(&one, &four, 83));
     Ok(())
 }
 
@@ -207,54 +183,68 @@ fn failing_source(alloc: Global, number: u64) -> Result<Vec<MemSource>, Memory>
     Ok(sources)
 }
 
+// Whether a run over one source ended because a fetch failed, whose URL it tells.
+fn names_the_failed(
+    alloc: Global,
+    report: &RunReport<MemSource>,
+    written: &[u8],
+) -> Result<bool, Memory> {
+    match report.sources.as_slice() {
+        [source] => Ok(
+            report.status == Status::EntryFailed
+                && source.faults() == 1
+                && failed_line(alloc, source)?.as_bytes() == written,
+        ),
+        _ => Ok(false),
+    }
+}
+
+// Whether the run in which the fetch of this number fails tells which.
+fn fails_so<R: Threads + Wait + Sync>(rt: &R, alloc: Global, number: u64) -> Result<bool, Memory> {
+    let line = format!(in alloc; "{COMMAND} --workers 1")?;
+    let words = words(alloc, line.as_str())?;
+    let mut desk = MemSource::new(alloc, map_file(alloc)?, Vec::new(alloc))?;
+    let sources = failing_source(alloc, number)?;
+    let mut out = SureSink::new(alloc);
+    let report = run(rt, alloc, &words, &mut desk, sources, &mut out);
+    names_the_failed(alloc, &report, out.written())
+}
+
 // Each of the forty files is fetched once, and whichever fails is named.
 #[test]
 fn whichever_fetch_of_the_shop_fails_is_named(rt: HostRuntime) -> Result<(), Memory> {
-    let alloc = rt.alloc();
-    let line = format!(in alloc; "{COMMAND} --workers 1")?;
-    let words = words(alloc, line.as_str())?;
     for number in 1..41u64 {
-        let mut desk = MemSource::new(alloc, map_file(alloc)?, Vec::new(alloc))?;
-        let sources = failing_source(alloc, number)?;
-        let mut out = SureSink::new(alloc);
-        let report = run(&rt, alloc, &words, &mut desk, sources, &mut out);
-        assert_eq!(rt; report.status, Status::EntryFailed, "{number}");
-        let Some(source) = report.sources.first() else {
-            return Err(Memory);
-        };
-        assert_eq!(rt; source.faults(), 1, "{number}");
-        let line = failed_line(alloc, source)?;
-        assert!(rt; out.written() == line.as_bytes(), "{number}");
+        assert!(rt; fails_so(&rt, rt.alloc(), number)?, "{number}");
     }
     Ok(())
+}
+
+// How the run ends whose sink takes seven bytes at a time and fails at this write, and how many bytes it has taken of what
+// the shop writes; none where it took something else.
+fn cut<R: Threads + Wait + Sync>(
+    rt: &R,
+    alloc: Global,
+    number: u64,
+) -> Result<Option<(Status, usize)>, Memory> {
+    let words = words(alloc, COMMAND)?;
+    let mut desk = SureSource::new(alloc, map_file(alloc)?)?;
+    let sources = four_sources(alloc)?;
+    let mut out = MemSink::new(alloc, 7, vec![in alloc; number]?);
+    let report = run(rt, alloc, &words, &mut desk, sources, &mut out);
+    if OUTPUT.as_bytes().starts_with(out.written()) {
+        Ok(Some((report.status, out.written().len())))
+    } else {
+        Ok(None)
+    }
 }
 
 // A sink that takes seven bytes at a time has taken five pieces when the whole text is written.
 #[test]
 fn whichever_write_of_the_shop_fails_ends_it(rt: HostRuntime) -> Result<(), Memory> {
-    let alloc = rt.alloc();
-    let words = words(alloc, COMMAND)?;
-    for (number, taken, status) in [
-        (1u64, 0usize, Status::WriteFault),
-        (2, 7, Status::WriteFault),
-        (3, 14, Status::WriteFault),
-        (4, 21, Status::WriteFault),
-        (5, 28, Status::WriteFault),
-        (6, 35, Status::Fulfilled),
-    ] {
-        let mut desk = desk(alloc)?;
-        let mut out = MemSink::new(alloc, 7, vec![in alloc; number]?);
-        let report = run(
-            &rt,
-            alloc,
-            &words,
-            &mut desk,
-            four_sources(alloc)?,
-            &mut out,
-        );
-        assert_eq!(rt; report.status, status, "{number}");
-        assert_eq!(rt; out.written().len(), taken, "{number}");
-        assert!(rt; OUTPUT.as_bytes().starts_with(out.written()), "{number}");
+    for (number, taken) in [(1u64, 0usize), (2, 7), (3, 14), (4, 21), (5, 28)] {
+        let wanted = Some((Status::WriteFault, taken));
+        assert!(rt; cut(&rt, rt.alloc(), number)? == wanted, "{number}");
     }
+    assert!(rt; cut(&rt, rt.alloc(), 6)? == Some((Status::Fulfilled, 35)));
     Ok(())
 }

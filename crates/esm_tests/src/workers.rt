@@ -1,10 +1,10 @@
 // Whole runs over several sources, with a worker for each.
-ghost use Rattle.std.specs.Prelude.{◌≡◌, ◌<◌, ◌-◌, ◌^◌, [], All, IfOk, vec_len};
+ghost use Rattle.std.specs.Prelude.{◌≡◌, ◌<◌, [], All, IfOk, vec_len};
 
+use crate::told::{Ran, USAGE, told};
 use esm_base::{Memory, Status};
-use esm_ports::{SureSink, SureSource};
-use esm_run::{RunReport, run};
-use esm_sites::{COMMAND, SITES, site, sure, words};
+use esm_ports::SureSource;
+use esm_sites::{COMMAND, Row, SITES, site};
 use std::alloc::Global;
 use std::marker::Sync;
 use std::sync::Wait;
@@ -27,95 +27,105 @@ fn same_sources(
     Ok(sources)
 }
 
-// Runs the words over sixteen sources with the same files.
-fn run_words<R: Threads + Wait + Sync>(
+// Runs the command with these words behind it, over sixteen sources with the same files.
+fn told_by<R: Threads + Wait + Sync>(
     rt: &R,
     alloc: Global,
-    line: &str,
+    rest: &str,
     named: &[(&str, &str)],
-    out: &mut SureSink,
-) -> Result<RunReport<SureSource>, Memory> {
-    let words = words(alloc, line)?;
-    let mut desk = sure(alloc, None)?;
+) -> Result<Ran, Memory> {
+    let line = format!(in alloc; "{COMMAND} --workers {rest}")?;
     let sources = same_sources(alloc, named, 16)?;
-    Ok(run(rt, alloc, &words, &mut desk, sources, out))
+    told(rt, alloc, line.as_str(), Vec::new(alloc), sources)
 }
 
-// How many of the sources were asked for something.
-fn busy(sources: &[SureSource]) -> usize {
-    let mut busy: usize = 0;
-    for source in sources {
-        if source.asked.len() > 0 {
-            busy = busy.saturating_add(1);
+// Whether one worker asked the first source alone, for each of so many files.
+fn asks_first(asked: &[usize], files: usize) -> bool {
+    match asked {
+        [first, rest @ ..] => *first == files && rest.iter().all(|asks| *asks == 0),
+        [] => false,
+    }
+}
+
+// Whether a row runs as it says over so many workers, takes each of its files, and gives back its sources. One worker asks
+// the first source alone.
+fn is_run_so<R: Threads + Wait + Sync>(
+    rt: &R,
+    alloc: Global,
+    workers: &str,
+    row: &Row,
+) -> Result<bool, Memory> {
+    let told = told_by(rt, alloc, workers, row.files)?;
+    Ok(
+        told.is(row.status, row.output)
+            && told.taken == row.files.len()
+            && told.asked.len() == 16
+            && (workers != "1" || asks_first(told.asked.as_slice(), row.files.len())),
+    )
+}
+
+// The first row that doesn't run so over so many workers.
+fn wrong_over<R: Threads + Wait + Sync>(
+    rt: &R,
+    alloc: Global,
+    workers: &str,
+) -> Result<Option<&'static str>, Memory> {
+    for row in SITES {
+        if !is_run_so(rt, alloc, workers, row)? {
+            return Ok(Some(row.name));
         }
     }
-    busy
+    Ok(None)
 }
 
 #[test]
 fn a_site_runs_the_same_over_any_number_of_workers(rt: HostRuntime) -> Result<(), Memory> {
-    let alloc = rt.alloc();
-    for workers in [1u64, 2, 4, 16] {
-        let line = format!(in alloc; "{COMMAND} --workers {workers}")?;
-        for row in SITES {
-            let mut out = SureSink::new(alloc);
-            let report = run_words(&rt, alloc, line.as_str(), row.files, &mut out)?;
-            assert_eq!(rt; report.status, row.status, "{} over {workers}", row.name);
-            assert!(rt;
-                out.written() == row.output.as_bytes(),
-                "{} over {workers}",
-                row.name
-            );
-            assert_eq!(rt;
-                report.taken.len(),
-                row.files.len(),
-                "{} over {workers}",
-                row.name
-            );
-            assert_eq!(rt; report.sources.len(), 16);
-        }
+    for workers in ["1", "2", "4", "16"] {
+        assert_eq!(rt; wrong_over(&rt, rt.alloc(), workers)?, None);
     }
     Ok(())
 }
 
-#[test]
-fn one_worker_asks_the_first_source_alone(rt: HostRuntime) -> Result<(), Memory> {
-    let alloc = rt.alloc();
-    let line = format!(in alloc; "{COMMAND} --workers 1")?;
-    for row in SITES {
-        let mut out = SureSink::new(alloc);
-        let report = run_words(&rt, alloc, line.as_str(), row.files, &mut out)?;
-        assert_eq!(rt; busy(&report.sources), 1, "{}", row.name);
-        let asked = match report.sources.first() {
-            Some(source) => source.asked.len(),
-            None => 0,
-        };
-        assert_eq!(rt; asked, row.files.len(), "{}", row.name);
+// Numbers of workers, and how the run ends.
+const NUMBERS: &str = "\
+Fulfilled 1
+Fulfilled 9
+Fulfilled 16
+Usage 0
+Usage 01
+Usage 17
+Usage 160
+Usage x
+Usage -1
+Usage
+Usage 2 --workers 2";
+
+// Whether a run with the number of a row ends as the row says.
+fn is_read_so<R: Threads + Wait + Sync>(rt: &R, alloc: Global, row: &str) -> Result<bool, Memory> {
+    let (status, number) = row.split_once(' ').unwrap_or((row, ""));
+    let told = told_by(rt, alloc, number, &[("main.js", "print(\"m\")")])?;
+    if status == "Fulfilled" {
+        Ok(told.is(Status::Fulfilled, "m\n"))
+    } else {
+        Ok(told.is(Status::Usage, USAGE))
     }
-    Ok(())
+}
+
+// The first row that isn't read so.
+fn wrong_number<R: Threads + Wait + Sync>(
+    rt: &R,
+    alloc: Global,
+) -> Result<Option<&'static str>, Memory> {
+    for row in NUMBERS.lines() {
+        if !is_read_so(rt, alloc, row)? {
+            return Ok(Some(row));
+        }
+    }
+    Ok(None)
 }
 
 #[test]
 fn numbers_of_workers_are_read(rt: HostRuntime) -> Result<(), Memory> {
-    let alloc = rt.alloc();
-    let named: &[(&str, &str)] = &[("main.js", "print(\"m\")")];
-    for (rest, status) in [
-        ("--workers 1", Status::Fulfilled),
-        ("--workers 9", Status::Fulfilled),
-        ("--workers 16", Status::Fulfilled),
-        ("--workers 0", Status::Usage),
-        ("--workers 01", Status::Usage),
-        ("--workers 17", Status::Usage),
-        ("--workers 160", Status::Usage),
-        ("--workers x", Status::Usage),
-        ("--workers -1", Status::Usage),
-        ("--workers", Status::Usage),
-        ("--workers 2 --workers 2", Status::Usage),
-    ] {
-        let line = format!(in alloc; "{COMMAND} {rest}")?;
-        let mut out = SureSink::new(alloc);
-        let report = run_words(&rt, alloc, line.as_str(), named, &mut out)?;
-        assert_eq!(rt; report.status, status, "{rest}");
-    }
+    assert_eq!(rt; wrong_number(&rt, rt.alloc())?, None);
     Ok(())
 }
