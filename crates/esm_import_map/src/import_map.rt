@@ -4,6 +4,7 @@ ghost use Rattle.esm_import_map.specs.ImportMap.{no_maps};
 ghost use Rattle.esm_base.specs.Ends.{Gives};
 ghost use Rattle.esm_import_map.specs.Reading.{import_map_of};
 
+use crate::address::Address;
 use crate::fault::MapReadEnd;
 use crate::reading::read_text;
 use esm_base::TextMap;
@@ -12,7 +13,7 @@ use std::marker::Model;
 use url::Url;
 
 /// From each key to its address, or to none: HTML's module specifier map.
-pub type SpecifierMap = TextMap<Option<Url>>;
+pub type SpecifierMap = TextMap<Option<Address>>;
 
 /// An import map. Contracts see its two finite maps.
 #[derive(Drop)]

@@ -5,6 +5,7 @@ ghost use Rattle.esm_import_map.specs.Reading as spec;
 ghost use Rattle.esm_base.specs.Ends.{Gives};
 ghost use Rattle.esm_base.specs.Urls.{url_of};
 
+use crate::address::Address;
 use crate::fault::{MapFault, MapReadEnd};
 use crate::import_map::{ImportMap, SpecifierMap};
 use crate::specifier::{ends_in_slash, url_like};
@@ -44,7 +45,12 @@ fn normalized_key(alloc: Global, base: &Url, key: &str) -> Result<Option<String>
 }
 
 // The address that a value names, if it names one.
-fn address_of(alloc: Global, base: &Url, key: &str, value: &Value) -> Result<Option<Url>, Memory>
+fn address_of(
+    alloc: Global,
+    base: &Url,
+    key: &str,
+    value: &Value,
+) -> Result<Option<Address>, Memory>
     ensures { IfOk result (λ address. address ≡ spec.address_of base.now key.now (view value.now)) }
 {
     let Some(text) = value.as_str() else {
@@ -56,7 +62,7 @@ fn address_of(alloc: Global, base: &Url, key: &str, value: &Value) -> Result<Opt
     if ends_in_slash(key) && !ends_in_slash(url.as_str()) {
         return Ok(None);
     }
-    Ok(Some(url))
+    Ok(Some(Address::new(alloc, url)?))
 }
 
 // Puts an entry in, if its key is kept. `false` where the map has the key already.

@@ -5,14 +5,13 @@ ghost use Rattle.esm_specifier.specs.Inner.Lookups.{Decides, IsInScope};
 ghost use Rattle.esm_specifier.specs.Resolution.{deciding_key, deciding_scope, deciding_map, scope_at};
 
 use esm_base::TextMap;
-use esm_import_map::{ImportMap, SpecifierMap};
-use url::Url;
+use esm_import_map::{Address, ImportMap, SpecifierMap};
 
 // A key that decides: so many bytes of the normal text, and the address to which it leads.
 #[derive(Drop)]
 pub struct Found<'a> {
     pub key_len: usize,
-    pub address: &'a Option<Url>,
+    pub address: &'a Option<Address>,
 }
 
 // The longest prefix of the normal text that ends in `/` and is a key.

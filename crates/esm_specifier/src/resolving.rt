@@ -10,7 +10,7 @@ ghost use Rattle.esm_specifier.specs.Resolution as spec;
 use crate::fault::{SpecEnd, SpecFault};
 use crate::lookup::find;
 use esm_base::{MAX_URL_BYTES, Memory, Text, is_usable, parse_absolute, parse_against};
-use esm_import_map::{ImportMap, url_like};
+use esm_import_map::{Address, ImportMap, url_like};
 use std::alloc::Global;
 use url::Url;
 
@@ -47,7 +47,7 @@ fn follow(
     alloc: Global,
     normal: &str,
     key_len: usize,
-    address: &Option<Url>,
+    address: &Option<Address>,
 ) -> Result<Text, SpecEnd>
     requires { IsCharBoundary normal.now key_len }
     ensures { Gives result (spec.usable
@@ -56,6 +56,7 @@ fn follow(
     let Some(address) = address else {
         return Err(SpecEnd::Fault(SpecFault::S1));
     };
+    let address = address.url();
     if key_len == normal.len() {
         return usable(alloc, address);
     }
