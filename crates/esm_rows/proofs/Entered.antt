@@ -29,9 +29,9 @@ module _ {X : Type 0} (one : X → List Declaration) (rest : List X → List Dec
 
 -- ---- blocks
 
-pub names_push : (bs : List Block) (b : Block) (ns : Names) → names_onto (bs ++ b ∷ []) ns ≡ declared b.names.items ∷ names_onto bs ns
+pub names_push : (bs : List Block) (b : Block) (ns : Names) → names_onto (bs ++ b ∷ []) ns ≡ declared b.names ∷ names_onto bs ns
 names_push [] b ns = refl
-names_push (a ∷ bs) b ns = names_push bs b (declared a.names.items ∷ ns)
+names_push (a ∷ bs) b ns = names_push bs b (declared a.names ∷ ns)
 
 pub popped : (bs bs2 : List Block) (r : Option Block) (n m : ℕ) → n ≡ length bs → bs ≡ bs2 ++ option_to_list r → MatchOption r ((n ≡ 0) × (m ≡ 0)) (λ _. m + 1 ≡ n) → names_of bs2 ≡ outer (names_of bs)
 popped bs bs2 (Some b) n m l e k = sym (ap outer (ap names_of e ∙ names_push bs2 b []))

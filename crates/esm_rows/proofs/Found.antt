@@ -1,46 +1,49 @@
--- A name of a block, one after another.
-use Rattle.std.proofs.Common.{◌≡◌, ◌≤◌, ◌<◌, ℕ, zero, suc, ◌+◌, true, false, List, [], ◌∷◌, length, drop, Option, Some, None, refl, ap, subst, sym, ◌∙◌, get_or, arith}
+-- A name of a block by its place there, and of blocks, one after another.
+use Rattle.std.proofs.Common.{◌≡◌, ◌≤◌, ◌<◌, ℕ, zero, suc, ◌+◌, Bool, true, false, List, [], ◌∷◌, length, drop, Option, Some, None, refl, ap, subst, sym, ◌∙◌, get_or, arith}
 use Rattle.std.proofs.lemmas.List.{drop_more}
 use Rattle.std.proofs.Math.ListN.{drop_of_length-le}
-use Rattle.std.specs.Prelude.{if◌then◌else◌}
+use Rattle.std.specs.Prelude.{option_map, if◌then◌else◌}
 use Rattle.std.specs.Str.{bytes_eq}
 use Rattle.std.specs.Option.{option_or}
 use Rattle.std.proofs.lemmas.List.{length-map}
+use Rattle.esm_rows.specs.LocalPlaces.{place_in}
 use Rattle.esm_rows.specs.Locals.{declaration, declared, names_onto, names_of, place_told}
 use Rattle.esm_rows.specs.Rows.{Names, Found, found_at, found_among, found_in, found_here, many_names}
 use Rattle.esm_rows.specs.declared.names.Block.{Block}
 use Rattle.esm_rows.specs.declared.names.Place.{Place}
 use Rattle.esm_rows.specs.declared.names.Local.{Local}
 
-any_default : (ls : List Local) (i : ℕ) (d f : Local) → i < length ls → get_or ls i d ≡ get_or ls i f
-any_default [] i d f h = absurd (omega (arith, h))
-any_default (l ∷ ls) zero d f h = refl
-any_default (l ∷ ls) (suc i) d f h = any_default ls i d f (omega (arith, h))
+found_by : (b : Bool) (o : Option ℕ) (l : Local) (ls : List Local) (before at : ℕ) (d : Local) (later : Option Found) → Some at ≡ (if b then Some 0 else option_map suc o) → ((k : ℕ) → Some k ≡ o → Some (found_at (suc before + k) (get_or ls k d).constant) ≡ later) → Some (found_at (before + at) (get_or (l ∷ ls) at d).constant) ≡ (if b then Some (found_at before l.constant) else later)
+found_by true o l ls before zero d later e more = ap (λ n. Some (found_at n l.constant)) (omega arith)
+found_by true o l ls before (suc k) d later e more = let z : suc k ≡ 0 = cc in absurd (omega (arith, z))
+found_by false None l ls before at d later e more = absurd cc
+found_by false (Some j) l ls before zero d later e more = let z : zero ≡ suc j = cc in absurd (omega (arith, z))
+found_by false (Some j) l ls before (suc k) d later e more =
+    let s : suc k ≡ suc j = cc in
+    let same : k ≡ j = omega (arith, s) in
+    ap (λ n. Some (found_at n (get_or ls k d).constant)) (omega arith) ∙ more k (ap Some same)
 
-module _ (block : List Local) (name : List ℕ) (before : ℕ) where
-  -- none so far, and this is next
-  abbrev pub IsLeft : ℕ → ℕ → Type 0
-  IsLeft i next = found_among before (declared block) name ≡ found_among next (declared (drop i block)) name
+-- a name at its first place is what is found among the names behind so many others
+pub found_place : (locals : List Local) (x : List ℕ) (before at : ℕ) (d : Local) → Some at ≡ place_in locals x → Some (found_at (before + at) (get_or locals at d).constant) ≡ found_among before (declared locals) x
+found_place [] x before at d e = absurd cc
+found_place (l ∷ ls) x before at d e =
+    found_by (bytes_eq l.name x) (place_in ls x) l ls before at d (found_among (suc before) (declared ls) x) e (λ k h. found_place ls x (suc before) k d h)
 
-  at : (i next : ℕ) (d : Local) → i < length block → IsLeft i next → found_among before (declared block) name ≡ (if bytes_eq (get_or block i d).name name then Some (found_at next (get_or block i d).constant) else found_among (suc next) (declared (drop (i + 1) block)) name)
-  at i next d h left = left ∙ ap (λ ls. found_among next (declared ls) name) (drop_more block i d h)
+pub found_there : (locals : List Local) (x : List ℕ) (before at next : ℕ) (l : Local) → Some at ≡ place_in locals x → next ≡ before + at → l ≡ get_or locals at l → Some (found_at next l.constant) ≡ found_among before (declared locals) x
+found_there locals x before at next l e n is =
+    ap (λ m. Some (found_at m l.constant)) n ∙ ap (λ (k : Local). Some (found_at (before + at) k.constant)) is ∙ found_place locals x before at l e
 
-  pub is_found : (i next : ℕ) (d f : Local) → i < length block → IsLeft i next → bytes_eq (get_or block i d).name name ≡ true → Some (found_at next (get_or block i f).constant) ≡ found_among before (declared block) name
-  is_found i next d f h left e = ap (λ l. Some (found_at next l.constant)) (any_default block i f d h) ∙ sym (at i next d h left ∙ ap (λ b. if b then Some (found_at next (get_or block i d).constant) else found_among (suc next) (declared (drop (i + 1) block)) name) e)
+lost_by : (b : Bool) (o : Option ℕ) (f : Found) (later : Option Found) → None ≡ (if b then Some 0 else option_map suc o) → (None ≡ o → None ≡ later) → None ≡ (if b then Some f else later)
+lost_by true o f later e more = absurd cc
+lost_by false None f later e more = more refl
+lost_by false (Some k) f later e more = absurd cc
 
-  pub goes : (i next after : ℕ) (d : Local) → i < length block → IsLeft i next → bytes_eq (get_or block i d).name name ≡ false → after ≡ next + 1 → IsLeft (i + 1) after
-  goes i next after d h left e a =
-      at i next d h left ∙ ap (λ b. if b then Some (found_at next (get_or block i d).constant) else found_among (suc next) (declared (drop (i + 1) block)) name) e ∙ ap (λ n. found_among n (declared (drop (i + 1) block)) name) (omega (arith, a))
-
-  pub ends : (i next : ℕ) → length block ≤ i → IsLeft i next → None ≡ found_among before (declared block) name
-  ends i next h left = sym (left ∙ ap (λ ls. found_among next (declared ls) name) (drop_of_length-le block h))
+pub lost : (locals : List Local) (x : List ℕ) (before : ℕ) → None ≡ place_in locals x → None ≡ found_among before (declared locals) x
+lost [] x before e = refl
+lost (l ∷ ls) x before e =
+    lost_by (bytes_eq l.name x) (place_in ls x) (found_at before l.constant) (found_among (suc before) (declared ls) x) e (lost ls x (suc before))
 
 -- ---- among blocks
-
-any_block : (bs : List Block) (i : ℕ) (d f : Block) → i < length bs → get_or bs i d ≡ get_or bs i f
-any_block [] i d f h = absurd (omega (arith, h))
-any_block (b ∷ bs) zero d f h = refl
-any_block (b ∷ bs) (suc i) d f h = any_block bs i d f (omega (arith, h))
 
 -- the blocks before this place were looked at: what was found in them, and how many names they have
 pub record Finding (blocks : List Block) (from : Names → Option Found) (i : ℕ) (found : Option Place) (many : ℕ) : Type 0 where
@@ -53,12 +56,12 @@ module _ (blocks : List Block) (from : Names → Option Found) where
   pub begins : None ≡ from [] → Finding blocks from 0 None 0
   begins e = record { names = []; left = refl; told = e; counts = refl }
 
-  pub looks : (i : ℕ) (b : Block) (found later : Option Place) (many after : ℕ) → i < length blocks → (f : Finding blocks from i found many) → (place_told later ≡ from (declared (get_or blocks i b).names.items ∷ f.names)) → after ≡ many + length (get_or blocks i b).names.items → Finding blocks from (i + 1) later after
+  pub looks : (i : ℕ) (b : Block) (found later : Option Place) (many after : ℕ) → i < length blocks → (f : Finding blocks from i found many) → (place_told later ≡ from (declared (get_or blocks i b).names ∷ f.names)) → after ≡ many + length (get_or blocks i b).names → Finding blocks from (i + 1) later after
   looks i b found later many after h f e a =
-      let k = length-map (get_or blocks i b).names.items declaration in
+      let k = length-map (get_or blocks i b).names declaration in
       let m = f.counts in
       record {
-        names = declared (get_or blocks i b).names.items ∷ f.names;
+        names = declared (get_or blocks i b).names ∷ f.names;
         left = subst (λ bs. names_onto bs f.names ≡ names_of blocks) (drop_more blocks i b h) f.left;
         told = e;
         counts = omega (arith, k, m, a);

@@ -1,5 +1,6 @@
 pub mod Pushed
 pub mod Made
+pub mod LocalPlaces
 pub mod Found
 pub mod Steps
 pub mod Linked

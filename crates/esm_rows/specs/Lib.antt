@@ -1,5 +1,6 @@
 pub mod Rows
 pub mod Making
+pub mod LocalPlaces
 pub mod Locals
 pub mod Drafts
 pub mod Working

@@ -15,7 +15,7 @@ declared ls = map declaration ls
 -- the last block is the innermost
 abbrev pub names_onto : List Block → Names → Names
 names_onto [] ns = ns
-names_onto (b ∷ bs) ns = names_onto bs (declared b.names.items ∷ ns)
+names_onto (b ∷ bs) ns = names_onto bs (declared b.names ∷ ns)
 
 abbrev pub names_of : List Block → Names
 names_of bs = names_onto bs []

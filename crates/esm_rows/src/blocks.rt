@@ -7,6 +7,7 @@ ghost use Rattle.esm_rows.specs.Rows.{caught_names, parameter};
 ghost use Rattle.esm_rows.specs.Locals.{declared, names_of};
 ghost use Rattle.esm_rows.specs.Working.{outer};
 
+use crate::locals::Locals;
 use crate::names::{Block, Local, count};
 use crate::nodes::stmt_at;
 use esm_base::{Memory, Text};
@@ -110,11 +111,12 @@ pub(crate) fn add_names(
 
 /// The block of these statements.
 pub(crate) fn block_of(alloc: Global, tree: &Tree, ids: &[StmtId]) -> Result<Block, Memory>
-    ensures { IfOk result (λ block. declared block.names.items
+    ensures { IfOk result (λ block. declared block.names
         ≡ declared_in (stmt_parts tree.now.stmts ids.now)) }
 {
-    let mut names = Vec::new(alloc);
-    add_names(alloc, &mut names, tree, ids)?;
+    let mut list = Vec::new(alloc);
+    add_names(alloc, &mut list, tree, ids)?;
+    let names = Locals::of(alloc, list)?;
     Ok(Block { names })
 }
 
@@ -125,17 +127,18 @@ pub(crate) fn catch_block(
     name: &str,
     ids: &[StmtId],
 ) -> Result<Block, Memory>
-    ensures { IfOk result (λ block. declared block.names.items
+    ensures { IfOk result (λ block. declared block.names
         ≡ caught_names (Some name.now) ++ declared_in (stmt_parts tree.now.stmts ids.now)) }
 {
-    let mut names = Vec::new(alloc);
-    add_name(alloc, &mut names, name, false)?;
-    add_names(alloc, &mut names, tree, ids)?;
+    let mut list = Vec::new(alloc);
+    add_name(alloc, &mut list, name, false)?;
+    add_names(alloc, &mut list, tree, ids)?;
+    let names = Locals::of(alloc, list)?;
     Ok(Block { names })
 }
 
 /// How many names a block has.
-pub(crate) fn many_in(names: &[Local]) -> Result<u32, Memory>
+pub(crate) fn many_in(names: &Locals) -> Result<u32, Memory>
     ensures { IfOk result (λ n. n ≡ length (declared names.now)) }
 {
     count(names.len())
@@ -154,7 +157,7 @@ pub(crate) fn beside(all: u32, these: u32) -> Result<u32, Memory>
 /// One block more, inside the others.
 pub(crate) fn push_block(blocks: &mut Vec<Block>, block: Block) -> Result<(), Memory>
     ensures { OnOk result (names_of blocks.new.items
-        ≡ declared block.names.items ∷ names_of blocks.old.items) }
+        ≡ declared block.names ∷ names_of blocks.old.items) }
 {
     blocks.push(block)?;
     Ok(())

@@ -5,6 +5,7 @@ mod blocks;
 mod draft;
 mod exprs;
 pub mod laws;
+mod locals;
 mod lowering;
 mod maker;
 mod names;

@@ -12,6 +12,7 @@ ghost use Rattle.esm_rows.specs.Functions.{IsFirstRow, IsRow, IsRowOf};
 
 use crate::blocks::{add_names, add_parameters, beside, many_in};
 use crate::draft::Draft;
+use crate::locals::Locals;
 use crate::maker::Maker;
 use crate::names::{Block, count};
 use crate::owns::own_first;
@@ -23,7 +24,7 @@ use std::alloc::Global;
 
 /// The operations of a body whose names are those of this block.
 fn made(alloc: Global, tree: &Tree, block: Block, body: &[StmtId]) -> Result<Draft, Memory>
-    ensures { IfOk result (λ d. IsDraft d (stmts_row (declared block.names.items ∷ [])
+    ensures { IfOk result (λ d. IsDraft d (stmts_row (declared block.names ∷ [])
         (stmt_parts tree.now.stmts body.now) (o.End ∷ []))) }
 {
     let mut maker = Maker::of(alloc, block, body)?;
@@ -36,10 +37,11 @@ fn row_of(alloc: Global, tree: &Tree, parameters: &[Text], body: &[StmtId]) -> R
     ensures { (name : List ℕ) → IfOk result (IsRow []
         (function_code name parameters.now (stmt_parts tree.now.stmts body.now))) }
 {
-    let mut names = Vec::new(alloc);
-    add_parameters(alloc, &mut names, parameters)?;
-    add_names(alloc, &mut names, tree, body)?;
-    let all = many_in(names.as_slice())?;
+    let mut list = Vec::new(alloc);
+    add_parameters(alloc, &mut list, parameters)?;
+    add_names(alloc, &mut list, tree, body)?;
+    let names = Locals::of(alloc, list)?;
+    let all = many_in(&names)?;
     let given = count(parameters.len())?;
     let own = beside(all, given)?;
     let draft = made(alloc, tree, Block { names }, body)?;

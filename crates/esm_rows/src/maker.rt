@@ -36,7 +36,7 @@ impl Maker {
     /// A row of these statements, whose names are those of this block.
     pub(crate) fn of(alloc: Global, block: Block, body: &[StmtId]) -> Result<Maker, Memory>
         ensures { (exprs : List Expr) → (stmts : List Stmt) → IfOk result (λ m. Comes exprs stmts m
-            (stmts_row (declared block.names.items ∷ []) (stmt_parts stmts body.now)
+            (stmts_row (declared block.names ∷ []) (stmt_parts stmts body.now)
             (o.End ∷ []))) }
     {
         let mut draft = Draft::new(alloc);
@@ -56,7 +56,7 @@ impl Maker {
     fn open(&mut self, block: Block, close: Op, begin: Op, ids: &[StmtId]) -> Result<(), Memory>
         ensures { (exprs : List Expr) → (stmts : List Stmt) → (made : Row) → IsPlainOp close
             → IsPlainOp begin → OwesIn exprs stmts self.old
-            (λ c. plain begin ∷ stmts_row (declared block.names.items ∷ names_of self.old.blocks.items)
+            (λ c. plain begin ∷ stmts_row (declared block.names ∷ names_of self.old.blocks.items)
             (stmt_parts stmts ids.now) (plain close ∷ c)) made
             → OnOk result (Comes exprs stmts self.new made) }
     {
@@ -75,7 +75,7 @@ impl Maker {
     {
         let left = self.draft.left()?;
         let block = block_of(alloc, tree, ids)?;
-        let many = many_in(block.names.as_slice())?;
+        let many = many_in(&block.names)?;
         push_work(&mut self.works, Work::Put(Op::Step))?;
         self.open(block, Op::Leave(many, left), Op::Enter(many), ids)
     }
@@ -90,7 +90,7 @@ impl Maker {
         let ids = first_ids(tree, id);
         let others = self.draft.left()?;
         let block = block_of(alloc, tree, ids)?;
-        let many = many_in(block.names.as_slice())?;
+        let many = many_in(&block.names)?;
         push_work(&mut self.works, Work::Put(Op::Choose(others)))?;
         self.open(block, Op::Leave(many, left), Op::Enter(many), ids)
     }
@@ -105,7 +105,7 @@ impl Maker {
         let ids = first_ids(tree, id);
         let handler = self.draft.left()?;
         let block = block_of(alloc, tree, ids)?;
-        let many = many_in(block.names.as_slice())?;
+        let many = many_in(&block.names)?;
         self.open(block, Op::EndTry(many, left), Op::Try(many, handler), ids)
     }
 
@@ -144,7 +144,7 @@ impl Maker {
     {
         let left = self.draft.left()?;
         let block = block_of(alloc, tree, others)?;
-        let many = many_in(block.names.as_slice())?;
+        let many = many_in(&block.names)?;
         push_if(&mut self.works, id, value, left)?;
         self.open(block, Op::Leave(many, left), Op::Enter(many), others)
     }
@@ -167,7 +167,7 @@ impl Maker {
     {
         let left = self.draft.left()?;
         let block = block_of(alloc, tree, handler)?;
-        let many = many_in(block.names.as_slice())?;
+        let many = many_in(&block.names)?;
         push_two(&mut self.works, Work::Put(Op::Step), Work::Tried(id, left))?;
         self.open(
             block,
@@ -198,7 +198,7 @@ impl Maker {
     {
         let left = self.draft.left()?;
         let block = catch_block(alloc, tree, name, handler)?;
-        let all = many_in(block.names.as_slice())?;
+        let all = many_in(&block.names)?;
         let many = beside(all, 1)?;
         push_two(&mut self.works, Work::Put(Op::Step), Work::Tried(id, left))?;
         self.open(block, Op::Leave(all, left), Op::Caught(many), handler)

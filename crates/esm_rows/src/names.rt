@@ -4,6 +4,7 @@ ghost use Rattle.std.specs.Option.{option_or};
 ghost use Rattle.esm_rows.specs.Locals.{declared, names_of, place_told};
 ghost use Rattle.esm_rows.specs.Rows.{found_among, found_in, found_here};
 
+use crate::locals::Locals;
 use esm_base::Memory;
 use esm_values::RcText;
 
@@ -20,7 +21,7 @@ pub struct Local {
 #[derive(Drop)]
 pub struct Block {
     /// In order.
-    pub names: Vec<Local>,
+    pub names: Locals,
 }
 
 /// Where the value of a name stands.
@@ -56,21 +57,20 @@ fn counted(many: u32, more: usize) -> Result<u32, Memory>
 }
 
 /// The first of a block with this name, where so many names stand before.
-fn place_among(block: &[Local], before: u32, name: &str) -> Result<Option<Place>, Memory>
+fn place_among(block: &Locals, before: u32, name: &str) -> Result<Option<Place>, Memory>
     ensures { IfOk result (λ place. place_told place
         ≡ found_among before (declared block.now) name.now) }
 {
-    let mut next = before;
-    for at in 0..block.len() {
-        if block[at].name.as_str() == name {
-            return Ok(Some(Place {
+    match block.place(name) {
+        Some(at) => {
+            let next = counted(before, at)?;
+            Ok(Some(Place {
                 at: next,
-                constant: block[at].constant,
-            }));
+                constant: block.get(at).constant,
+            }))
         }
-        next = counted(next, 1)?;
+        None => Ok(None),
     }
-    Ok(None)
 }
 
 /// The first of two places that there is.
@@ -90,7 +90,7 @@ pub(crate) fn find(blocks: &[Block], name: &str) -> Result<Option<Place>, Memory
     let mut found = None;
     let mut before = 0u32;
     for at in 0..blocks.len() {
-        let block = blocks[at].names.as_slice();
+        let block = &blocks[at].names;
         let here = place_among(block, before, name)?;
         found = first_of(here, found);
         before = counted(before, block.len())?;
@@ -105,7 +105,7 @@ pub(crate) fn find_here(blocks: &[Block], name: &str) -> Result<Option<Place>, M
     let mut found = None;
     let mut before = 0u32;
     for at in 0..blocks.len() {
-        let block = blocks[at].names.as_slice();
+        let block = &blocks[at].names;
         found = place_among(block, before, name)?;
         before = counted(before, block.len())?;
     }

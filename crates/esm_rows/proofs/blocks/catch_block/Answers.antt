@@ -1,7 +1,8 @@
 use Rattle.std.proofs.Common.{◌++◌, ap, ◌∙◌}
 use Rattle.esm_tree.specs.Flat.{stmt_parts}
 use Rattle.esm_env.specs.Declarations.{declared_in}
+use Rattle.esm_rows.specs.Locals.{declared}
 use Rattle.esm_rows.proofs.blocks.catch_block.Goals as goal
 
 pub returns : goal.returns
-returns c = c.in_ok-add_names.ensures ∙ ap (λ ds. ds ++ declared_in (stmt_parts c.args.tree.now.stmts c.args.ids.now)) (rw c.new-names.ensures.items at c.in_ok-add_name.ensures)
+returns c = ap declared c.in_ok-names.ensures ∙ c.in_ok-add_names.ensures ∙ ap (λ ds. ds ++ declared_in (stmt_parts c.args.tree.now.stmts c.args.ids.now)) (rw c.new-list.ensures.items at c.in_ok-add_name.ensures)

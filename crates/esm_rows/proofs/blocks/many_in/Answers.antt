@@ -5,4 +5,4 @@ use Rattle.esm_rows.specs.Locals.{declaration, declared}
 use Rattle.esm_rows.proofs.blocks.many_in.Goals as goal
 
 pub returns : goal.returns
-returns c = IfOk-weaker c.count.result (λ n. n ≡ length c.args.names.now) (λ n. n ≡ length (declared c.args.names.now)) (λ n e. e ∙ sym (length-map c.args.names.now declaration)) c.count.ensures
+returns c = IfOk-weaker c.count.result (λ n. n ≡ c.len.result) (λ n. n ≡ length (declared c.args.names.now)) (λ n e. e ∙ c.len.ensures ∙ sym (length-map c.args.names.now declaration)) c.count.ensures

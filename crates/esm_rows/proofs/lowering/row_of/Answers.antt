@@ -5,15 +5,16 @@ use Rattle.esm_tree.specs.Flat.{stmt_parts}
 use Rattle.esm_env.specs.Declarations.{declared_in}
 use Rattle.esm_rows.specs.Rows.{Operation as o}
 use Rattle.esm_rows.specs.Rows.{parameter, stmts_row}
+use Rattle.esm_rows.specs.Locals.{declared}
 use Rattle.esm_rows.specs.Making.{AreTold}
 use Rattle.esm_rows.proofs.lowering.row_of.Goals as goal
 
 pub returns : goal.returns
 returns c = λ name.
     let body = stmt_parts c.args.tree.now.stmts c.args.body.now in
-    let first = rw c.new-names.ensures.items at c.in_ok-add_parameters.ensures in
-    let names = c.in_ok-add_names.ensures ∙ ap (λ ds. ds ++ declared_in body) first in
-    let all = (rw c.as_slice.ensures.value at c.in_ok-all.ensures) ∙ ap length names in
+    let first = rw c.new-list.ensures.items at c.in_ok-add_parameters.ensures in
+    let names = ap declared c.in_ok-names.ensures ∙ c.in_ok-add_names.ensures ∙ ap (λ ds. ds ++ declared_in body) first in
+    let all = c.in_ok-all.ensures ∙ ap length names in
     let both = length-append (map parameter c.args.parameters.now) (declared_in body) in
     let many = length-map c.args.parameters.now parameter in
     let given = c.in_ok-given.ensures in
