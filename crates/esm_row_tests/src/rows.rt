@@ -85,6 +85,26 @@ const OWN_NAMES: [(&str, &str); 4] = [
     ),
 ];
 
+// Of up to sixteen names of a block one is looked for one by one, of more by an index.
+const MANY_NAMES: [(&str, &str); 4] = [
+    (
+        "function f(a, b, c, d, e, g, h, i, j, k, l, m, n, o, p, q) { return a + q + r; }",
+        "16 0: step; local 0 a; local 15 q; add; name r; add; return; end; ",
+    ),
+    (
+        "function f(a, b, c, d, e, g, h, i, j, k, l, m, n, o, p, q, r) { return a + q + r + s; }",
+        "17 0: step; local 0 a; local 15 q; add; local 16 r; add; name s; add; return; end; ",
+    ),
+    (
+        "function f(p0, p1, p2, p3, p4, p5, p6, p7, p8, p9, p10, p11, p12, p13, p14, p15, p16, p17, p18, p19, p20, p21, p22, p23, p24, p25, p26, p27, p28, p29, p30, p31, p32, p33, p34, p35, p36, p37) { const y = p16, z = y; { let p0 = z; p0 = p37; z = p0; } return p0; }",
+        "38 2: step; local 16 p16; set 38; local 38 y; set 39; step; enter 1; step; local 39 z; set 40; step; local 37 p37; write 40 p0; step; local 40 p0; constant 39 z; leave 1 4; step; local 0 p0; return; end; ",
+    ),
+    (
+        "function f(z) { { let a, b, c, d, e, g, h, i, j, k, l, m, n, o, p, q, r = z; a = r; q = z; } }",
+        "1 0: step; enter 17; step; undefined; set 1; undefined; set 2; undefined; set 3; undefined; set 4; undefined; set 5; undefined; set 6; undefined; set 7; undefined; set 8; undefined; set 9; undefined; set 10; undefined; set 11; undefined; set 12; undefined; set 13; undefined; set 14; undefined; set 15; undefined; set 16; local 0 z; set 17; step; local 17 r; write 1 a; step; local 0 z; write 16 q; leave 17 1; end; ",
+    ),
+];
+
 fn read(alloc: Global, text: &str) -> Result<Script, Memory> {
     let text = String::from_str(alloc, text)?;
     match read_script(alloc, text.into_bytes()) {
@@ -147,6 +167,16 @@ fn statements_are_rows(rt: HostRuntime) -> Result<(), Fail> {
 fn own_names_are_read_by_places(rt: HostRuntime) -> Result<(), Fail> {
     let alloc = rt.alloc();
     for (text, expected) in OWN_NAMES {
+        let row = row_told(alloc, text, 0)?;
+        assert_eq!(rt; row.as_str(), expected);
+    }
+    Ok(())
+}
+
+#[test]
+fn many_names_are_found(rt: HostRuntime) -> Result<(), Fail> {
+    let alloc = rt.alloc();
+    for (text, expected) in MANY_NAMES {
         let row = row_told(alloc, text, 0)?;
         assert_eq!(rt; row.as_str(), expected);
     }
