@@ -1,5 +1,8 @@
 -- The JSON value that a text is.
-use Rattle.std.proofs.Common.{◌≡◌, ℕ, List, length, nat_le, Bool, true, false, ◌&&◌, codes, Result, Bor, string_bytes, nat_cmp, option_copied, subst, Option, Some, None, option_map, refl, ap, sym, ◌∙◌, if◌then◌else◌}
+use Rattle.std.proofs.Common.{◌≡◌, ℕ, List, length, nat_le, Bool, true, false, ◌&&◌, codes, Result, Ordering, Less, Equal, Greater, is_eq, cond, arith, Global, String, string_bytes, nat_cmp, [], ◌∷◌, subst, Option, Some, None, option_map, refl, ap, sym, ◌∙◌, if◌then◌else◌}
+use Rattle.std.proofs.lemmas.Map.Text.{is_eq-slice_cmp}
+use Rattle.std.proofs.lemmas.Slice.Eq.{bytes_eq-Decides}
+use Rattle.std.specs.Ordering.{match_ordering}
 use Rattle.std.proofs.lemmas.Str.{IsUtf8-from_is_utf8, is_utf8-from_IsUtf8}
 use Rattle.std.specs.Str.{IsUtf8, is_utf8}
 use Rattle.serde_json.specs.Data.{Data}
@@ -8,10 +11,10 @@ use Rattle.serde_json.specs.Data.{Members}
 use Rattle.serde_json.specs.Find.{as_object, get_member}
 use Rattle.serde_json.specs.View.{view, members_view}
 use Rattle.serde_json.specs.declared.value.Value.{Value}
-use Rattle.serde_json.proofs.Views.{Entry, view_of_ref, view-lookup}
+use Rattle.serde_json.proofs.Views.{Entry, member_later, view-lookup}
 use Rattle.std.specs.BTreeMap.{is_at}
 use Rattle.std.specs.Cmp.Lexicographic.{slice_cmp}
-use Rattle.std.specs.Map.{lookup}
+use Rattle.std.specs.Map.{lookup, remove_entry}
 use Rattle.url.specs.Parts.{Parts}
 use Rattle.esm_base.specs.Mark.{without_mark}
 use Rattle.esm_import_map.specs.ImportMap.{Maps}
@@ -41,9 +44,33 @@ json_of-read bytes text d same short p =
     let q : P (without_mark bytes) = subst P same p in
     sym (read_by (nat_le (length bytes) 1048576) (is_utf8 (without_mark bytes)) (without_mark bytes) short (is_utf8-from_IsUtf8 _ q.0) ∙ q.1)
 
+abbrev is_named : List ℕ → String Global → Bool
+is_named name = is_at (λ k. slice_cmp nat_cmp name (string_bytes k))
+
 -- the value under a name
-pub named : (name : List ℕ) (found : Option (Bor Value)) (es : List Entry) → option_copied found ≡ lookup (is_at (λ k. slice_cmp nat_cmp name (string_bytes k))) es → option_map (λ v. view v.now) found ≡ get_member name (members_view es)
-named name found es is = view_of_ref found ∙ ap (option_map view) is ∙ view-lookup name es
+pub named : (name : List ℕ) (found : Option Value) (es : List Entry) → found ≡ lookup (is_named name) es → option_map view found ≡ get_member name (members_view es)
+named name found es is = ap (option_map view) is ∙ view-lookup name es
+
+kept_by : (o : Ordering) (name taken : List ℕ) (e : Entry) (es : List Entry) → slice_cmp nat_cmp taken (string_bytes e.0) ≡ o → (name ≡ taken → ⊥) → get_member name (members_view (remove_entry (is_named taken) es)) ≡ get_member name (members_view es)
+    → get_member name (members_view (cond (is_eq o) es (e ∷ remove_entry (is_named taken) es))) ≡ get_member name (members_view (e ∷ es))
+kept_by Less name taken e es is other later = ap (λ r. match_ordering (slice_cmp nat_cmp name (string_bytes e.0)) r (Some (view e.1)) r) later
+kept_by Equal name taken e es is other later =
+    let same : taken ≡ string_bytes e.0 = (bytes_eq-Decides taken (string_bytes e.0)).0 (sym (is_eq-slice_cmp taken (string_bytes e.0)) ∙ ap is_eq is) in
+    sym (member_later name e es (λ h. other (h ∙ sym same)))
+kept_by Greater name taken e es is other later = ap (λ r. match_ordering (slice_cmp nat_cmp name (string_bytes e.0)) r (Some (view e.1)) r) later
+
+-- the value under a name is there after another was taken
+pub kept : (name taken : List ℕ) (es : List Entry) → (name ≡ taken → ⊥) → get_member name (members_view (remove_entry (is_named taken) es)) ≡ get_member name (members_view es)
+kept name taken [] other = refl
+kept name taken (e ∷ es) other = kept_by _ name taken e es refl other (kept name taken es other)
+
+apart : codes "scopes" ≡ codes "imports" → ⊥
+apart same = let longer : 6 ≡ 7 = ap length same in omega (arith, longer)
+
+-- the value under `scopes`, after that under `imports` was taken
+pub named_next : (found : Option Value) (es left : List Entry) → left ≡ remove_entry (is_named (codes "imports")) es → found ≡ lookup (is_named (codes "scopes")) left → option_map view found ≡ get_member (codes "scopes") (members_view es)
+named_next found es left is found_is =
+    named (codes "scopes") found left found_is ∙ ap (λ l. get_member (codes "scopes") (members_view l)) is ∙ kept (codes "scopes") (codes "imports") es apart
 
 -- what the two parts say is what the text says
 pub tells_parts : (r : Result Maps (End MapFault)) (base : Parts) (bytes : List ℕ) (d : Data) (ms : Members) (imports scopes : Option Data) → Some d ≡ json_of bytes → Some ms ≡ as_object d

@@ -1,5 +1,6 @@
 // Reads the text of an import map.
 ghost use Rattle.std.specs.Prelude.{◌≡◌, [], Some, None, IfOk, option_map, string_bytes, if◌then◌else◌};
+ghost use Rattle.serde_json.specs.Find.{as_object};
 ghost use Rattle.serde_json.specs.View.{view, members_view};
 ghost use Rattle.esm_import_map.specs.Reading as spec;
 ghost use Rattle.esm_base.specs.Ends.{Gives};
@@ -137,18 +138,19 @@ fn enter_scope(
     scopes.insert_new(kept, map)
 }
 
-// The scopes that an object says, unless two of their prefixes, or two keys of one scope, are one text.
+// The scopes that an object says, unless two of their prefixes, or two keys of one scope, are one text. The object
+// goes as they are read.
 fn read_scopes(
     alloc: Global,
     base: &Url,
-    members: &Map<String, Value>,
+    members: Map<String, Value>,
 ) -> Result<Option<TextMap<SpecifierMap>>, Memory>
     ensures { IfOk result (λ scopes.
-        scopes ≡ spec.normalized_scopes base.now (members_view members.now.entries) []) }
+        scopes ≡ spec.normalized_scopes base.now (members_view members.entries) []) }
 {
     let mut scopes = TextMap::empty(alloc);
-    for (prefix, value) in members.iter() {
-        if !enter_scope(alloc, base, prefix.as_str(), value, &mut scopes)? {
+    for (prefix, value) in members {
+        if !enter_scope(alloc, base, prefix.as_str(), &value, &mut scopes)? {
             return Ok(None);
         }
     }
@@ -167,18 +169,24 @@ fn are_objects(members: &Map<String, Value>) -> bool
     true
 }
 
-// The object that a part of the map is: `none` where the part isn't there.
-fn part_of<'a>(
-    part: Option<&'a Value>,
-    none: &'a Map<String, Value>,
-) -> Option<&'a Map<String, Value>>
-    requires { none.now.entries ≡ [] }
-    ensures { option_map (λ m. members_view m.now.entries) result
-        ≡ spec.part_of (option_map (λ v. view v.now) part.entry) }
+// The object that a value is, if it is one.
+fn object_of(value: Value) -> Option<Map<String, Value>>
+    ensures { option_map (λ m. members_view m.entries) result ≡ as_object (view value) }
+{
+    match value {
+        Value::Object(members) => Some(members),
+        _ => None,
+    }
+}
+
+// The object that a part of the map is: the empty one where the part isn't there.
+fn part_of(alloc: Global, part: Option<Value>) -> Option<Map<String, Value>>
+    ensures { option_map (λ m. members_view m.entries) result
+        ≡ spec.part_of (option_map view part) }
 {
     match part {
-        Some(value) => value.as_object(),
-        None => Some(none),
+        Some(value) => object_of(value),
+        None => Some(Map::new(alloc)),
     }
 }
 
@@ -186,24 +194,23 @@ fn part_of<'a>(
 fn read_parts(
     alloc: Global,
     base: &Url,
-    imports: Option<&Value>,
-    scopes: Option<&Value>,
+    imports: Option<Value>,
+    scopes: Option<Value>,
 ) -> Result<ImportMap, MapReadEnd>
     ensures { Gives result (spec.of_parts base.now
-        (spec.part_of (option_map (λ v. view v.now) imports.entry))
-        (spec.part_of (option_map (λ v. view v.now) scopes.entry))) }
+        (spec.part_of (option_map view imports))
+        (spec.part_of (option_map view scopes))) }
 {
-    let none = Map::new(alloc);
-    let Some(imports) = part_of(imports, &none) else {
+    let Some(imports) = part_of(alloc, imports) else {
         return Err(MapReadEnd::Fault(MapFault::M3));
     };
-    let Some(scopes) = part_of(scopes, &none) else {
+    let Some(scopes) = part_of(alloc, scopes) else {
         return Err(MapReadEnd::Fault(MapFault::M3));
     };
-    if !are_objects(scopes) {
+    if !are_objects(&scopes) {
         return Err(MapReadEnd::Fault(MapFault::M3));
     }
-    let Some(imports) = read_specifiers(alloc, base, imports)? else {
+    let Some(imports) = read_specifiers(alloc, base, &imports)? else {
         return Err(MapReadEnd::Fault(MapFault::M4));
     };
     let Some(scopes) = read_scopes(alloc, base, scopes)? else {
@@ -219,8 +226,10 @@ pub fn read_text(alloc: Global, bytes: &[u8], base: &Url) -> Result<ImportMap, M
     let Some(value) = json_of(alloc, bytes)? else {
         return Err(MapReadEnd::Fault(MapFault::M1));
     };
-    let Some(members) = value.as_object() else {
+    let Some(mut members) = object_of(value) else {
         return Err(MapReadEnd::Fault(MapFault::M2));
     };
-    read_parts(alloc, base, members.get("imports"), members.get("scopes"))
+    let imports = members.remove("imports");
+    let scopes = members.remove("scopes");
+    read_parts(alloc, base, imports, scopes)
 }
