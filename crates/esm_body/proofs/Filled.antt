@@ -112,13 +112,13 @@ module _ (p : Term CodeValue) where
     fill_contexts [] h = refl
     fill_contexts (l ∷ []) h = refl
     fill_contexts (l ∷ o ∷ ls) h =
-        map_more (contexts_of stmts (o ∷ ls)) (context_by stmts o.kind (scope_of_level o) (in_front stmts l.work.items end))
-        ∙ (λ i. fill_contexts (o ∷ ls) h.2 i ++ context_filled o.kind (scope_of_level o) (in_front stmts l.work.items end) i ∷ [])
-        ∙ ap (λ r. contexts_of stmts (o ∷ ls) ++ context_by stmts o.kind (scope_of_level o) r ∷ []) (fill_front l.work.items end h.1)
+        map_more (contexts_of stmts (o ∷ ls)) (context_by stmts o.kind (scope_of_level o) (in_front stmts l.work end))
+        ∙ (λ i. fill_contexts (o ∷ ls) h.2 i ++ context_filled o.kind (scope_of_level o) (in_front stmts l.work end) i ∷ [])
+        ∙ ap (λ r. contexts_of stmts (o ∷ ls) ++ context_by stmts o.kind (scope_of_level o) r ∷ []) (fill_front l.work end h.1)
 
     fill_innermost : (ls : List Level) → AreLevels n ls → fill_rest p (innermost stmts ls) ≡ innermost stmts ls
     fill_innermost [] h = refl
-    fill_innermost (l ∷ []) h = fill_front l.work.items end h.1
+    fill_innermost (l ∷ []) h = fill_front l.work end h.1
     fill_innermost (l ∷ o ∷ ls) h = fill_innermost (o ∷ ls) h.2
 
   -- what stands for the call or the await of what is in front of the levels

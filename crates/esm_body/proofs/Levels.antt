@@ -62,8 +62,8 @@ module _ (stmts : List Statement) where
   levels_surround [] = refl
   levels_surround (l ∷ []) = refl
   levels_surround (l ∷ m ∷ ls) =
-      let c = context_by stmts m.kind (scope_of_level m) (in_front stmts l.work.items end) in
-      last_context (contexts_of stmts (m ∷ ls)) c (innermost stmts (m ∷ ls)) ∙ ap (placed c) (levels_surround (m ∷ ls)) ∙ placed_by m.kind (scope_of_level m) (levels_rest stmts (m ∷ ls)) (in_front stmts l.work.items end)
+      let c = context_by stmts m.kind (scope_of_level m) (in_front stmts l.work end) in
+      last_context (contexts_of stmts (m ∷ ls)) c (innermost stmts (m ∷ ls)) ∙ ap (placed c) (levels_surround (m ∷ ls)) ∙ placed_by m.kind (scope_of_level m) (levels_rest stmts (m ∷ ls)) (in_front stmts l.work end)
 
 module _ (stmts : List Statement) where
   -- one more part is done first
@@ -80,16 +80,16 @@ module _ (stmts : List Statement) where
   contexts_last (l ∷ m ∷ []) (suc zero) d n h k s = rw (k, s) refl
   contexts_last (l ∷ m ∷ []) (suc (suc i)) d n h k s = absurd (omega (arith, h))
   contexts_last (l ∷ m ∷ o ∷ ls) (suc zero) d n h k s = absurd (omega (arith, h))
-  contexts_last (l ∷ m ∷ o ∷ ls) (suc (suc i)) d n h k s = ap (λ cs. cs ++ context_by stmts m.kind (scope_of_level m) (in_front stmts l.work.items end) ∷ []) (contexts_last (m ∷ o ∷ ls) (suc i) d n (omega (arith, h)) k s)
+  contexts_last (l ∷ m ∷ o ∷ ls) (suc (suc i)) d n h k s = ap (λ cs. cs ++ context_by stmts m.kind (scope_of_level m) (in_front stmts l.work end) ∷ []) (contexts_last (m ∷ o ∷ ls) (suc i) d n (omega (arith, h)) k s)
 
-  innermost_last : (ls : List Level) (i : ℕ) (d : Level) → i + 1 ≡ length ls → innermost stmts ls ≡ in_front stmts (get_or ls i d).work.items end
+  innermost_last : (ls : List Level) (i : ℕ) (d : Level) → i + 1 ≡ length ls → innermost stmts ls ≡ in_front stmts (get_or ls i d).work end
   innermost_last [] i d h = absurd (omega (arith, h))
   innermost_last (l ∷ []) zero d h = refl
   innermost_last (l ∷ []) (suc i) d h = absurd (omega (arith, h))
   innermost_last (l ∷ m ∷ ls) zero d h = absurd (omega (arith, h))
   innermost_last (l ∷ m ∷ ls) (suc i) d h = innermost_last (m ∷ ls) i d (omega (arith, h))
 
-  innermost_set : (ls : List Level) (i : ℕ) (n : Level) → i + 1 ≡ length ls → innermost stmts (slice_set ls i n) ≡ in_front stmts n.work.items end
+  innermost_set : (ls : List Level) (i : ℕ) (n : Level) → i + 1 ≡ length ls → innermost stmts (slice_set ls i n) ≡ in_front stmts n.work end
   innermost_set [] i n h = absurd (omega (arith, h))
   innermost_set (l ∷ []) zero n h = refl
   innermost_set (l ∷ []) (suc i) n h = absurd (omega (arith, h))
@@ -99,16 +99,16 @@ module _ (stmts : List Statement) where
   innermost_set (l ∷ m ∷ o ∷ ls) (suc zero) n h = absurd (omega (arith, h))
   innermost_set (l ∷ m ∷ o ∷ ls) (suc (suc i)) n h = innermost_set (m ∷ o ∷ ls) (suc i) n (omega (arith, h))
 
-  pub added : (ls : List Level) (i : ℕ) (d n : Level) (one : Work) → i + 1 ≡ length ls → n.kind ≡ (get_or ls i d).kind → n.slots ≡ (get_or ls i d).slots → n.work.items ≡ (get_or ls i d).work.items ++ one ∷ [] → levels_rest stmts (slice_set ls i n) ≡ surrounded (contexts_of stmts ls) (more (part_of stmts one) (innermost stmts ls))
+  pub added : (ls : List Level) (i : ℕ) (d n : Level) (one : Work) → i + 1 ≡ length ls → n.kind ≡ (get_or ls i d).kind → n.slots ≡ (get_or ls i d).slots → n.work ≡ (get_or ls i d).work ++ one ∷ [] → levels_rest stmts (slice_set ls i n) ≡ surrounded (contexts_of stmts ls) (more (part_of stmts one) (innermost stmts ls))
   added ls i d n one h k s e =
       let inner : innermost stmts (slice_set ls i n) ≡ more (part_of stmts one) (innermost stmts ls) =
-      innermost_set ls i n h ∙ ap (λ ws. in_front stmts ws end) e ∙ front_push (get_or ls i d).work.items one end ∙ ap (λ r. more (part_of stmts one) r) (sym (innermost_last ls i d h)) in
+      innermost_set ls i n h ∙ ap (λ ws. in_front stmts ws end) e ∙ front_push (get_or ls i d).work one end ∙ ap (λ r. more (part_of stmts one) r) (sym (innermost_last ls i d h)) in
       sym (levels_surround stmts (slice_set ls i n)) ∙ (λ j. surrounded (contexts_last ls i d n h k s j) (inner j))
 
-  pub added_front : (ls : List Level) (i : ℕ) (d n : Level) (one : Work) → i + 1 ≡ length ls → n.kind ≡ (get_or ls i d).kind → n.slots ≡ (get_or ls i d).slots → n.work.items ≡ (get_or ls i d).work.items ++ one ∷ [] → IsFront stmts ls (slice_set ls i n) (more (part_of stmts one) (innermost stmts ls))
+  pub added_front : (ls : List Level) (i : ℕ) (d n : Level) (one : Work) → i + 1 ≡ length ls → n.kind ≡ (get_or ls i d).kind → n.slots ≡ (get_or ls i d).slots → n.work ≡ (get_or ls i d).work ++ one ∷ [] → IsFront stmts ls (slice_set ls i n) (more (part_of stmts one) (innermost stmts ls))
   added_front ls i d n one h k s e =
       let long = length-set ls i n in
-      (contexts_last ls i d n h k s, innermost_set ls i n h ∙ ap (λ ws. in_front stmts ws end) e ∙ front_push (get_or ls i d).work.items one end ∙ ap (λ r. more (part_of stmts one) r) (sym (innermost_last ls i d h)), omega (arith, h, long))
+      (contexts_last ls i d n h k s, innermost_set ls i n h ∙ ap (λ ws. in_front stmts ws end) e ∙ front_push (get_or ls i d).work one end ∙ ap (λ r. more (part_of stmts one) r) (sym (innermost_last ls i d h)), omega (arith, h, long))
 
 -- bindings from the last one on
 pub binding_front : (exprs : List x.Expr) (bs : List LexicalBinding) (i : ℕ) (d : LexicalBinding) (rest : Rest CodeValue) → i < length bs → does_bindings numbered (bindings_of exprs (drop i bs)) rest ≡ more (does_init numbered (uses.Sets (get_or bs i d).name) (init_of exprs (get_or bs i d).value)) (does_bindings numbered (bindings_of exprs (drop (i + 1) bs)) rest)
@@ -149,9 +149,9 @@ module _ (stmts : List Statement) where
   pub contexts_push : (ls : List Level) (m : Level) → 0 < length ls → contexts_of stmts (ls ++ m ∷ []) ≡ context_by stmts m.kind (scope_of_level m) (innermost stmts ls) ∷ contexts_of stmts ls
   contexts_push [] m h = absurd (omega (arith, h))
   contexts_push (l ∷ []) m h = refl
-  contexts_push (l ∷ o ∷ ls) m h = ap (λ cs. cs ++ context_by stmts o.kind (scope_of_level o) (in_front stmts l.work.items end) ∷ []) (contexts_push (o ∷ ls) m (omega arith))
+  contexts_push (l ∷ o ∷ ls) m h = ap (λ cs. cs ++ context_by stmts o.kind (scope_of_level o) (in_front stmts l.work end) ∷ []) (contexts_push (o ∷ ls) m (omega arith))
 
-  pub innermost_push : (ls : List Level) (m : Level) → 0 < length ls → innermost stmts (ls ++ m ∷ []) ≡ in_front stmts m.work.items end
+  pub innermost_push : (ls : List Level) (m : Level) → 0 < length ls → innermost stmts (ls ++ m ∷ []) ≡ in_front stmts m.work end
   innermost_push [] m h = absurd (omega (arith, h))
   innermost_push (l ∷ []) m h = refl
   innermost_push (l ∷ o ∷ ls) m h = innermost_push (o ∷ ls) m (omega arith)
@@ -163,13 +163,13 @@ module _ (n : ℕ) where
   work_push [] one h k = (k, tt)
   work_push (w ∷ ws) one h k = (h.0, work_push ws one h.1 k)
 
-  pub levels_push : (ls : List Level) (l : Level) → AreLevels n ls → IsKind n l.kind → AreWork n l.work.items → AreLevels n (ls ++ l ∷ [])
+  pub levels_push : (ls : List Level) (l : Level) → AreLevels n ls → IsKind n l.kind → AreWork n l.work → AreLevels n (ls ++ l ∷ [])
   levels_push [] l h k w = (k, w, tt)
   levels_push (m ∷ ls) l h k w = (h.0, h.1, levels_push ls l h.2 k w)
 
-  pub levels_added : (ls : List Level) (i : ℕ) (d l : Level) (one : Work) → i < length ls → l.kind ≡ (get_or ls i d).kind → l.work.items ≡ (get_or ls i d).work.items ++ one ∷ [] → IsWork n one → AreLevels n ls → AreLevels n (slice_set ls i l)
+  pub levels_added : (ls : List Level) (i : ℕ) (d l : Level) (one : Work) → i < length ls → l.kind ≡ (get_or ls i d).kind → l.work ≡ (get_or ls i d).work ++ one ∷ [] → IsWork n one → AreLevels n ls → AreLevels n (slice_set ls i l)
   levels_added [] i d l one lt k w o h = absurd (omega (arith, lt))
-  levels_added (m ∷ ls) zero d l one lt k w o h = (subst (λ k. IsKind n k) (sym k) h.0, subst (λ ws. AreWork n ws) (sym w) (work_push m.work.items one h.1 o), h.2)
+  levels_added (m ∷ ls) zero d l one lt k w o h = (subst (λ k. IsKind n k) (sym k) h.0, subst (λ ws. AreWork n ws) (sym w) (work_push m.work one h.1 o), h.2)
   levels_added (m ∷ ls) (suc i) d l one lt k w o h = (h.0, h.1, levels_added ls i d l one (omega (arith, lt)) k w o h.2)
 
   -- the statements of a block
@@ -177,7 +177,7 @@ module _ (n : ℕ) where
   whole_sound ids i d ws b lt h = work_push ws (w.Whole (get_or ids i d)) h (below_at n ids i d b lt)
 
 -- a block is begun
-pub begun : (stmts : List Statement) (ls : List Level) (m : Level) → 0 < length ls → levels_rest stmts (ls ++ m ∷ []) ≡ surrounded (contexts_of stmts ls) (placed (context_by stmts m.kind (scope_of_level m) (innermost stmts ls)) (in_front stmts m.work.items end))
+pub begun : (stmts : List Statement) (ls : List Level) (m : Level) → 0 < length ls → levels_rest stmts (ls ++ m ∷ []) ≡ surrounded (contexts_of stmts ls) (placed (context_by stmts m.kind (scope_of_level m) (innermost stmts ls)) (in_front stmts m.work end))
 begun stmts ls m h =
     sym (levels_surround stmts (ls ++ m ∷ [])) ∙ (λ i. surrounded (contexts_push stmts ls m h i) (innermost_push stmts ls m h i))
 
@@ -226,12 +226,12 @@ module _ (n : ℕ) where
   work_pop [] one h = (h.0, tt)
   work_pop (w ∷ ws) one h = let r = work_pop ws one h.1 in (r.0, (h.0, r.1))
 
-  pub levels_set : (ls : List Level) (i : ℕ) (d l : Level) → i < length ls → l.kind ≡ (get_or ls i d).kind → AreWork n l.work.items → AreLevels n ls → AreLevels n (slice_set ls i l)
+  pub levels_set : (ls : List Level) (i : ℕ) (d l : Level) → i < length ls → l.kind ≡ (get_or ls i d).kind → AreWork n l.work → AreLevels n ls → AreLevels n (slice_set ls i l)
   levels_set [] i d l lt k w h = absurd (omega (arith, lt))
   levels_set (m ∷ ls) zero d l lt k w h = (subst (λ k. IsKind n k) (sym k) h.0, w, h.2)
   levels_set (m ∷ ls) (suc i) d l lt k w h = (h.0, h.1, levels_set ls i d l (omega (arith, lt)) k w h.2)
 
-  pub level_at : (ls : List Level) (i : ℕ) (d : Level) → i < length ls → AreLevels n ls → AreWork n (get_or ls i d).work.items
+  pub level_at : (ls : List Level) (i : ℕ) (d : Level) → i < length ls → AreLevels n ls → AreWork n (get_or ls i d).work
   level_at [] i d lt h = absurd (omega (arith, lt))
   level_at (m ∷ ls) zero d lt h = h.1
   level_at (m ∷ ls) (suc i) d lt h = level_at ls i d (omega (arith, lt)) h.2
@@ -246,11 +246,11 @@ module _ (stmts : List Statement) where
       let long = length-set ls i l in
       let inner = innermost_set stmts ls i l h in
       let whole' : innermost stmts ls ≡ more (part_of stmts one) (innermost stmts (slice_set ls i l)) =
-      innermost_last stmts ls i d h ∙ ap (λ ws. in_front stmts ws end) p.0 ∙ front_push stmts l.work.items one end ∙ ap (λ r. more (part_of stmts one) r) (sym inner) in (
+      innermost_last stmts ls i d h ∙ ap (λ ws. in_front stmts ws end) p.0 ∙ front_push stmts l.work one end ∙ ap (λ r. more (part_of stmts one) r) (sym inner) in (
         whole',
         (contexts_last stmts ls i d l h p.1 p.2, refl, omega (arith, h, long)),
         long,
-        λ n all. let w = work_pop n l.work.items one (subst (λ ws. AreWork n ws) p.0 (level_at n ls i d (omega (arith, h)) all)) in (w.0, levels_set n ls i d l (omega (arith, h)) p.1 w.1 all),
+        λ n all. let w = work_pop n l.work one (subst (λ ws. AreWork n ws) p.0 (level_at n ls i d (omega (arith, h)) all)) in (w.0, levels_set n ls i d l (omega (arith, h)) p.1 w.1 all),
       )
 
 -- ---- a statement begins

@@ -1,4 +1,5 @@
 pub mod SlotPlaces
+pub mod Remainders
 pub mod LevelNames
 pub mod Alike
 pub mod Levels

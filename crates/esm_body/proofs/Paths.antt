@@ -63,7 +63,7 @@ module _ (stmts : List Statement) where
   scopes_are [] = refl
   scopes_are (l ∷ []) = refl
   scopes_are (l ∷ m ∷ ls) =
-      scopes_append (contexts_of stmts (m ∷ ls)) _ ∙ (λ i. scopes_are (m ∷ ls) i ++ context_scope m.kind (scope_of_level m) (in_front stmts l.work.items rests.end) i ∷ [])
+      scopes_append (contexts_of stmts (m ∷ ls)) _ ∙ (λ i. scopes_are (m ∷ ls) i ++ context_scope m.kind (scope_of_level m) (in_front stmts l.work rests.end) i ∷ [])
 
 -- ---- the expression of a statement
 

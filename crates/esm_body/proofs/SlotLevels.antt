@@ -35,7 +35,7 @@ module _ (stmts : List Statement) where
   rounds_many (l ∷ []) = refl
   rounds_many (l ∷ m ∷ ls) =
       many_more (scopes_round (m ∷ ls)) (scope_of_level m) ∙ ap (λ n. n + 1) (rounds_many (m ∷ ls))
-      ∙ sym (many_more (contexts_of stmts (m ∷ ls)) (context_by stmts m.kind (scope_of_level m) (in_front stmts l.work.items end)))
+      ∙ sym (many_more (contexts_of stmts (m ∷ ls)) (context_by stmts m.kind (scope_of_level m) (in_front stmts l.work end)))
 
   pub slots_many : (old new : List Level) → OnlySlots old new → length (contexts_of stmts new) ≡ length (contexts_of stmts old)
   slots_many [] [] h = refl
@@ -56,15 +56,15 @@ module _ (stmts : List Statement) where
   slots_contexts (l ∷ o ∷ ls) (m ∷ []) h = absurd h.2
   slots_contexts (l ∷ o ∷ ls) (m ∷ n ∷ ms) h =
       let fewer : length (scopes_round (n ∷ ms)) ≡ length (contexts_of stmts (o ∷ ls)) = rounds_many (n ∷ ms) ∙ slots_many (o ∷ ls) (n ∷ ms) h.2 in
-      (λ i. slots_contexts (o ∷ ls) (n ∷ ms) h.2 i ++ context_by stmts (h.2.0 i) (scope_of_level n) (in_front stmts (h.1 i).items end) ∷ [])
-      ∙ ap (λ c. retaken (contexts_of stmts (o ∷ ls)) (scopes_round (n ∷ ms)) ++ c ∷ []) (sym (rescoped_by stmts o.kind (scope_of_level o) (scope_of_level n) (in_front stmts l.work.items end)))
-      ∙ sym (retaken_more (contexts_of stmts (o ∷ ls)) (scopes_round (n ∷ ms)) (context_by stmts o.kind (scope_of_level o) (in_front stmts l.work.items end)) (scope_of_level n) fewer)
+      (λ i. slots_contexts (o ∷ ls) (n ∷ ms) h.2 i ++ context_by stmts (h.2.0 i) (scope_of_level n) (in_front stmts (h.1 i) end) ∷ [])
+      ∙ ap (λ c. retaken (contexts_of stmts (o ∷ ls)) (scopes_round (n ∷ ms)) ++ c ∷ []) (sym (rescoped_by stmts o.kind (scope_of_level o) (scope_of_level n) (in_front stmts l.work end)))
+      ∙ sym (retaken_more (contexts_of stmts (o ∷ ls)) (scopes_round (n ∷ ms)) (context_by stmts o.kind (scope_of_level o) (in_front stmts l.work end)) (scope_of_level n) fewer)
 
   pub slots_innermost : (old new : List Level) → OnlySlots old new → innermost stmts new ≡ innermost stmts old
   slots_innermost [] [] h = refl
   slots_innermost [] (m ∷ ms) h = absurd h
   slots_innermost (l ∷ ls) [] h = absurd h
-  slots_innermost (l ∷ []) (m ∷ []) h = ap (λ w. in_front stmts w.items end) h.1
+  slots_innermost (l ∷ []) (m ∷ []) h = ap (λ w. in_front stmts w end) h.1
   slots_innermost (l ∷ []) (m ∷ n ∷ ms) h = absurd h.2
   slots_innermost (l ∷ o ∷ ls) (m ∷ []) h = absurd h.2
   slots_innermost (l ∷ o ∷ ls) (m ∷ n ∷ ms) h = slots_innermost (o ∷ ls) (n ∷ ms) h.2

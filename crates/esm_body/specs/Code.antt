@@ -90,11 +90,11 @@ module _ (stmts : List Statement) where
   abbrev pub contexts_of : List Level → List (Context CodeValue)
   contexts_of [] = []
   contexts_of (l ∷ []) = []
-  contexts_of (l ∷ m ∷ ls) = contexts_of (m ∷ ls) ++ context_by m.kind (scope_of_level m) (in_front stmts l.work.items end) ∷ []
+  contexts_of (l ∷ m ∷ ls) = contexts_of (m ∷ ls) ++ context_by m.kind (scope_of_level m) (in_front stmts l.work end) ∷ []
 
   abbrev pub innermost : List Level → Rest CodeValue
   innermost [] = end
-  innermost (l ∷ []) = in_front stmts l.work.items end
+  innermost (l ∷ []) = in_front stmts l.work end
   innermost (l ∷ m ∷ ls) = innermost (m ∷ ls)
 
 -- what remains of this in front of the innermost level
@@ -133,7 +133,7 @@ IsKind n (k.Tries id) = id.0 < n
 
 abbrev pub AreLevels : ℕ → List Level → Type 0
 AreLevels n [] = Unit {0}
-AreLevels n (l ∷ ls) = IsKind n l.kind × AreWork n l.work.items × AreLevels n ls
+AreLevels n (l ∷ ls) = IsKind n l.kind × AreWork n l.work × AreLevels n ls
 
 -- its numbers name parts of its tree, and it has a level
 pub record IsCode (a : Activation) : Type 0 where

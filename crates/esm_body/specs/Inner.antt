@@ -1,6 +1,7 @@
 pub mod Log
 pub mod Stack
 pub mod SlotPlaces
+pub mod Remainders
 pub mod World
 pub mod Functions
 pub mod Names

@@ -16,6 +16,7 @@ ghost use Rattle.esm_rewriting.specs.Contexts.{placed};
 ghost use Rattle.esm_body.specs.Inner.Stack.{IsFront, AreNamed, Becomes, IsNodeOf, IsPopped, IsTaken};
 ghost use Rattle.esm_body.specs.Code.{in_front, innermost, contexts_of, context_by, part_of, awaited_by, use_of, IsUse, IsWork, AreWork, IsKind, AreLevels, name_in, bound_name, assigned};
 
+use crate::remaining::Remaining;
 use crate::scopes::add_block;
 use crate::slots::Slots;
 use crate::work::{Doing, Kind, Level, Slot, Use, Work};
@@ -26,23 +27,16 @@ use esm_values::Value;
 use std::alloc::Global;
 use std::sync::Arc;
 
-/// Adds work, where there is memory.
-pub(crate) fn is_pushed(work: &mut Vec<Work>, one: Work) -> bool
-    ensures { IsTrue result → work.new.items ≡ work.old.items ++ one ∷ [] }
-{
-    work.push(one).is_ok()
-}
-
 /// The work of these statements, the first last.
-fn block_work(alloc: Global, ids: &[StmtId]) -> Result<Vec<Work>, Memory>
-    ensures work { (stmts : List Stmt) → IfOk result (λ work. in_front stmts work.items end
+fn block_work(alloc: Global, ids: &[StmtId]) -> Result<Remaining, Memory>
+    ensures work { (stmts : List Stmt) → IfOk result (λ work. in_front stmts work end
         ≡ whole (stmt_parts stmts ids.now)) }
     ensures sound { (n : ℕ) → flat.AllStmtsBelow n ids.now
-        → IfOk result (λ work. AreWork n work.items) }
+        → IfOk result (λ work. AreWork n work) }
 {
-    let mut work = Vec::new(alloc);
+    let mut work = Remaining::new(alloc);
     for place in (0..ids.len()).rev() {
-        if !is_pushed(&mut work, Work::Whole(ids[place])) {
+        if !work.is_stmt_pushed(ids[place]) {
             return Err(Memory);
         }
     }
@@ -109,10 +103,10 @@ pub(crate) fn begin_block(
 
 /// Adds work in front of a level, where there is memory.
 fn is_added(level: &mut Level, work: Work) -> bool
-    ensures { IsTrue result → (level.new.work.items ≡ level.old.work.items ++ work ∷ [])
+    ensures { IsTrue result → (level.new.work ≡ level.old.work ++ work ∷ [])
         × (level.new.kind ≡ level.old.kind) × (level.new.slots ≡ level.old.slots) }
 {
-    level.work.push(work).is_ok()
+    level.work.is_pushed(work)
 }
 
 /// Adds work in front of the innermost level.

@@ -19,6 +19,7 @@ mod members;
 mod names;
 mod notes;
 mod outside;
+mod remaining;
 mod scopes;
 mod segment;
 mod slots;

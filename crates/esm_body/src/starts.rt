@@ -9,9 +9,10 @@ ghost use Rattle.esm_body.specs.Inner.Calls.{AddsStatement, AreBelowTold, IsBelo
 ghost use Rattle.esm_body.specs.Inner.Stack.{Becomes, IsNodeOf};
 ghost use Rattle.esm_body.specs.Code.{in_front, innermost, AreLevels, AreWork};
 
-use crate::blocks::{begin_block, is_begun, is_pushed};
+use crate::blocks::{begin_block, is_begun};
+use crate::remaining::Remaining;
 use crate::slots::Slots;
-use crate::work::{Activation, Kind, Level, Work};
+use crate::work::{Activation, Kind, Level};
 use esm_base::{Memory, ModuleId};
 use esm_env::ModuleScope;
 use esm_tree::{ItemNode, StmtId, StmtNode, Tree};
@@ -39,23 +40,23 @@ fn item_statement(item: &ItemNode) -> Option<StmtId>
 }
 
 /// Adds a statement, if there is one, where there is memory.
-fn is_item_pushed(work: &mut Vec<Work>, statement: Option<StmtId>) -> bool
-    ensures { IsTrue result → AddsStatement work.old.items statement work.new.items }
+fn is_item_pushed(work: &mut Remaining, statement: Option<StmtId>) -> bool
+    ensures { IsTrue result → AddsStatement work.old statement work.new }
 {
     match statement {
-        Some(id) => is_pushed(work, Work::Whole(id)),
+        Some(id) => work.is_stmt_pushed(id),
         None => true,
     }
 }
 
 /// The work of a module's body, the first last.
-fn body_work(alloc: Global, items: &[ItemNode]) -> Result<Vec<Work>, Memory>
-    ensures work { (stmts : List Stmt) → IfOk result (λ work. in_front stmts work.items end
+fn body_work(alloc: Global, items: &[ItemNode]) -> Result<Remaining, Memory>
+    ensures work { (stmts : List Stmt) → IfOk result (λ work. in_front stmts work end
         ≡ whole (body_of (items_of stmts items.now))) }
     ensures sound { (n : ℕ) → AllAtMost n (items_need items.now)
-        → IfOk result (λ work. AreWork n work.items) }
+        → IfOk result (λ work. AreWork n work) }
 {
-    let mut work = Vec::new(alloc);
+    let mut work = Remaining::new(alloc);
     for place in (0..items.len()).rev() {
         if !is_item_pushed(&mut work, item_statement(&items[place])) {
             return Err(Memory);
@@ -65,8 +66,8 @@ fn body_work(alloc: Global, items: &[ItemNode]) -> Result<Vec<Work>, Memory>
 }
 
 /// The outermost level: without names, and with this work.
-fn outermost(alloc: Global, work: Vec<Work>) -> Result<Vec<Level>, Memory>
-    ensures { IfOk result (λ levels. IsOutermost work.items levels.items) }
+fn outermost(alloc: Global, work: Remaining) -> Result<Vec<Level>, Memory>
+    ensures { IfOk result (λ levels. IsOutermost work levels.items) }
 {
     let mut levels = Vec::new(alloc);
     let level = Level {

@@ -1,4 +1,5 @@
 // What remains of bodies.
+use crate::remaining::Remaining;
 use crate::slots::Slots;
 use esm_base::{ModuleId, Text};
 use esm_expr_eval::ExprFrame;
@@ -77,7 +78,7 @@ pub struct Level {
     /// Its names.
     pub slots: Slots,
     /// What remains, the first last.
-    pub work: Vec<Work>,
+    pub work: Remaining,
 }
 
 /// A body under way: its levels, the outermost first, which has no names.

@@ -20,7 +20,7 @@ use Rattle.esm_body.specs.declared.work.Work.TheVariants as w
 -- there is one level, with this work
 abbrev pub IsOutermost : List Work → List Level → Type 0
 IsOutermost work [] = ⊥
-IsOutermost work (l ∷ []) = (l.work.items ≡ work) × (l.kind ≡ k.Block)
+IsOutermost work (l ∷ []) = (l.work ≡ work) × (l.kind ≡ k.Block)
 IsOutermost work (l ∷ m ∷ ls) = ⊥
 
 -- it stands written in this module, whose tree is this, and this remains of it

@@ -43,8 +43,8 @@ module _ (stmts : List Statement) where
   -- an inner level stands in front of what remains of the outer one
   abbrev pub levels_rest : List Level → Rest CodeValue
   levels_rest [] = end
-  levels_rest (l ∷ []) = in_front stmts l.work.items end
-  levels_rest (l ∷ m ∷ ls) = more (part_by m.kind (scope_of_level m) (levels_rest (m ∷ ls))) (in_front stmts l.work.items end)
+  levels_rest (l ∷ []) = in_front stmts l.work end
+  levels_rest (l ∷ m ∷ ls) = more (part_by m.kind (scope_of_level m) (levels_rest (m ∷ ls))) (in_front stmts l.work end)
 
 -- the innermost level has become this, and what is round it is as before
 abbrev pub IsFront : List Statement → List Level → List Level → Rest CodeValue → Type 0
@@ -64,8 +64,8 @@ Becomes stmts old new r = levels_rest stmts new ≡ surrounded (contexts_of stmt
 
 -- the next part of a level was taken, if it has one
 abbrev pub IsPopped : Level → Option Work → Level → Type 0
-IsPopped old None new = (old.work.items ≡ []) × (new.work.items ≡ []) × (new.kind ≡ old.kind) × (new.slots ≡ old.slots)
-IsPopped old (Some one) new = (old.work.items ≡ new.work.items ++ one ∷ []) × (new.kind ≡ old.kind) × (new.slots ≡ old.slots)
+IsPopped old None new = (old.work ≡ []) × (new.work ≡ []) × (new.kind ≡ old.kind) × (new.slots ≡ old.slots)
+IsPopped old (Some one) new = (old.work ≡ new.work ++ one ∷ []) × (new.kind ≡ old.kind) × (new.slots ≡ old.slots)
 
 -- the next part of the innermost level was taken, if it has one
 abbrev pub IsTaken : List Statement → List Level → Option Work → List Level → Type 0

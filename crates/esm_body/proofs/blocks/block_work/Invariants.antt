@@ -8,6 +8,6 @@ use Rattle.esm_body.proofs.blocks.block_work.Given as goal
 -- the statements from this place on are there
 abbrev pub invariant-loop-place : goal.invariant-loop-place
 invariant-loop-place l = record {
-  work : (stmts : List Stmt) → in_front stmts l.work.items end ≡ whole (stmt_parts stmts (drop l.place l.ids));
-  sound : (n : ℕ) → AllStmtsBelow n l.ids → AreWork n l.work.items;
+  work : (stmts : List Stmt) → in_front stmts l.work end ≡ whole (stmt_parts stmts (drop l.place l.ids));
+  sound : (n : ℕ) → AllStmtsBelow n l.ids → AreWork n l.work;
 }

@@ -9,7 +9,7 @@ pub returns-in-Ok-outermost : goal.returns-in-Ok-outermost
 returns-in-Ok-outermost c =
     let tree = arc_value c.args.scope.now.tree in
     let ls = c.in-Ok-outermost.levels.items in
-    let work = c.in-Ok-body_work.work.items in
+    let work = c.in-Ok-body_work.work in
     record {
       at = refl;
       tree = c.in-Ok.ensures.cases;

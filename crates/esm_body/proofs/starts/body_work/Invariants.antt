@@ -9,6 +9,6 @@ use Rattle.esm_body.proofs.starts.body_work.Given as goal
 -- the statements from this place on are there
 abbrev pub invariant-loop-place : goal.invariant-loop-place
 invariant-loop-place l = record {
-  work : (stmts : List Stmt) → in_front stmts l.work.items end ≡ whole (body_of (items_of stmts (drop l.place l.items)));
-  sound : (n : ℕ) → AllAtMost n (items_need l.items) → AreWork n l.work.items;
+  work : (stmts : List Stmt) → in_front stmts l.work end ≡ whole (body_of (items_of stmts (drop l.place l.items)));
+  sound : (n : ℕ) → AllAtMost n (items_need l.items) → AreWork n l.work;
 }

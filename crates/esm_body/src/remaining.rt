@@ -1,0 +1,86 @@
+// What remains of a level: statements that haven't begun take little room.
+ghost use Rattle.std.specs.Prelude.{◌≡◌, ◌++◌, ◌∷◌, [], IsTrue};
+ghost use Rattle.esm_body.specs.Inner.Remainders.{IsLast, wholes};
+ghost use Rattle.esm_body.specs.declared.work.Work.TheVariants as works;
+
+use crate::work::Work;
+use esm_tree::StmtId;
+use std::alloc::Global;
+use std::marker::Model;
+
+/// What remains of a level, the first last. Contracts see the list of it.
+#[derive(Drop)]
+pub struct Remaining {
+    /// Statements that haven't begun, behind all else.
+    stmts: Vec<StmtId>,
+    /// What is in front of them.
+    front: Vec<Work>,
+}
+
+impl Model for Remaining {
+    ghost use Rattle.std.specs.Prelude.{List, ◌++◌};
+    ghost use Rattle.esm_body.specs.declared.work.Work.{Work};
+
+    ghost Value = { List Work };
+
+    ghost use Rattle.esm_body.specs.Inner.Remainders.{wholes};
+
+    ghost view = { λ r. wholes r.stmts.items ++ r.front.items };
+}
+
+/// Takes the last part, if there is one.
+fn last_part(front: &mut Vec<Work>) -> Option<Work>
+    ensures { IsLast front.old.items result front.new.items }
+{
+    front.pop()
+}
+
+/// Takes the last statement, if there is one.
+fn last_stmt(stmts: &mut Vec<StmtId>) -> Option<Work>
+    ensures { IsLast (wholes stmts.old.items) result (wholes stmts.new.items) }
+{
+    match stmts.pop() {
+        Some(id) => Some(Work::Whole(id)),
+        None => None,
+    }
+}
+
+impl Remaining {
+    /// Nothing remains. It doesn't allocate.
+    pub(crate) fn new(alloc: Global) -> Remaining
+        ensures { result ≡ [] }
+    {
+        Remaining {
+            stmts: Vec::new(alloc),
+            front: Vec::new(alloc),
+        }
+    }
+
+    /// Adds a part in front, where there is memory.
+    pub(crate) fn is_pushed(&mut self, one: Work) -> bool
+        ensures { IsTrue result → self.new ≡ self.old ++ one ∷ [] }
+    {
+        self.front.push(one).is_ok()
+    }
+
+    /// Adds a statement that hasn't begun in front, where there is memory.
+    pub(crate) fn is_stmt_pushed(&mut self, id: StmtId) -> bool
+        ensures { IsTrue result → self.new ≡ self.old ++ works.Whole id ∷ [] }
+    {
+        if self.front.is_empty() {
+            self.stmts.push(id).is_ok()
+        } else {
+            self.front.push(Work::Whole(id)).is_ok()
+        }
+    }
+
+    /// Takes the first part, if there is one.
+    pub(crate) fn pop(&mut self) -> Option<Work>
+        ensures { IsLast self.old result self.new }
+    {
+        match last_part(&mut self.front) {
+            Some(one) => Some(one),
+            None => last_stmt(&mut self.stmts),
+        }
+    }
+}
