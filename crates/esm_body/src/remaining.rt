@@ -20,8 +20,12 @@ pub struct Remaining {
 impl Model for Remaining {
     ghost use Rattle.std.specs.Prelude.{List, ◌++◌};
     ghost use Rattle.esm_body.specs.declared.work.Work.{Work};
+    ghost use Rattle.std.specs.Coded.{codes};
+    ghost use Rattle.esm_body.specs.contracts.work.Work as work;
 
     ghost Value = { List Work };
+
+    ghost coded = { Prim.hlevel (codes, work.the_row.coded) };
 
     ghost use Rattle.esm_body.specs.Inner.Remainders.{wholes};
 
