@@ -16,7 +16,7 @@ use Rattle.esm_promise.specs.Promises.{Settled}
 use Rattle.esm_promise.specs.Promises.Settled.{Fulfilled, Rejected}
 use Rattle.esm_env.specs.Scopes.{Scopes}
 use Rattle.esm_rewriting.specs.State as state
-use Rattle.esm_rewriting.specs.State.{State, AnswerWith, note, note_by, event_behind, add_line}
+use Rattle.esm_rewriting.specs.State.{State, note_by, event_behind, add_line}
 use Rattle.esm_rewriting.specs.Bodies.{await_on, segment_end, settle_done, body_end, ran_by}
 use Rattle.esm_rewriting.specs.Segment.{Ended as ends}
 use Rattle.esm_body.specs.View.{standing_of, engine_of, state_of}

@@ -32,7 +32,7 @@ use Rattle.esm_row_machine.specs.declared.runs.Ending.{Ending}
 use Rattle.esm_row_machine.specs.declared.runs.Ending.TheVariants as ending
 use Rattle.esm_body.specs.Code.{in_front_of, innermost, Belongs, IsUse, IsCode}
 use Rattle.esm_body.specs.Inner.Functions.{KeepsBody, owned_by}
-use Rattle.esm_body.specs.Inner.Running.{doing_filled, place_rest, IsPlace, HasRows, Running, EndsBehind, IsOver, GoesOn, Followed, FollowsFit}
+use Rattle.esm_body.specs.Inner.Running.{doing_filled, place_rest, IsPlace, HasRows, Running, EndsBehind, GoesOn, Followed, FollowsFit}
 use Rattle.esm_body.specs.Inner.Stack.{doing_part}
 use Rattle.esm_body.specs.Inner.Turn.{IsCalling, Keeps, SameLoans, code_contexts}
 use Rattle.esm_body.specs.Inner.World.{state_in, CodeIsWhole}

@@ -18,7 +18,7 @@ use Rattle.esm_expr_eval.specs.Ends.{Leads as leads}
 use Rattle.esm_expr_eval.specs.Rewriting.{Rewrites, RewritesIn}
 use Rattle.esm_expr_eval.specs.Rewriting.Rewrites.{fails, name, or_in, or, and_in, and, equal_in, equal_right, equal, equal_end, sum_in, sum_right, joins, sum_end, not_in, not_of, post_in, member_of, arguments, call_of, post_end, print_in, print, error_in, error, import_in, begins as rule_begins, own_url as rule_url}
 use Rattle.esm_expr_eval.specs.Rewriting.RewritesIn.{first as rule_first, later as rule_later}
-use Rattle.esm_expr_eval.proofs.Lands.{Views, Later, Lives, HasAnswer, answers, stopped as told_stop}
+use Rattle.esm_expr_eval.proofs.Lands.{Views, Lives, HasAnswer, answers, stopped as told_stop}
 use Rattle.esm_expr_eval.proofs.HasRewriting.{comes, come, Here, Arrives}
 use Rattle.esm_expr_eval.specs.Sizes.{size}
 use Rattle.esm_expr_eval.proofs.Unique.{no_step}

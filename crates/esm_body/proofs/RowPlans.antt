@@ -56,7 +56,7 @@ use Rattle.esm_body.specs.Importers.{HasLinked, ImportsAreLawful, outer_with}
 use Rattle.esm_body.specs.Inner.Functions.{KeepsBody, ImportsFrom, keeps_both, owned_by, steps_of}
 use Rattle.esm_body.specs.Inner.Displayed.{IsSpecifier, RefusesTold, BeginsTold}
 use Rattle.esm_body.specs.Inner.Names.{IsThrown, Tells, said_out}
-use Rattle.esm_body.specs.Inner.World.{state_in, IsSame, CodeIsWhole, HasScopes, ActsInside}
+use Rattle.esm_body.specs.Inner.World.{state_in, IsSame, CodeIsWhole, ActsInside}
 use Rattle.esm_body.specs.Inner.World.{AllKnown as AllInside}
 use Rattle.esm_body.specs.Inner.Written.{Throws, ThrowsWrote, thrown}
 use Rattle.esm_body.specs.declared.inside.Inside.{Inside}

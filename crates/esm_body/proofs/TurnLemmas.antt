@@ -3,7 +3,6 @@ use Rattle.std.proofs.Common.{◌≡◌, ℕ, nat_eq, Bool, List, [], ◌∷◌,
 use Rattle.std.specs.Prelude.{Result, Ok}
 use Rattle.std.specs.Arc.{arc_value}
 use Rattle.esm_tree.specs.Syntax as x
-use Rattle.esm_tree.specs.Syntax.{Stmts, nothing}
 use Rattle.esm_tree.specs.Syntax.{Stmt as Statement}
 use Rattle.esm_tree.specs.Flat.{stmt_part}
 use Rattle.esm_tree.specs.declared.node.StmtId.{StmtId}

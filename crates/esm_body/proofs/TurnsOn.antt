@@ -18,10 +18,10 @@ use Rattle.esm_rows.specs.Functions.{IsRow}
 use Rattle.esm_rewriting.specs.Rest.{Rest, end}
 use Rattle.esm_rewriting.specs.State.{State, Importing}
 use Rattle.esm_rewriting.specs.BodyRewriting.{RewrittenBody, On, Gives, Waits}
-use Rattle.esm_rewriting.specs.Segment.{Next, Segment, next_by}
+use Rattle.esm_rewriting.specs.Segment.{Segment, next_by}
 use Rattle.esm_rewriting.specs.Segment.{Ended as ended}
 use Rattle.esm_rewriting.specs.Segment.{Segment as segment}
-use Rattle.esm_rewriting.specs.Fits.{FitsRun, of_body}
+use Rattle.esm_rewriting.specs.Fits.{of_body}
 use Rattle.esm_rewriting.specs.Chains.{Turns as Rewritings, EndsSo, IsFitNext}
 use Rattle.esm_rewriting.specs.Sets.{IsNameOf, SetsRest, SetsMove}
 use Rattle.esm_row_machine.specs.Outside.{AllKnown}

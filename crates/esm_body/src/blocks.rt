@@ -14,7 +14,7 @@ ghost use Rattle.esm_env.specs.Declarations.{declared_in};
 ghost use Rattle.esm_body.specs.Slots.{scope_of_slots, unset_slots};
 ghost use Rattle.esm_rewriting.specs.Contexts.{placed};
 ghost use Rattle.esm_body.specs.Inner.Stack.{IsFront, AreNamed, Becomes, IsNodeOf, IsPopped, IsTaken};
-ghost use Rattle.esm_body.specs.Code.{in_front, innermost, contexts_of, context_by, part_of, awaited_by, use_of, IsUse, IsWork, AreWork, IsKind, AreLevels, name_in, bound_name, assigned};
+ghost use Rattle.esm_body.specs.Code.{in_front, innermost, context_by, part_of, awaited_by, use_of, IsUse, IsWork, AreWork, IsKind, AreLevels, name_in, bound_name, assigned};
 
 use crate::remaining::Remaining;
 use crate::scopes::add_block;
@@ -36,7 +36,7 @@ fn block_work(alloc: Global, ids: &[StmtId]) -> Result<Remaining, Memory>
 {
     let mut work = Remaining::new(alloc);
     for place in (0..ids.len()).rev() {
-        if !work.is_stmt_pushed(ids[place]) {
+        if !work.is_statement_pushed(ids[place]) {
             return Err(Memory);
         }
     }

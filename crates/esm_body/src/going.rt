@@ -3,7 +3,6 @@ ghost use Rattle.std.specs.Prelude.{◌≡◌, length, OnOk, IfOk};
 ghost use Rattle.std.specs.Arc.{arc_value};
 ghost use Rattle.esm_env.specs.Calls.{scopes_of};
 ghost use Rattle.esm_promise.specs.Code.{settled_of};
-ghost use Rattle.esm_values.specs.Code.{value_of};
 ghost use Rattle.esm_body.specs.SameScopes.{HaveSameScopes};
 ghost use Rattle.esm_body.specs.View.{state_of};
 ghost use Rattle.esm_body.specs.Code.{IsUse, IsCode};

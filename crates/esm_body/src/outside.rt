@@ -1,5 +1,4 @@
 // Code under way as what its functions run over.
-ghost use Rattle.esm_values.specs.Acts.{Act as act};
 ghost use Rattle.esm_values.specs.Code.{value_of};
 ghost use Rattle.esm_body.specs.Inner.Functions.{ImportsFrom};
 

@@ -12,7 +12,7 @@ use std::marker::Model;
 #[derive(Drop)]
 pub struct Remaining {
     /// Statements that haven't begun, behind all else.
-    stmts: Vec<StmtId>,
+    statements: Vec<StmtId>,
     /// What is in front of them.
     front: Vec<Work>,
 }
@@ -29,7 +29,7 @@ impl Model for Remaining {
 
     ghost use Rattle.esm_body.specs.Inner.Remainders.{wholes};
 
-    ghost view = { λ r. wholes r.stmts.items ++ r.front.items };
+    ghost view = { λ r. wholes r.statements.items ++ r.front.items };
 }
 
 /// Takes the last part, if there is one.
@@ -40,10 +40,10 @@ fn last_part(front: &mut Vec<Work>) -> Option<Work>
 }
 
 /// Takes the last statement, if there is one.
-fn last_stmt(stmts: &mut Vec<StmtId>) -> Option<Work>
-    ensures { IsLast (wholes stmts.old.items) result (wholes stmts.new.items) }
+fn last_statement(statements: &mut Vec<StmtId>) -> Option<Work>
+    ensures { IsLast (wholes statements.old.items) result (wholes statements.new.items) }
 {
-    match stmts.pop() {
+    match statements.pop() {
         Some(id) => Some(Work::Whole(id)),
         None => None,
     }
@@ -55,7 +55,7 @@ impl Remaining {
         ensures { result ≡ [] }
     {
         Remaining {
-            stmts: Vec::new(alloc),
+            statements: Vec::new(alloc),
             front: Vec::new(alloc),
         }
     }
@@ -68,11 +68,11 @@ impl Remaining {
     }
 
     /// Adds a statement that hasn't begun in front, where there is memory.
-    pub(crate) fn is_stmt_pushed(&mut self, id: StmtId) -> bool
+    pub(crate) fn is_statement_pushed(&mut self, id: StmtId) -> bool
         ensures { IsTrue result → self.new ≡ self.old ++ works.Whole id ∷ [] }
     {
         if self.front.is_empty() {
-            self.stmts.push(id).is_ok()
+            self.statements.push(id).is_ok()
         } else {
             self.front.push(Work::Whole(id)).is_ok()
         }
@@ -84,7 +84,7 @@ impl Remaining {
     {
         match last_part(&mut self.front) {
             Some(one) => Some(one),
-            None => last_stmt(&mut self.stmts),
+            None => last_statement(&mut self.statements),
         }
     }
 }

@@ -44,7 +44,7 @@ fn is_item_pushed(work: &mut Remaining, statement: Option<StmtId>) -> bool
     ensures { IsTrue result → AddsStatement work.old statement work.new }
 {
     match statement {
-        Some(id) => work.is_stmt_pushed(id),
+        Some(id) => work.is_statement_pushed(id),
         None => true,
     }
 }

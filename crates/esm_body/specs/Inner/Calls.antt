@@ -2,7 +2,7 @@
 use Rattle.std.specs.Prelude.{◌≡◌, ◌<◌, ℕ, Bool, List, [], ◌∷◌, ◌++◌, length, Option, Some, None}
 use Rattle.std.specs.Arc.{arc_value}
 use Rattle.std.specs.Borrow.{Bor}
-use Rattle.esm_tree.specs.Syntax.{Parts, Stmts, nothing}
+use Rattle.esm_tree.specs.Syntax.{Parts, nothing}
 use Rattle.esm_tree.specs.Syntax as x
 use Rattle.esm_tree.specs.Syntax.{Stmt as Statement}
 use Rattle.esm_tree.specs.Flat.{stmt_part, stmt_parts, AllStmtsBelow}
