@@ -1,9 +1,10 @@
 -- The innermost level in its contexts is the whole.
-use Rattle.std.proofs.Common.{◌≡◌, ℕ, zero, suc, ◌+◌, ◌<◌, ◌≤◌, List, [], ◌∷◌, ◌++◌, length, drop, refl, ap, sym, ◌∙◌, subst, get_or, slice_set, length-set, arith}
+use Rattle.std.proofs.Common.{◌≡◌, ℕ, zero, suc, ◌+◌, ◌<◌, ◌≤◌, List, [], ◌∷◌, ◌++◌, reverse, length, drop, refl, ap, sym, ◌∙◌, subst, get_or, slice_set, length-set, arith}
 use Rattle.esm_body.specs.declared.work.Work.{Work}
 use Rattle.esm_body.specs.declared.work.Work.TheVariants as w
 use Rattle.esm_tree.specs.declared.node.StmtId.{StmtId}
 use Rattle.std.proofs.lemmas.List.{drop_more}
+use Rattle.std.proofs.lemmas.Grind.{reverse_onto}
 use Rattle.std.proofs.Math.ListN.{drop_of_length-le}
 use Rattle.esm_tree.specs.Flat.{bindings_of, init_of, init_need, bindings_need}
 use Rattle.esm_tree.specs.declared.node.LexicalBinding.{LexicalBinding}
@@ -13,7 +14,8 @@ use Rattle.esm_rewriting.specs.Rest.{Use as uses}
 use Rattle.esm_tree.specs.Syntax as x
 use Rattle.esm_tree.specs.Syntax.{Stmt as Statement}
 use Rattle.esm_tree.specs.Flat.{stmt_part, stmt_parts, AllStmtsBelow}
-use Rattle.esm_body.proofs.ScopesLemmas.{below_at}
+use Rattle.esm_body.proofs.Remainders.{wholes_more}
+use Rattle.esm_body.specs.Inner.Remainders.{wholes}
 use Rattle.esm_values.specs.Code.{CodeValue}
 use Rattle.esm_rewriting.specs.Scopes.{Scope, unset, scope_of}
 use Rattle.std.specs.Prelude.{map, Option, Some, None, Result, Ok, Err, OnOk}
@@ -138,13 +140,15 @@ bindings_go stmts id exprs bs i p d old mid new e h named a b =
 -- ---- blocks
 
 module _ (stmts : List Statement) where
-  pub work_go : (ids : List StmtId) (i p : ℕ) (d : StmtId) (ws vs : List Work) → p ≡ i + 1 → i < length ids → vs ≡ ws ++ w.Whole (get_or ids i d) ∷ [] → in_front stmts ws end ≡ whole (stmt_parts stmts (drop p ids)) → in_front stmts vs end ≡ whole (stmt_parts stmts (drop i ids))
-  work_go ids i p d ws vs e h v a =
-      let a' : in_front stmts ws end ≡ whole (stmt_parts stmts (drop (i + 1) ids)) = subst (λ q. in_front stmts ws end ≡ whole (stmt_parts stmts (drop q ids))) e a in
-      ap (λ us. in_front stmts us end) v ∙ front_push stmts ws (w.Whole (get_or ids i d)) end ∙ ap (λ r. more (parts.Whole (stmt_part stmts (get_or ids i d))) r) a' ∙ ap (λ js. whole (stmt_parts stmts js)) (sym (drop_more ids i d h))
+  -- a statement in front of others
+  pub statement_more : (ids : List StmtId) (id : StmtId) → in_front stmts (wholes (ids ++ id ∷ [])) end ≡ more (parts.Whole (stmt_part stmts id)) (in_front stmts (wholes ids) end)
+  statement_more ids id = ap (λ ws. in_front stmts ws end) (wholes_more ids id) ∙ front_push stmts (wholes ids) (w.Whole id) end
 
-  pub no_work : (ids : List StmtId) → in_front stmts [] end ≡ whole (stmt_parts stmts (drop (length ids) ids))
-  no_work ids = ap (λ js. whole (stmt_parts stmts js)) (sym (drop_of_length-le ids (omega arith)))
+  -- the statements of a block
+  pub block_front : (ids : List StmtId) → in_front stmts (wholes (reverse ids)) end ≡ whole (stmt_parts stmts ids)
+  block_front [] = refl
+  block_front (id ∷ ids) =
+      ap (λ js. in_front stmts (wholes js) end) (reverse_onto ids id []) ∙ statement_more (reverse ids) id ∙ ap (λ r. more (parts.Whole (stmt_part stmts id)) r) (block_front ids)
 
   pub contexts_push : (ls : List Level) (m : Level) → 0 < length ls → contexts_of stmts (ls ++ m ∷ []) ≡ context_by stmts m.kind (scope_of_level m) (innermost stmts ls) ∷ contexts_of stmts ls
   contexts_push [] m h = absurd (omega (arith, h))
@@ -173,8 +177,12 @@ module _ (n : ℕ) where
   levels_added (m ∷ ls) (suc i) d l one lt k w o h = (h.0, h.1, levels_added ls i d l one (omega (arith, lt)) k w o h.2)
 
   -- the statements of a block
-  pub whole_sound : (ids : List StmtId) (i : ℕ) (d : StmtId) (ws : List Work) → AllStmtsBelow n ids → i < length ids → AreWork n ws → AreWork n (ws ++ w.Whole (get_or ids i d) ∷ [])
-  whole_sound ids i d ws b lt h = work_push ws (w.Whole (get_or ids i d)) h (below_at n ids i d b lt)
+  pub statement_sound : (ids : List StmtId) (id : StmtId) → AreWork n (wholes ids) → id.0 < n → AreWork n (wholes (ids ++ id ∷ []))
+  statement_sound ids id h b = subst (AreWork n) (sym (wholes_more ids id)) (work_push (wholes ids) (w.Whole id) h b)
+
+  pub block_sound : (ids : List StmtId) → AllStmtsBelow n ids → AreWork n (wholes (reverse ids))
+  block_sound [] b = tt
+  block_sound (id ∷ ids) b = subst (λ js. AreWork n (wholes js)) (sym (reverse_onto ids id [])) (statement_sound (reverse ids) id (block_sound ids b.1) b.0)
 
 -- a block is begun
 pub begun : (stmts : List Statement) (ls : List Level) (m : Level) → 0 < length ls → levels_rest stmts (ls ++ m ∷ []) ≡ surrounded (contexts_of stmts ls) (placed (context_by stmts m.kind (scope_of_level m) (innermost stmts ls)) (in_front stmts m.work end))
@@ -240,8 +248,8 @@ module _ (stmts : List Statement) where
   pub taken : (ls : List Level) (i : ℕ) (d l : Level) (one : Option Work) → i + 1 ≡ length ls → IsPopped (get_or ls i d) one l → IsTaken stmts ls one (slice_set ls i l)
   taken ls i d l None h p =
       let long = length-set ls i l in
-      let inner : innermost stmts (slice_set ls i l) ≡ end = innermost_set stmts ls i l h ∙ ap (λ ws. in_front stmts ws end) p.1 in
-      (innermost_last stmts ls i d h ∙ ap (λ ws. in_front stmts ws end) p.0, (contexts_last stmts ls i d l h p.2 p.3, inner, omega (arith, h, long)), long, λ n all. levels_set n ls i d l (omega (arith, h)) p.2 (rw p.1 tt) all)
+      let inner : innermost stmts (slice_set ls i l) ≡ end = innermost_set stmts ls i l h ∙ ap (λ ws. in_front stmts ws end) p.0.1 in
+      (innermost_last stmts ls i d h ∙ ap (λ ws. in_front stmts ws end) p.0.0, (contexts_last stmts ls i d l h p.1 p.2, inner, omega (arith, h, long)), long, λ n all. levels_set n ls i d l (omega (arith, h)) p.1 (rw p.0.1 tt) all)
   taken ls i d l (Some one) h p =
       let long = length-set ls i l in
       let inner = innermost_set stmts ls i l h in

@@ -1,21 +1,12 @@
 -- The names of a block: the first place of each, also by an index, and one that is set.
-use Rattle.std.proofs.Common.{◌≡◌, ℕ, zero, suc, ◌+◌, ◌<◌, Bool, true, false, List, [], ◌∷◌, length, refl, ap, sym, ◌∙◌, arith, ◌⊎◌, inl, inr, get_or, slice_set}
+use Rattle.std.proofs.Common.{◌≡◌, ℕ, zero, suc, ◌+◌, ◌<◌, Bool, true, false, List, [], ◌∷◌, length, refl, ap, sym, ◌∙◌, arith, get_or, slice_set}
 use Rattle.std.specs.Prelude.{Option, Some, None, option_map, if◌then◌else◌}
 use Rattle.std.specs.Str.{bytes_eq}
-use Rattle.std.proofs.Math.Dec.{eqb}
-use Rattle.std.proofs.lemmas.Bool.Decides.{eqb_tells}
 use Rattle.esm_base.specs.TextMap.{TextMapView, at}
 use Rattle.esm_env.specs.NamePlaces.{found_at}
 use Rattle.esm_values.specs.declared.value.Value.{Value}
 use Rattle.esm_body.specs.Inner.SlotPlaces.{slot_place, set_slot, names_of, IsIndexed}
 use Rattle.esm_body.specs.declared.work.Slot.{Slot}
-
-borrow_cases : (i at : ℕ) → i < at + 1 → (i < at) ⊎ (i ≡ at)
-borrow_cases i at h = by (eqb_tells i at)
-  where
-    by : ((eqb i at ≡ true) × (i ≡ at)) ⊎ ((eqb i at ≡ false) × (i ≡ at → ⊥)) → (i < at) ⊎ (i ≡ at)
-    by (inl e) = inr e.1
-    by (inr n) = inl (omega (arith, n.1, h))
 
 -- ---- the first place of a name
 
@@ -37,13 +28,6 @@ place_no_by b o e h = rw (e, h) refl
 pub place_no : (slots : List Slot) (x : List ℕ) → NoneBefore slots (length slots) x → slot_place slots x ≡ None
 place_no [] x n = refl
 place_no (s ∷ ss) x n = place_no_by (bytes_eq s.name x) (slot_place ss x) (n 0 (omega arith) s) (place_no ss x (λ i lt d. n (suc i) (omega (arith, lt)) d))
-
-pub none_more : (slots : List Slot) (at : ℕ) (x : List ℕ) → NoneBefore slots at x → ((d : Slot) → bytes_eq (get_or slots at d).name x ≡ false) → NoneBefore slots (at + 1) x
-none_more slots at x n e i lt d = by (borrow_cases i at lt)
-  where
-    by : (i < at) ⊎ (i ≡ at) → bytes_eq (get_or slots i d).name x ≡ false
-    by (inl h) = n i h d
-    by (inr h) = rw h (e d)
 
 -- ---- by an index
 

@@ -14,30 +14,30 @@ use Rattle.esm_rewriting.specs.Rest.{Part as parts}
 use Rattle.esm_body.specs.Code.{in_front, AreWork, AreLevels}
 use Rattle.esm_body.specs.Inner.Stack.{levels_rest}
 use Rattle.esm_body.specs.Inner.Calls.{stmt_told, IsBelowTold, AddsStatement, IsOutermost}
+use Rattle.esm_body.specs.Inner.Remainders.{wholes}
 use Rattle.esm_body.specs.declared.work.Level.{Level}
 use Rattle.esm_body.specs.declared.work.Work.{Work}
-use Rattle.esm_body.specs.declared.work.Work.TheVariants as w
-use Rattle.esm_body.proofs.Levels.{front_push, work_push}
+use Rattle.esm_body.proofs.Levels.{statement_more, statement_sound}
 
 module _ (stmts : List Statement) where
-  told_more : (told : Option StmtId) (ws vs : List Work) (rest : Stmts) → AddsStatement ws told vs → in_front stmts ws end ≡ whole rest → in_front stmts vs end ≡ whole (onto (stmt_told stmts told) rest)
-  told_more None ws vs rest a h = ap (λ us. in_front stmts us end) a ∙ h
-  told_more (Some id) ws vs rest a h = ap (λ us. in_front stmts us end) a ∙ front_push stmts ws (w.Whole id) end ∙ ap (λ r. more (parts.Whole (stmt_part stmts id)) r) h
+  told_more : (told : Option StmtId) (ids new : List StmtId) (rest : Stmts) → AddsStatement ids told new → in_front stmts (wholes ids) end ≡ whole rest → in_front stmts (wholes new) end ≡ whole (onto (stmt_told stmts told) rest)
+  told_more None ids new rest a h = ap (λ js. in_front stmts (wholes js) end) a ∙ h
+  told_more (Some id) ids new rest a h = ap (λ js. in_front stmts (wholes js) end) a ∙ statement_more stmts ids id ∙ ap (λ r. more (parts.Whole (stmt_part stmts id)) r) h
 
   -- the statements from one place on, with those behind it
-  pub body_go : (items : List ItemNode) (i p : ℕ) (d : ItemNode) (told : Option StmtId) (ws vs : List Work) → p ≡ i + 1 → i < length items → does (item_of stmts (get_or items i d)) ≡ stmt_told stmts told → AddsStatement ws told vs
-      → in_front stmts ws end ≡ whole (body_of (items_of stmts (drop p items))) → in_front stmts vs end ≡ whole (body_of (items_of stmts (drop i items)))
-  body_go items i p d told ws vs e h t a k =
+  pub body_go : (items : List ItemNode) (i p : ℕ) (d : ItemNode) (told : Option StmtId) (ids new : List StmtId) → p ≡ i + 1 → i < length items → does (item_of stmts (get_or items i d)) ≡ stmt_told stmts told → AddsStatement ids told new
+      → in_front stmts (wholes ids) end ≡ whole (body_of (items_of stmts (drop p items))) → in_front stmts (wholes new) end ≡ whole (body_of (items_of stmts (drop i items)))
+  body_go items i p d told ids new e h t a k =
       let later = body_of (items_of stmts (drop (i + 1) items)) in
-      told_more told ws vs later a (subst (λ q. in_front stmts ws end ≡ whole (body_of (items_of stmts (drop q items)))) e k)
+      told_more told ids new later a (subst (λ q. in_front stmts (wholes ids) end ≡ whole (body_of (items_of stmts (drop q items)))) e k)
       ∙ ap (λ o. whole (onto o later)) (sym t) ∙ ap (λ is. whole (body_of (items_of stmts is))) (sym (drop_more items i d h))
 
   pub no_body : (items : List ItemNode) → in_front stmts [] end ≡ whole (body_of (items_of stmts (drop (length items) items)))
   no_body items = ap (λ is. whole (body_of (items_of stmts is))) (sym (drop_of_length-le items (omega arith)))
 
-pub told_sound : (n : ℕ) (told : Option StmtId) (ws vs : List Work) → AddsStatement ws told vs → IsBelowTold n told → AreWork n ws → AreWork n vs
-told_sound n None ws vs a b h = subst (AreWork n) (sym a) h
-told_sound n (Some id) ws vs a b h = subst (AreWork n) (sym a) (work_push n ws (w.Whole id) h b)
+pub told_sound : (n : ℕ) (told : Option StmtId) (ids new : List StmtId) → AddsStatement ids told new → IsBelowTold n told → AreWork n (wholes ids) → AreWork n (wholes new)
+told_sound n None ids new a b h = subst (λ js. AreWork n (wholes js)) (sym a) h
+told_sound n (Some id) ids new a b h = subst (λ js. AreWork n (wholes js)) (sym a) (statement_sound n ids id h b)
 
 pub need_at : (n : ℕ) (items : List ItemNode) (i : ℕ) (d : ItemNode) → AllAtMost n (items_need items) → i < length items → item_need (get_or items i d) ≤ n
 need_at n [] i d a h = absurd (omega (arith, h))

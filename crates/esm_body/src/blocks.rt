@@ -1,5 +1,5 @@
 // What remains of a function or body under way: levels of blocks, the outermost first.
-ghost use Rattle.std.specs.Prelude.{◌≡◌, ◌<◌, ◌++◌, ◌∷◌, ◌≤◌, [], ℕ, length, List, OnOk, IfOk, IsTrue};
+ghost use Rattle.std.specs.Prelude.{◌≡◌, ◌<◌, ◌++◌, ◌∷◌, ◌≤◌, [], ℕ, length, reverse, List, OnOk, IfOk, IsTrue};
 ghost use Rattle.std.specs.Arc.{arc_value};
 ghost use Rattle.esm_tree.specs.Syntax.{Stmt};
 ghost use Rattle.esm_tree.specs.Flat as flat;
@@ -27,6 +27,15 @@ use esm_values::Value;
 use std::alloc::Global;
 use std::sync::Arc;
 
+/// These statements, the first last.
+fn reversed(alloc: Global, ids: &[StmtId]) -> Result<Vec<StmtId>, Memory>
+    ensures { IfOk result (λ statements. statements.items ≡ reverse ids.now) }
+{
+    let mut statements = Vec::from_slice(alloc, ids)?;
+    statements.reverse();
+    Ok(statements)
+}
+
 /// The work of these statements, the first last.
 fn block_work(alloc: Global, ids: &[StmtId]) -> Result<Remaining, Memory>
     ensures work { (stmts : List Stmt) → IfOk result (λ work. in_front stmts work end
@@ -34,13 +43,8 @@ fn block_work(alloc: Global, ids: &[StmtId]) -> Result<Remaining, Memory>
     ensures sound { (n : ℕ) → flat.AllStmtsBelow n ids.now
         → IfOk result (λ work. AreWork n work) }
 {
-    let mut work = Remaining::new(alloc);
-    for place in (0..ids.len()).rev() {
-        if !work.is_statement_pushed(ids[place]) {
-            return Err(Memory);
-        }
-    }
-    Ok(work)
+    let statements = reversed(alloc, ids)?;
+    Ok(Remaining::of(alloc, statements))
 }
 
 /// Adds a level, where there is memory.

@@ -1,7 +1,6 @@
 // What remains of a level: statements that haven't begun take little room.
 ghost use Rattle.std.specs.Prelude.{◌≡◌, ◌++◌, ◌∷◌, [], IsTrue};
 ghost use Rattle.esm_body.specs.Inner.Remainders.{IsLast, wholes};
-ghost use Rattle.esm_body.specs.declared.work.Work.TheVariants as works;
 
 use crate::work::Work;
 use esm_tree::StmtId;
@@ -25,6 +24,7 @@ impl Model for Remaining {
 
     ghost Value = { List Work };
 
+    // How the logic stores the list: plumbing that no clause cites.
     ghost coded = { Prim.hlevel (codes, work.the_row.coded) };
 
     ghost use Rattle.esm_body.specs.Inner.Remainders.{wholes};
@@ -50,32 +50,22 @@ fn last_statement(statements: &mut Vec<StmtId>) -> Option<Work>
 }
 
 impl Remaining {
-    /// Nothing remains. It doesn't allocate.
-    pub(crate) fn new(alloc: Global) -> Remaining
-        ensures { result ≡ [] }
+    /// These statements, the first last. It doesn't allocate.
+    pub(crate) fn of(alloc: Global, statements: Vec<StmtId>) -> Remaining
+        ensures { result ≡ wholes statements.items }
     {
         Remaining {
-            statements: Vec::new(alloc),
+            statements,
             front: Vec::new(alloc),
         }
     }
 
-    /// Adds a part in front, where there is memory.
+    /// Adds a part in front, where there is memory. Where there is none it answers no, and nothing
+    /// is said of what remains.
     pub(crate) fn is_pushed(&mut self, one: Work) -> bool
         ensures { IsTrue result → self.new ≡ self.old ++ one ∷ [] }
     {
         self.front.push(one).is_ok()
-    }
-
-    /// Adds a statement that hasn't begun in front, where there is memory.
-    pub(crate) fn is_statement_pushed(&mut self, id: StmtId) -> bool
-        ensures { IsTrue result → self.new ≡ self.old ++ works.Whole id ∷ [] }
-    {
-        if self.front.is_empty() {
-            self.statements.push(id).is_ok()
-        } else {
-            self.front.push(Work::Whole(id)).is_ok()
-        }
     }
 
     /// Takes the first part, if there is one.

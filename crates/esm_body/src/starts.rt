@@ -40,11 +40,11 @@ fn item_statement(item: &ItemNode) -> Option<StmtId>
 }
 
 /// Adds a statement, if there is one, where there is memory.
-fn is_item_pushed(work: &mut Remaining, statement: Option<StmtId>) -> bool
-    ensures { IsTrue result → AddsStatement work.old statement work.new }
+fn is_item_pushed(statements: &mut Vec<StmtId>, statement: Option<StmtId>) -> bool
+    ensures { IsTrue result → AddsStatement statements.old.items statement statements.new.items }
 {
     match statement {
-        Some(id) => work.is_statement_pushed(id),
+        Some(id) => statements.push(id).is_ok(),
         None => true,
     }
 }
@@ -56,13 +56,13 @@ fn body_work(alloc: Global, items: &[ItemNode]) -> Result<Remaining, Memory>
     ensures sound { (n : ℕ) → AllAtMost n (items_need items.now)
         → IfOk result (λ work. AreWork n work) }
 {
-    let mut work = Remaining::new(alloc);
+    let mut statements = Vec::new(alloc);
     for place in (0..items.len()).rev() {
-        if !is_item_pushed(&mut work, item_statement(&items[place])) {
+        if !is_item_pushed(&mut statements, item_statement(&items[place])) {
             return Err(Memory);
         }
     }
-    Ok(work)
+    Ok(Remaining::of(alloc, statements))
 }
 
 /// The outermost level: without names, and with this work.

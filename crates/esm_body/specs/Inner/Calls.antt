@@ -15,7 +15,6 @@ use Rattle.esm_body.specs.declared.work.Activation.{Activation}
 use Rattle.esm_body.specs.declared.work.Kind.TheVariants as k
 use Rattle.esm_body.specs.declared.work.Level.{Level}
 use Rattle.esm_body.specs.declared.work.Work.{Work}
-use Rattle.esm_body.specs.declared.work.Work.TheVariants as w
 
 -- there is one level, with this work
 abbrev pub IsOutermost : List Work → List Level → Type 0
@@ -43,9 +42,9 @@ IsBelowTold n None = Unit {0}
 IsBelowTold n (Some id) = id.0 < n
 
 -- the statement is done first, if there is one
-abbrev pub AddsStatement : List Work → Option StmtId → List Work → Type 0
+abbrev pub AddsStatement : List StmtId → Option StmtId → List StmtId → Type 0
 AddsStatement old None new = new ≡ old
-AddsStatement old (Some id) new = new ≡ old ++ w.Whole id ∷ []
+AddsStatement old (Some id) new = new ≡ old ++ id ∷ []
 
 -- ---- branches
 

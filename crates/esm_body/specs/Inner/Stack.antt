@@ -13,6 +13,7 @@ use Rattle.esm_rewriting.specs.Rest.{Part, Rest, end, more}
 use Rattle.esm_rewriting.specs.Rest.{Part as parts}
 use Rattle.esm_body.specs.Code.{name_in, bound_name, scope_of_level, use_of, awaited_by, part_of, in_front, trying, context_by, contexts_of, innermost, IsWork, AreLevels}
 use Rattle.esm_rewriting.specs.Contexts.{caught_in, surrounded}
+use Rattle.esm_body.specs.Inner.Remainders.{IsLast}
 use Rattle.esm_base.specs.declared.limits.Limit.{Limit}
 use Rattle.esm_values.specs.declared.value.Value.{Value}
 use Rattle.esm_values.specs.Plans.Rewritten.{Goes, Leaves}
@@ -64,8 +65,7 @@ Becomes stmts old new r = levels_rest stmts new ≡ surrounded (contexts_of stmt
 
 -- the next part of a level was taken, if it has one
 abbrev pub IsPopped : Level → Option Work → Level → Type 0
-IsPopped old None new = (old.work ≡ []) × (new.work ≡ []) × (new.kind ≡ old.kind) × (new.slots ≡ old.slots)
-IsPopped old (Some one) new = (old.work ≡ new.work ++ one ∷ []) × (new.kind ≡ old.kind) × (new.slots ≡ old.slots)
+IsPopped old one new = IsLast old.work one new.work × (new.kind ≡ old.kind) × (new.slots ≡ old.slots)
 
 -- the next part of the innermost level was taken, if it has one
 abbrev pub IsTaken : List Statement → List Level → Option Work → List Level → Type 0
