@@ -17,96 +17,144 @@ fn files(alloc: Global, body: &[u8]) -> Result<Vec<(Text, Vec<u8>)>, Memory> {
     Ok(files)
 }
 
-// How one fetch is answered, by its length.
-fn fetched<S: Source>(alloc: Global, source: &mut S, url: &str) -> Result<usize, FetchEnd> {
-    match source.fetch(alloc, url) {
-        Ok(body) => Ok(body.len()),
-        Err(end) => Err(end),
+// Whether a URL is fetched as this: a text, or an end.
+fn is_fetched<S: Source>(
+    alloc: Global,
+    source: &mut S,
+    url: &str,
+    wanted: Result<&str, FetchEnd>,
+) -> bool {
+    match (source.fetch(alloc, url), wanted) {
+        (Ok(body), Ok(text)) => body.as_slice() == text.as_bytes(),
+        (Err(end), Err(wanted)) => end == wanted,
+        _ => false,
     }
+}
+
+const NONE: &str = "https://a.test/none.js";
+
+// Whether a source that is to fail at its second fetch does so, and counts it among three.
+fn fails_at_two(alloc: Global, source: &mut MemSource) -> bool {
+    is_fetched(alloc, source, ENTRY, Ok("x"))
+        && is_fetched(alloc, source, ENTRY, Err(FetchEnd::Failed))
+        && source.faults() == 1
+        && is_fetched(alloc, source, NONE, Err(FetchEnd::Absent))
+        && source.asked().len() == 3
 }
 
 #[test]
 fn a_source_fails_at_the_calls_that_it_is_told(rt: HostRuntime) -> Result<(), Memory> {
     let alloc = rt.alloc();
     let mut source = MemSource::new(alloc, files(alloc, b"x")?, vec![in alloc; 2]?)?;
-    let body = source.fetch(alloc, ENTRY).expect(&rt, "a body");
-    assert!(rt; body.as_slice() == b"x".as_slice());
-    assert_eq!(rt; fetched(alloc, &mut source, ENTRY), Err(FetchEnd::Failed));
-    assert_eq!(rt; source.faults(), 1);
-    assert_eq!(rt;
-        fetched(alloc, &mut source, "https://a.test/none.js"),
-        Err(FetchEnd::Absent)
-    );
-    assert_eq!(rt; source.asked().len(), 3);
+    assert!(rt; fails_at_two(alloc, &mut source));
     Ok(())
+}
+
+// Whether a source whose one file is longer gives the first 1,048,577 bytes of it, and nothing else.
+fn gives_the_first(alloc: Global, source: &mut SureSource) -> bool {
+    let first = match source.fetch(alloc, ENTRY) {
+        Ok(body) => body.len(),
+        Err(_end) => 0,
+    };
+    first == 1_048_577
+        && is_fetched(alloc, source, NONE, Err(FetchEnd::Absent))
+        && source.faults() == 0
 }
 
 #[test]
 fn a_sure_source_gives_the_first_bytes(rt: HostRuntime) -> Result<(), Memory> {
     let alloc = rt.alloc();
-    let long = vec![in alloc; 32u8; 1_048_578]?;
-    let mut source = SureSource::new(alloc, files(alloc, &long)?)?;
-    assert_eq!(rt; fetched(alloc, &mut source, ENTRY), Ok(1_048_577));
-    assert_eq!(rt;
-        fetched(alloc, &mut source, "https://a.test/none.js"),
-        Err(FetchEnd::Absent)
-    );
-    assert_eq!(rt; source.faults(), 0);
+    let mut long = Vec::new(alloc);
+    long.resize(1_048_578, b' ')?;
+    let mut source = SureSource::new(alloc, files(alloc, long.as_slice())?)?;
+    assert!(rt; gives_the_first(alloc, &mut source));
     Ok(())
+}
+
+// A sink that takes four bytes at a time takes six in two calls, and none in no call.
+fn takes_in_pieces(alloc: Global) -> bool {
+    let mut out = MemSink::new(alloc, 4, Vec::new(alloc));
+    put_all(&mut out, b"abcdef") == Ok(())
+        && out.written() == b"abcdef".as_slice()
+        && out.calls() == 2
+        && out.faults() == 0
+        && put_all(&mut out, b"") == Ok(())
+        && out.calls() == 2
+}
+
+// One that fails at the second call keeps what the first has taken.
+fn keeps_the_first(alloc: Global, fail_at: Vec<u64>) -> bool {
+    let mut out = MemSink::new(alloc, 4, fail_at);
+    put_all(&mut out, b"abcdef") == Err(SinkEnd::Failed)
+        && out.written() == b"abcd".as_slice()
+        && out.faults() == 1
 }
 
 #[test]
 fn all_bytes_are_written_in_as_few_calls_as_the_sink_wants(rt: HostRuntime) -> Result<(), Memory> {
-    let alloc = rt.alloc();
-    let mut out = MemSink::new(alloc, 4, Vec::new(alloc));
-    assert_eq!(rt; put_all(&mut out, b"abcdef"), Ok(()));
-    assert!(rt; out.written() == b"abcdef".as_slice());
-    assert_eq!(rt; out.calls(), 2);
-    assert_eq!(rt; out.faults(), 0);
-    assert_eq!(rt; put_all(&mut out, b""), Ok(()));
-    assert_eq!(rt; out.calls(), 2);
-    let mut out = MemSink::new(alloc, 4, vec![in alloc; 2]?);
-    assert_eq!(rt; put_all(&mut out, b"abcdef"), Err(SinkEnd::Failed));
-    assert!(rt; out.written() == b"abcd".as_slice());
-    assert_eq!(rt; out.faults(), 1);
+    assert!(rt; takes_in_pieces(rt.alloc()));
+    assert!(rt; keeps_the_first(rt.alloc(), vec![in rt.alloc(); 2]?));
     Ok(())
+}
+
+fn make_files(rt: &HostRuntime) -> io::Result<()> {
+    fs::create_dir(rt, "a.test")?;
+    fs::create_dir(rt, "a.test/folder")?;
+    fs::create_dir(rt, "b.test:8080")?;
+    fs::write(rt, "a.test/main.js", "print(\"hi\")")?;
+    fs::write(rt, "a.test/two words.js", "two")?;
+    fs::write(rt, "b.test:8080/port.js", "port")?;
+    fs::write(rt, "bare.js", "bare")
+}
+
+// A URL, and the text that its file has, between bars, or how its fetch ends.
+const FETCHES: &str = r#"https://a.test/main.js?q#f |print("hi")|
+http://a.test/two%20words.js |two|
+http://b.test:8080/port.js |port|
+file:///bare.js |bare|
+https://a.test/none.js Absent
+https://none.test/main.js Absent
+https://a.test/folder/ Absent
+https://a.test//main.js Absent
+https://a.test/a%2Fb.js Absent
+https://a.test/%00.js Absent
+https://a.test/%ff.js Absent
+data:text/javascript,x Absent
+https://a.test/folder Failed
+https://a.test/main.js/x.js Failed"#;
+
+// What a row says of its fetch.
+fn wanted_of(text: &str) -> Result<&str, FetchEnd> {
+    if text == "Absent" {
+        return Err(FetchEnd::Absent);
+    }
+    if text == "Failed" {
+        return Err(FetchEnd::Failed);
+    }
+    match text.strip_prefix('|') {
+        Some(text) => Ok(text.strip_suffix('|').unwrap_or(text)),
+        None => Err(FetchEnd::Memory),
+    }
+}
+
+// The first row whose fetch is answered otherwise, if there is one.
+fn wrong_fetch<S: Source>(alloc: Global, source: &mut S) -> Option<&'static str> {
+    for row in FETCHES.lines() {
+        match row.split_once(' ') {
+            Some((url, text)) if is_fetched(alloc, source, url, wanted_of(text)) => {}
+            _ => return Some(row),
+        }
+    }
+    None
 }
 
 #[test]
 fn a_file_source_reads_below_its_root(rt: HostRuntime) -> io::Result<()> {
-    let alloc = rt.alloc();
-    fs::create_dir(&rt, "a.test")?;
-    fs::create_dir(&rt, "a.test/folder")?;
-    fs::create_dir(&rt, "b.test:8080")?;
-    fs::write(&rt, "a.test/main.js", "print(\"hi\")")?;
-    fs::write(&rt, "a.test/two words.js", "two")?;
-    fs::write(&rt, "b.test:8080/port.js", "port")?;
-    fs::write(&rt, "bare.js", "bare")?;
-    let root = Text::copy(alloc, ".").expect(&rt, "ample memory");
-    let mut source = FileSource::new(rt.clone()?, alloc, root);
-    for (url, wanted) in [
-        ("https://a.test/main.js?q#f", Ok("print(\"hi\")")),
-        ("http://a.test/two%20words.js", Ok("two")),
-        ("http://b.test:8080/port.js", Ok("port")),
-        ("file:///bare.js", Ok("bare")),
-        ("https://a.test/none.js", Err(FetchEnd::Absent)),
-        ("https://none.test/main.js", Err(FetchEnd::Absent)),
-        ("https://a.test/folder/", Err(FetchEnd::Absent)),
-        ("https://a.test//main.js", Err(FetchEnd::Absent)),
-        ("https://a.test/a%2Fb.js", Err(FetchEnd::Absent)),
-        ("https://a.test/%00.js", Err(FetchEnd::Absent)),
-        ("https://a.test/%ff.js", Err(FetchEnd::Absent)),
-        ("data:text/javascript,x", Err(FetchEnd::Absent)),
-        ("https://a.test/folder", Err(FetchEnd::Failed)),
-        ("https://a.test/main.js/x.js", Err(FetchEnd::Failed)),
-    ] {
-        match (source.fetch(alloc, url), wanted) {
-            (Ok(body), Ok(text)) => assert!(rt; body.as_slice() == text.as_bytes(), "{url}"),
-            (Err(end), Err(wanted)) => assert_eq!(rt; end, wanted, "{url}"),
-            _ => assert!(rt; false, "{url}"),
-        }
-    }
-    assert_eq!(rt; source.faults(), 2);
+    make_files(&rt)?;
+    let root = Text::copy(rt.alloc(), ".").expect(&rt, "ample memory");
+    let mut source = FileSource::new(rt.clone()?, rt.alloc(), root);
+    assert_eq!(rt; wrong_fetch(rt.alloc(), &mut source), None);
+    assert!(rt; source.faults() == 2 && FETCHES.lines().count() == 14);
     Ok(())
 }
 
@@ -114,6 +162,6 @@ fn a_file_source_reads_below_its_root(rt: HostRuntime) -> io::Result<()> {
 fn standard_output_is_a_sink(rt: HostRuntime) -> io::Result<()> {
     let mut out = StdSink::new(rt.clone()?);
     put_all(&mut out, b"written\n").expect(&rt, "a write");
-    assert_eq!(rt; out.faults(), 0);
+    assert!(rt; out.faults() == 0);
     Ok(())
 }

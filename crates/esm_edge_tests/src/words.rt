@@ -2,7 +2,6 @@
 use esm_arguments::{Command, Generation, read_generation, read_words};
 use esm_base::{Memory, Text};
 use std::alloc::{AllocError, Global};
-use std::test::Fail;
 
 // Where options and flags stand, and how often.
 const ORDERS: &str = "\
@@ -102,6 +101,9 @@ run https://a.test/ main.js --workers=17 | no
 run https://a.test/ main.js --workers 20 | no
 run https://a.test/ main.js --workers=016 | no";
 
+// Over one source.
+const ONE: &str = "run https://a.test/ main.js | https://a.test/main.js - 1 - -";
+
 // URLs.
 const URLS: &str = "\
 run a.test main.js | no
@@ -189,29 +191,47 @@ fn generated(alloc: Global, found: Option<Generation>) -> Result<String, AllocEr
     }
 }
 
-// The first row whose words say something else over so many sources, if there is one.
-fn wrong_row<'a>(alloc: Global, table: &'a str, many: usize) -> Result<Option<&'a str>, Memory> {
+// Each table, over how many sources its words are read, and how many rows it has.
+const TABLES: &[(&str, usize, usize)] = &[
+    (ORDERS, 4, 28),
+    (VALUES, 4, 39),
+    (WORKERS, 4, 13),
+    (MORE_WORKERS, 20, 7),
+    (ONE, 1, 1),
+    (URLS, 4, 10),
+];
+
+// Whether the words of a row say over so many sources what the row says.
+fn is_said(alloc: Global, row: &str, many: usize) -> Result<bool, Memory> {
+    let Some((words, wanted)) = row.split_once(" | ") else {
+        return Ok(false);
+    };
+    let words = words_of(alloc, words)?;
+    let found = shown(alloc, read_words(alloc, &words, many)?)?;
+    Ok(found.as_str() == wanted)
+}
+
+// The first row of a table whose words say something else over so many sources, if there is one.
+fn wrong_row(
+    alloc: Global,
+    table: &'static str,
+    many: usize,
+) -> Result<Option<&'static str>, Memory> {
     for row in table.lines() {
-        let Some((words, wanted)) = row.split_once(" | ") else {
-            return Ok(Some(row));
-        };
-        let words = words_of(alloc, words)?;
-        let found = shown(alloc, read_words(alloc, &words, many)?)?;
-        if found.as_str() != wanted {
+        if !is_said(alloc, row, many)? {
             return Ok(Some(row));
         }
     }
     Ok(None)
 }
 
-fn wrong_generation<'a>(alloc: Global, table: &'a str) -> Result<Option<&'a str>, Memory> {
-    for row in table.lines() {
-        let Some((words, wanted)) = row.split_once(" | ") else {
-            return Ok(Some(row));
-        };
-        let words = words_of(alloc, words)?;
-        let found = generated(alloc, read_generation(alloc, &words)?)?;
-        if found.as_str() != wanted {
+// The first row of all tables, or a table with another number of rows.
+fn wrong_words(alloc: Global) -> Result<Option<&'static str>, Memory> {
+    for (table, many, rows) in TABLES {
+        if table.lines().count() != *rows {
+            return Ok(Some(*table));
+        }
+        if let Some(row) = wrong_row(alloc, table, *many)? {
             return Ok(Some(row));
         }
     }
@@ -219,54 +239,46 @@ fn wrong_generation<'a>(alloc: Global, table: &'a str) -> Result<Option<&'a str>
 }
 
 #[test]
-fn options_and_flags_stand_anywhere_and_once(rt: HostRuntime) -> Result<(), Fail> {
-    let alloc = rt.alloc();
-    assert_eq!(rt; wrong_row(alloc, ORDERS, 4)?, None);
-    assert_eq!(rt; ORDERS.lines().count(), 28);
+fn words_say_what_their_rows_say(rt: HostRuntime) -> Result<(), Memory> {
+    assert_eq!(rt; wrong_words(rt.alloc())?, None);
     Ok(())
 }
 
-#[test]
-fn values_and_positions(rt: HostRuntime) -> Result<(), Fail> {
-    let alloc = rt.alloc();
-    assert_eq!(rt; wrong_row(alloc, VALUES, 4)?, None);
-    assert_eq!(rt; VALUES.lines().count(), 39);
-    Ok(())
+// Whether the words of a row ask for the generated input that the row says.
+fn is_generated(alloc: Global, row: &str) -> Result<bool, Memory> {
+    let Some((words, wanted)) = row.split_once(" | ") else {
+        return Ok(false);
+    };
+    let words = words_of(alloc, words)?;
+    let found = generated(alloc, read_generation(alloc, &words)?)?;
+    Ok(found.as_str() == wanted)
+}
+
+// The first row of `GENERATED` whose words ask for something else, if there is one.
+fn wrong_generation(alloc: Global) -> Result<Option<&'static str>, Memory> {
+    for row in GENERATED.lines() {
+        if !is_generated(alloc, row)? {
+            return Ok(Some(row));
+        }
+    }
+    Ok(None)
 }
 
 #[test]
-fn numbers_of_workers(rt: HostRuntime) -> Result<(), Fail> {
-    let alloc = rt.alloc();
-    assert_eq!(rt; wrong_row(alloc, WORKERS, 4)?, None);
-    assert_eq!(rt; wrong_row(alloc, MORE_WORKERS, 20)?, None);
-    assert_eq!(rt; WORKERS.lines().count(), 13);
-    let one = "run https://a.test/ main.js | https://a.test/main.js - 1 - -";
-    assert_eq!(rt; wrong_row(alloc, one, 1)?, None);
+fn generated_input(rt: HostRuntime) -> Result<(), Memory> {
+    assert_eq!(rt; wrong_generation(rt.alloc())?, None);
+    assert!(rt; GENERATED.lines().count() == 25);
     Ok(())
 }
 
-#[test]
-fn urls(rt: HostRuntime) -> Result<(), Fail> {
-    let alloc = rt.alloc();
-    assert_eq!(rt; wrong_row(alloc, URLS, 4)?, None);
-    assert_eq!(rt; URLS.lines().count(), 10);
-    Ok(())
+// Whether these words are neither command.
+fn are_none(alloc: Global, words: &Vec<String>) -> Result<bool, Memory> {
+    Ok(read_words(alloc, words, 4)?.is_none() && read_generation(alloc, words)?.is_none())
 }
 
 #[test]
-fn generated_input(rt: HostRuntime) -> Result<(), Fail> {
-    let alloc = rt.alloc();
-    assert_eq!(rt; wrong_generation(alloc, GENERATED)?, None);
-    assert_eq!(rt; GENERATED.lines().count(), 25);
-    Ok(())
-}
-
-#[test]
-fn no_words_are_no_command(rt: HostRuntime) -> Result<(), Fail> {
-    let alloc = rt.alloc();
-    let words = Vec::new(alloc);
-    assert!(rt; read_words(alloc, &words, 4)?.is_none());
-    assert!(rt; read_generation(alloc, &words)?.is_none());
+fn no_words_are_no_command(rt: HostRuntime) -> Result<(), Memory> {
+    assert!(rt; are_none(rt.alloc(), &Vec::new(rt.alloc()))?);
     Ok(())
 }
 
@@ -277,14 +289,19 @@ fn words_with(alloc: Global, path: String) -> Result<Vec<String>, AllocError> {
     Ok(words)
 }
 
-#[test]
-fn the_longest_entry_has_8192_bytes(rt: HostRuntime) -> Result<(), Fail> {
-    let alloc = rt.alloc();
-    for (rest, fits) in [(8177, true), (8178, false)] {
-        let mut bytes = Vec::new(alloc);
-        bytes.resize(rest, b'x')?;
-        let words = words_with(alloc, String::from_utf8(bytes)?)?;
-        assert_eq!(rt; read_words(alloc, &words, 4)?.is_some(), fits);
+// Whether so many bytes below BASE may be ENTRY.
+fn fits(alloc: Global, rest: usize) -> Result<bool, Memory> {
+    let mut path = String::new(alloc);
+    for _ in 0..rest {
+        path.push('x')?;
     }
+    let words = words_with(alloc, path)?;
+    Ok(read_words(alloc, &words, 4)?.is_some())
+}
+
+#[test]
+fn the_longest_entry_has_8192_bytes(rt: HostRuntime) -> Result<(), Memory> {
+    assert!(rt; fits(rt.alloc(), 8177)?);
+    assert!(rt; !fits(rt.alloc(), 8178)?);
     Ok(())
 }

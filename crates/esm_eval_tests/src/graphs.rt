@@ -8,7 +8,6 @@ use esm_eval::{Bodies, EvalEnd, EvalHost, Nodes, Phase, evaluate, fulfilled, rej
 use esm_promise::{Promises, Settled};
 use esm_values::{PromiseId, Ran, Value};
 use std::alloc::Global;
-use std::test::Fail;
 
 // What a module requests, whether it awaits, and whether its body throws.
 #[derive(Drop)]
@@ -101,14 +100,33 @@ impl Bodies for Page {
     }
 }
 
-// A module that requests these.
-fn requesting(alloc: Global, targets: &[u32], awaits: bool, throws: bool) -> Result<Row, Memory> {
-    let targets = Vec::from_slice(alloc, targets)?;
+// What a word says of a module: the digits are the modules that it requests, `a` that its body awaits, `t` that it throws.
+fn row_of(alloc: Global, word: &str) -> Result<Row, Memory> {
     Ok(Row {
-        targets,
-        awaits,
-        throws,
+        targets: digits(alloc, word)?,
+        awaits: word.ends_with('a'),
+        throws: word.ends_with('t'),
     })
+}
+
+// The numbers of one digit in a word.
+fn digits(alloc: Global, word: &str) -> Result<Vec<u32>, Memory> {
+    let mut numbers = Vec::new(alloc);
+    for c in word.chars() {
+        if let Some(number) = c.to_digit(10) {
+            numbers.push(number)?;
+        }
+    }
+    Ok(numbers)
+}
+
+// The modules of a graph.
+fn rows_of(alloc: Global, graph: &str) -> Result<Vec<Row>, Memory> {
+    let mut rows = Vec::new(alloc);
+    for word in graph.split(',') {
+        rows.push(row_of(alloc, word)?)?;
+    }
+    Ok(rows)
 }
 
 // A node for each module, in which nothing is written.
@@ -189,162 +207,158 @@ fn failed(host: &mut EvalHost<Page>, m: u32) -> Result<(), Memory>
     }
 }
 
-// Whether the bodies of these modules have begun, in this order.
-fn has_run(host: &EvalHost<Page>, order: &[u32]) -> bool {
-    host.bodies.order.as_slice() == order
-}
-
-fn is_fulfilled(host: &EvalHost<Page>, promise: PromiseId) -> bool {
-    match host.promises.settled(promise) {
-        Some(how) => matches!(how, Settled::Fulfilled(Value::Undefined)),
-        None => false,
+// How far the evaluation of a module has come, in a word.
+fn phase_of(host: &EvalHost<Page>, m: u32) -> &'static str {
+    match host.nodes.phase(m) {
+        Phase::Evaluated => "evaluated",
+        Phase::EvaluatingAsync => "waiting",
+        Phase::Evaluating => "walked",
+        Phase::NotEntered => "untouched",
     }
 }
 
-// Whether a promise is rejected with true or false.
-fn is_rejected(host: &EvalHost<Page>, promise: PromiseId, with: bool) -> bool {
+// With what a promise was settled, in a word.
+fn settled_as(how: &Settled) -> &'static str {
+    match how {
+        Settled::Fulfilled(Value::Undefined) => "fulfilled",
+        Settled::Rejected(Value::Bool(true)) => "true",
+        Settled::Rejected(Value::Bool(false)) => "false",
+        _ => "otherwise",
+    }
+}
+
+fn promise_of(host: &EvalHost<Page>, promise: PromiseId) -> &'static str {
     match host.promises.settled(promise) {
-        Some(how) => {
-            if with {
-                matches!(how, Settled::Rejected(Value::Bool(true)))
+        Some(how) => settled_as(how),
+        None => {
+            if host.promises.is_pending(promise) {
+                "pending"
             } else {
-                matches!(how, Settled::Rejected(Value::Bool(false)))
+                "none"
             }
         }
-        None => false,
     }
 }
 
-fn is_evaluated(host: &EvalHost<Page>, m: u32) -> bool {
-    host.nodes.phase(m) == Phase::Evaluated
+// Whether a promise is the first one.
+fn place_of(promises: &[PromiseId], promise: PromiseId) -> &'static str {
+    match promises.first() {
+        Some(first) if *first == promise => "first",
+        _ => "another",
+    }
 }
 
-fn is_waiting(host: &EvalHost<Page>, m: u32) -> bool {
-    host.nodes.phase(m) == Phase::EvaluatingAsync
+// Whether a word holds of the module or of the promise with this number: no word is said of both.
+fn is_so(host: &EvalHost<Page>, promises: &[PromiseId], word: &str, number: u32) -> bool {
+    let of_promise = match promises.get(number as usize) {
+        Some(promise) => {
+            word == promise_of(host, *promise) || word == place_of(promises, *promise)
+        }
+        None => false,
+    };
+    of_promise || word == phase_of(host, number)
 }
 
-// Bodies run in the order in which the walk leaves their modules, each once.
+// Whether the bodies of these modules have begun, in this order.
+fn has_run(host: &EvalHost<Page>, alloc: Global, order: &str) -> Result<bool, Memory> {
+    Ok(digits(alloc, order)?.as_slice() == host.bodies.order.as_slice())
+}
+
+// The number that a word begins with, or one that no module has.
+fn number_of(word: &str) -> u32 {
+    match word.chars().next() {
+        Some(c) => c.to_digit(10).unwrap_or(9),
+        None => 9,
+    }
+}
+
+// Does the call that a word says, and keeps the promise of an evaluation; or whether it holds.
+fn does(
+    host: &mut EvalHost<Page>,
+    alloc: Global,
+    promises: &mut Vec<PromiseId>,
+    word: &str,
+    of: &str,
+) -> Result<bool, Memory>
+    requires { MayGoOn (λ p. p.rows.items) (λ p. p.order.items) (λ r. r.targets.items)
+        (λ r. r.awaits) host.old }
+    ensures { OnOk result (MayGoOn (λ p. p.rows.items) (λ p. p.order.items) (λ r. r.targets.items)
+        (λ r. r.awaits) host.new) }
+{
+    if word == "evaluate" {
+        let promise = evaluated(host, alloc, number_of(of))?;
+        promises.push(promise)?;
+        return Ok(true);
+    }
+    if word == "ended" {
+        ended(host, number_of(of))?;
+        return Ok(true);
+    }
+    if word == "failed" {
+        failed(host, number_of(of))?;
+        return Ok(true);
+    }
+    if word == "ran" {
+        return has_run(host, alloc, of);
+    }
+    Ok(is_so(host, promises.as_slice(), word, number_of(of)))
+}
+
+// Whether all that a row says is so.
+fn is_all_so(host: &mut EvalHost<Page>, alloc: Global, calls: &str) -> Result<bool, Memory>
+    requires { MayGoOn (λ p. p.rows.items) (λ p. p.order.items) (λ r. r.targets.items)
+        (λ r. r.awaits) host.old }
+{
+    let mut promises = Vec::new(alloc);
+    for call in calls.split(' ') {
+        let (word, of) = call.split_once(':').unwrap_or((call, ""));
+        if !does(host, alloc, &mut promises, word, of)? {
+            return Ok(false);
+        }
+    }
+    Ok(true)
+}
+
+// A graph of modules, with commas between; and behind ` | ` calls for it and what holds then, in their order. Calls are
+// `evaluate`, whose promises are counted, and `ended` and `failed`, where a body that awaits has ended normally or by a throw.
+// Of modules is said which bodies `ran`, in which order, and which are `evaluated`, `waiting` or `untouched`; of promises
+// which are `pending`, `fulfilled`, rejected with `true` or `false`, and whether each is the `first` or `another`.
+//
+// Bodies run in the order in which the walk leaves their modules, each once. The member of a cycle that awaits holds back the
+// root, and a module evaluated later gets the promise of the root. What waits goes on in the order in which the walk left it;
+// a rejection reaches all that wait, and no further body begins. Behind a throw no module is entered, and each later
+// evaluation of the module gives the error. A body ends once: what comes for a module that is evaluated changes nothing.
+const GRAPHS: &str = "\
+1,2, | evaluate:0 ran:210 fulfilled:0 evaluated:0 evaluated:1 evaluated:2 evaluate:0 first:1 evaluate:1 another:2 fulfilled:2 ran:210
+1,0a | evaluate:0 ran:1 pending:0 waiting:0 waiting:1 evaluate:1 first:1 ended:1 ran:10 fulfilled:0 evaluated:0 evaluated:1
+12,3,3,a | evaluate:0 ran:3 pending:0 ended:3 ran:3120 fulfilled:0
+12,3,3,a | evaluate:0 failed:3 ran:3 false:0 evaluated:0 evaluated:1 evaluated:2 evaluate:2 false:1
+12,t, | evaluate:0 ran:1 true:0 evaluated:0 evaluated:1 untouched:2 evaluate:1 true:1 ran:1
+12,3,3,a | evaluate:0 ended:3 ended:3 failed:3 ran:3120 fulfilled:0
+12,3,3,a | evaluate:0 failed:3 ended:3 ran:3 false:0 evaluated:0";
+
+// Whether a row of `GRAPHS` is as it says.
+fn is_row_so(alloc: Global, row: &str) -> Result<bool, Memory> {
+    let Some((graph, calls)) = row.split_once(" | ") else {
+        return Ok(false);
+    };
+    let mut host = opened(alloc, rows_of(alloc, graph)?)?;
+    is_all_so(&mut host, alloc, calls)
+}
+
+// The first row that isn't as it says, if there is one.
+fn wrong_row(alloc: Global) -> Result<Option<&'static str>, Memory> {
+    for row in GRAPHS.lines() {
+        if !is_row_so(alloc, row)? {
+            return Ok(Some(row));
+        }
+    }
+    Ok(None)
+}
+
 #[test]
-fn chain_runs_in_order(rt: HostRuntime) -> Result<(), Fail> {
-    let alloc = rt.alloc();
-    let mut rows = Vec::new(alloc);
-    rows.push(requesting(alloc, &[1], false, false)?)?;
-    rows.push(requesting(alloc, &[2], false, false)?)?;
-    rows.push(requesting(alloc, &[], false, false)?)?;
-    let mut host = opened(alloc, rows)?;
-    let promise = evaluated(&mut host, alloc, 0)?;
-    assert!(rt; has_run(&host, &[2, 1, 0]));
-    assert!(rt; is_fulfilled(&host, promise));
-    assert!(rt; is_evaluated(&host, 0) && is_evaluated(&host, 1) && is_evaluated(&host, 2));
-    assert!(rt; evaluated(&mut host, alloc, 0)? == promise);
-    let other = evaluated(&mut host, alloc, 1)?;
-    assert!(rt; other != promise && is_fulfilled(&host, other));
-    assert!(rt; has_run(&host, &[2, 1, 0]));
-    Ok(())
-}
-
-// The member of a cycle that awaits holds back the root, and a module evaluated later gets the promise of the root.
-#[test]
-fn cycle_with_one_await(rt: HostRuntime) -> Result<(), Fail> {
-    let alloc = rt.alloc();
-    let mut rows = Vec::new(alloc);
-    rows.push(requesting(alloc, &[1], false, false)?)?;
-    rows.push(requesting(alloc, &[0], true, false)?)?;
-    let mut host = opened(alloc, rows)?;
-    let promise = evaluated(&mut host, alloc, 0)?;
-    assert!(rt; has_run(&host, &[1]));
-    assert!(rt; host.promises.is_pending(promise));
-    assert!(rt; is_waiting(&host, 0) && is_waiting(&host, 1));
-    assert!(rt; evaluated(&mut host, alloc, 1)? == promise);
-    ended(&mut host, 1)?;
-    assert!(rt; has_run(&host, &[1, 0]));
-    assert!(rt; is_fulfilled(&host, promise));
-    assert!(rt; is_evaluated(&host, 0) && is_evaluated(&host, 1));
-    Ok(())
-}
-
-// A diamond: 0 requests 1 and 2, which both request 3, and 3 awaits.
-fn diamond(alloc: Global) -> Result<Vec<Row>, Memory> {
-    let mut rows = Vec::new(alloc);
-    rows.push(requesting(alloc, &[1, 2], false, false)?)?;
-    rows.push(requesting(alloc, &[3], false, false)?)?;
-    rows.push(requesting(alloc, &[3], false, false)?)?;
-    rows.push(requesting(alloc, &[], true, false)?)?;
-    Ok(rows)
-}
-
-// What waits goes on in the order in which the walk left it.
-#[test]
-fn diamond_goes_on(rt: HostRuntime) -> Result<(), Fail> {
-    let alloc = rt.alloc();
-    let mut host = opened(alloc, diamond(alloc)?)?;
-    let promise = evaluated(&mut host, alloc, 0)?;
-    assert!(rt; has_run(&host, &[3]));
-    assert!(rt; host.promises.is_pending(promise));
-    ended(&mut host, 3)?;
-    assert!(rt; has_run(&host, &[3, 1, 2, 0]));
-    assert!(rt; is_fulfilled(&host, promise));
-    Ok(())
-}
-
-// A rejection reaches all that wait, and no further body begins.
-#[test]
-fn diamond_fails(rt: HostRuntime) -> Result<(), Fail> {
-    let alloc = rt.alloc();
-    let mut host = opened(alloc, diamond(alloc)?)?;
-    let promise = evaluated(&mut host, alloc, 0)?;
-    failed(&mut host, 3)?;
-    assert!(rt; has_run(&host, &[3]));
-    assert!(rt; is_rejected(&host, promise, false));
-    assert!(rt; is_evaluated(&host, 0) && is_evaluated(&host, 1) && is_evaluated(&host, 2));
-    let other = evaluated(&mut host, alloc, 2)?;
-    assert!(rt; is_rejected(&host, other, false));
-    Ok(())
-}
-
-// Behind a throw no module is entered, and each later evaluation of the module gives the error.
-#[test]
-fn throw_stops_the_walk(rt: HostRuntime) -> Result<(), Fail> {
-    let alloc = rt.alloc();
-    let mut rows = Vec::new(alloc);
-    rows.push(requesting(alloc, &[1, 2], false, false)?)?;
-    rows.push(requesting(alloc, &[], false, true)?)?;
-    rows.push(requesting(alloc, &[], false, false)?)?;
-    let mut host = opened(alloc, rows)?;
-    let promise = evaluated(&mut host, alloc, 0)?;
-    assert!(rt; has_run(&host, &[1]));
-    assert!(rt; is_rejected(&host, promise, true));
-    assert!(rt; is_evaluated(&host, 0) && is_evaluated(&host, 1));
-    assert!(rt; host.nodes.phase(2) == Phase::NotEntered);
-    let other = evaluated(&mut host, alloc, 1)?;
-    assert!(rt; is_rejected(&host, other, true));
-    assert!(rt; has_run(&host, &[1]));
-    Ok(())
-}
-
-// A body that was told to have ended ends once: what comes for a module that is evaluated changes nothing.
-#[test]
-fn later_ends_change_nothing(rt: HostRuntime) -> Result<(), Fail> {
-    let alloc = rt.alloc();
-    let mut host = opened(alloc, diamond(alloc)?)?;
-    let promise = evaluated(&mut host, alloc, 0)?;
-    ended(&mut host, 3)?;
-    ended(&mut host, 3)?;
-    failed(&mut host, 3)?;
-    assert!(rt; has_run(&host, &[3, 1, 2, 0]));
-    assert!(rt; is_fulfilled(&host, promise));
-    Ok(())
-}
-
-// The same where it ended by a throw.
-#[test]
-fn later_ends_behind_a_throw_change_nothing(rt: HostRuntime) -> Result<(), Fail> {
-    let alloc = rt.alloc();
-    let mut host = opened(alloc, diamond(alloc)?)?;
-    let promise = evaluated(&mut host, alloc, 0)?;
-    failed(&mut host, 3)?;
-    ended(&mut host, 3)?;
-    assert!(rt; has_run(&host, &[3]));
-    assert!(rt; is_rejected(&host, promise, false) && is_evaluated(&host, 0));
+fn graphs_are_evaluated_as_the_standard_says(rt: HostRuntime) -> Result<(), Memory> {
+    assert_eq!(rt; wrong_row(rt.alloc())?, None);
+    assert!(rt; GRAPHS.lines().count() == 7);
     Ok(())
 }

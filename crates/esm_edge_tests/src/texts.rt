@@ -1,0 +1,61 @@
+// Texts with ample memory, and the order of texts by code units: outside values.
+use esm_base::{Memory, Text, code_unit_cmp};
+use std::alloc::Global;
+use std::cmp::Ordering;
+
+// Whether a text and its clone have these bytes, are one text, and are shown so.
+fn are_copied(alloc: Global) -> Result<bool, Memory> {
+    let text = Text::copy(alloc, "é")?;
+    let twin = text.clone()?;
+    let shown = format!(in alloc; "<{text}>")?;
+    Ok(
+        text.as_str().as_bytes() == b"\xc3\xa9".as_slice()
+            && twin == text
+            && twin.is("é")
+            && shown.as_str() == "<é>",
+    )
+}
+
+// Two texts with their order between them. U+10400 is the code units D801 DC00, and U+FF21 is one code unit, though its bytes
+// are less.
+const ORDERED: &str = "\
+\u{10400} < \u{FF21}
+\u{FF21} > \u{10400}
+\u{D7FF} < \u{10400}
+a\u{10401} > a\u{10400}b
+ab < abc
+ = ";
+
+// A sign that stands between two texts.
+fn sign_of(order: Ordering) -> &'static str {
+    match order {
+        Ordering::Less => "<",
+        Ordering::Equal => "=",
+        Ordering::Greater => ">",
+    }
+}
+
+// Whether the texts of a row stand in the order that the row says.
+fn is_ordered(row: &str) -> bool {
+    let (a, rest) = row.split_once(' ').unwrap_or((row, ""));
+    let (sign, b) = rest.split_once(' ').unwrap_or((rest, ""));
+    sign_of(code_unit_cmp(a, b)) == sign
+}
+
+// The first row of `ORDERED` whose texts stand otherwise, if there is one.
+fn wrong_order() -> Option<&'static str> {
+    for row in ORDERED.lines() {
+        if !is_ordered(row) {
+            return Some(row);
+        }
+    }
+    None
+}
+
+#[test]
+fn texts_are_copied_and_ordered(rt: HostRuntime) -> Result<(), Memory> {
+    assert!(rt; are_copied(rt.alloc())?);
+    assert_eq!(rt; wrong_order(), None);
+    assert!(rt; ORDERED.lines().count() == 6);
+    Ok(())
+}
