@@ -9,6 +9,3 @@ mod summary;
 pub use modules::{BASE, ENTRY, entry_url, files};
 pub use source::GeneratedSource;
 pub use summary::Summary;
-
-#[cfg(test)]
-mod tests;

@@ -4,8 +4,6 @@
 pub mod laws;
 mod promises;
 mod reaction;
-#[cfg(test)]
-mod tests;
 
 pub use promises::Promises;
 pub use reaction::{Reaction, ReactionKind, Settled};

@@ -6,8 +6,6 @@ mod errors;
 pub mod laws;
 mod limits;
 mod rc_text;
-#[cfg(test)]
-mod tests;
 mod value;
 
 pub use display::{function_text, namespace_text, printed_line, truth_text};
