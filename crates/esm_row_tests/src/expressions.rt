@@ -9,7 +9,6 @@ use esm_tree::{ExprId, ExprIds, ExprNode, Link, NodeText, Tree};
 use esm_values::{ErrorId, FaultKind, FuncId, RcText, Value};
 use std::alloc::Global;
 use std::sync::Arc;
-use std::test::Fail;
 
 #[derive(Drop)]
 struct Functions {
@@ -107,15 +106,12 @@ fn has_value(moved: Result<Move, ExprEnd<Memory>>, text: &str) -> bool {
     }
 }
 
-#[test]
-fn a_text_and_a_truth_value_are_joined(rt: HostRuntime) -> Result<(), Fail> {
-    let alloc = rt.alloc();
-    let tree = sum_tree(alloc)?;
-    let mut world = Functions { alloc };
-    let mut frame = ExprFrame::new(alloc, tree, ExprId(2))?;
-    let moved = frame.advance(&mut world, None);
-    assert!(rt; has_value(moved, "atrue"));
-    Ok(())
+// Whether the expression goes on to this value.
+fn gives(frame: &mut ExprFrame, world: &mut Functions, text: &str) -> bool
+    requires sound { IsSound frame.old }
+    requires ready { IsGiven None frame.old.focus }
+{
+    has_value(frame.advance(world, None), text)
 }
 
 // Whether the expression stands at a call with this text, and goes on with its value to that value.
@@ -137,11 +133,11 @@ fn goes_on(frame: &mut ExprFrame, world: &mut Functions, text: &str) -> Result<b
 }
 
 #[test]
-fn a_call_stands_still_and_goes_on(rt: HostRuntime) -> Result<(), Fail> {
-    let alloc = rt.alloc();
-    let tree = call_tree(alloc)?;
-    let mut world = Functions { alloc };
-    let mut frame = ExprFrame::new(alloc, tree, ExprId(2))?;
-    assert!(rt; goes_on(&mut frame, &mut world, "x")?);
+fn expressions_go_on(rt: HostRuntime) -> Result<(), Memory> {
+    let mut world = Functions { alloc: rt.alloc() };
+    let mut sum = ExprFrame::new(rt.alloc(), sum_tree(rt.alloc())?, ExprId(2))?;
+    assert!(rt; gives(&mut sum, &mut world, "atrue"));
+    let mut call = ExprFrame::new(rt.alloc(), call_tree(rt.alloc())?, ExprId(2))?;
+    assert!(rt; goes_on(&mut call, &mut world, "x")?);
     Ok(())
 }
