@@ -19,6 +19,3 @@ pub use machine::{Frame, Handler, Machine};
 pub use outside::Outside;
 pub use rows::Rows;
 pub use runs::{Ending, call};
-
-#[cfg(test)]
-mod tests;
