@@ -4,6 +4,8 @@ import json
 import os
 import re
 
+from hostile_hashes import after_number, of_one_hash
+
 BASE = "https://a.test/"
 MAX_BODY = 1 << 20
 
@@ -419,6 +421,33 @@ def stars(many):
     return dict(files, **{"main.js": 'import "./m0.js";', "m%d.js" % (many - 1): ""})
 
 
+def urls_of_one_hash(is_one):
+    """A module that requests 4,000 empty ones 24,000 times, by URLs of over 3,000 bytes."""
+    folder = "/".join(["d" * 200] * 15) + "/"
+    begin = len(BASE + folder)
+    names = [url[begin:].decode() for url in of_one_hash((BASE + folder).encode(), 4000)[0 if is_one else 1]]
+    requests = "".join('import"%s%s";' % ("./" * (k // 4000 + 1), names[k % 4000]) for k in range(24000))
+    return dict({folder + name: "" for name in names}, **{"main.js": 'import"./%sall.js";' % folder, folder + "all.js": requests})
+
+
+def requests_of_one_hash(is_one):
+    """A module that requests 25,000 others."""
+    return {"main.js": b"".join(b"import'%s';" % name for name in of_one_hash(b"./", 25000)[0 if is_one else 1])}
+
+
+def exports_of_one_hash(is_one):
+    """A module that exports 27,000 names, one of which another imports."""
+    names = of_one_hash(b"x", 27000, after_number(1))[0 if is_one else 1]
+    return {"main.js": b"import{%s as y}from'./m.js';" % names[0], "m.js": b"let x;export{%s}" % b",".join(b"x as %s" % name for name in names)}
+
+
+def loads_that_fail():
+    """4,096 import()s of a module of 7,000 requests, the last of which isn't there."""
+    files = {"m%d.js" % k: "" for k in range(60)}
+    requests = "".join('import"%sm%d.js";' % ("./" * (k // 60 + 1), k % 60) for k in range(7000))
+    return dict(files, **{"main.js": doubled('import("./big.js");', 12), "big.js": requests + 'import"./none.js";'})
+
+
 NAMES = "".join("let a%d;" % k for k in range(95000))
 DEAR = [  # names of sites that cost much, with what makes their files
     ("a function of 250,000 operands, called 128 times", lambda: {"main.js": "let a; " + doubled("||".join(["a"] * 250000) + ";", 7)}),
@@ -444,5 +473,12 @@ DEAR = [  # names of sites that cost much, with what makes their files
     ("a member of 1,000 read 131,072 times", lambda: {
         "main.js": 'import * as all from "./m.js";' + doubled("all.a999;", 17),
         "m.js": "export let " + ",".join("a%d" % k for k in range(1000)) + ";"}),
+    ("4,000 URLs of one hash, requested 24,000 times", lambda: urls_of_one_hash(True)),
+    ("4,000 URLs of other hashes, requested 24,000 times", lambda: urls_of_one_hash(False)),
+    ("25,000 specifiers of one hash", lambda: requests_of_one_hash(True)),
+    ("25,000 specifiers of other hashes", lambda: requests_of_one_hash(False)),
+    ("27,000 exported names of one hash", lambda: exports_of_one_hash(True)),
+    ("27,000 exported names of other hashes", lambda: exports_of_one_hash(False)),
+    ("4,096 import()s whose loads fail at the last of 7,000 requests", loads_that_fail),
     ("a name of 95,000 read 131,072 times", lambda: {"main.js": NAMES[:1040000].rsplit(";", 1)[0] + ";" + doubled("a90000;", 17)}),
 ]
