@@ -239,7 +239,7 @@ pub(crate) fn begin(
     match node {
         StmtNode::Empty => Ok(()),
         StmtNode::Expression(at) => does(alloc, tree, levels, Use::Drops, false, *at),
-        StmtNode::Assign(_, value) => does_init(alloc, tree, levels, Use::Writes(id), *value),
+        StmtNode::Assign(parts) => does_init(alloc, tree, levels, Use::Writes(id), parts.value),
         StmtNode::Block(ids) => begin_block(
             alloc,
             tree,
@@ -249,22 +249,22 @@ pub(crate) fn begin(
             ids.as_slice(),
         ),
         StmtNode::If(at, _) => does(alloc, tree, levels, Use::Chooses(id), false, *at),
-        StmtNode::IfElse(at, _, _) => does(alloc, tree, levels, Use::Chooses(id), false, *at),
-        StmtNode::Try(ids, _) => begin_block(
+        StmtNode::IfElse(at, _) => does(alloc, tree, levels, Use::Chooses(id), false, *at),
+        StmtNode::Try(parts) => begin_block(
             alloc,
             tree,
             levels,
             Kind::Tries(id),
             Vec::new(alloc),
-            ids.as_slice(),
+            parts.body.as_slice(),
         ),
-        StmtNode::TryCatch(ids, _, _) => begin_block(
+        StmtNode::TryCatch(parts) => begin_block(
             alloc,
             tree,
             levels,
             Kind::Tries(id),
             Vec::new(alloc),
-            ids.as_slice(),
+            parts.body.as_slice(),
         ),
         StmtNode::Throw(at) => does(alloc, tree, levels, Use::Throws, false, *at),
         StmtNode::Return => add(levels, Work::Has(Use::Returns, Value::Undefined)),
@@ -322,7 +322,7 @@ pub(crate) fn assigned(tree: &Tree, id: StmtId) -> &str
     ensures { result.now ≡ assigned (flat.stmt_part tree.now.stmts id) }
 {
     match tree.stmt(id) {
-        StmtNode::Assign(name, _) => name.as_str(),
+        StmtNode::Assign(parts) => parts.name.as_str(),
         _ => "",
     }
 }

@@ -39,14 +39,14 @@ fn handler(node: &StmtNode) -> &[StmtId]
     ensures below { (n : ℕ) → IsStmtBelow n node.now → AllStmtsBelow n result.now }
 {
     match node {
-        StmtNode::Try(_, handler) => handler.as_slice(),
-        StmtNode::TryCatch(_, _, handler) => handler.as_slice(),
+        StmtNode::Try(parts) => parts.handler.as_slice(),
+        StmtNode::TryCatch(parts) => parts.handler.as_slice(),
         StmtNode::Empty => &[],
         StmtNode::Expression(_) => &[],
-        StmtNode::Assign(_, _) => &[],
+        StmtNode::Assign(_) => &[],
         StmtNode::Block(_) => &[],
         StmtNode::If(_, _) => &[],
-        StmtNode::IfElse(_, _, _) => &[],
+        StmtNode::IfElse(_, _) => &[],
         StmtNode::Throw(_) => &[],
         StmtNode::Return => &[],
         StmtNode::ReturnValue(_) => &[],
@@ -64,14 +64,14 @@ fn caught_name(node: &StmtNode) -> Option<&str>
         ≡ caught_of (stmt_of exprs stmts node.now) }
 {
     match node {
-        StmtNode::TryCatch(_, name, _) => Some(name.as_str()),
-        StmtNode::Try(_, _) => None,
+        StmtNode::TryCatch(parts) => Some(parts.name.as_str()),
+        StmtNode::Try(_) => None,
         StmtNode::Empty => None,
         StmtNode::Expression(_) => None,
-        StmtNode::Assign(_, _) => None,
+        StmtNode::Assign(_) => None,
         StmtNode::Block(_) => None,
         StmtNode::If(_, _) => None,
-        StmtNode::IfElse(_, _, _) => None,
+        StmtNode::IfElse(_, _) => None,
         StmtNode::Throw(_) => None,
         StmtNode::Return => None,
         StmtNode::ReturnValue(_) => None,

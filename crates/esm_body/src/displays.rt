@@ -23,17 +23,19 @@ fn name_of(item: &ItemNode) -> &str
     ensures { (stmts : _) → result.now ≡ item_name (item_of stmts item.now) }
 {
     match item {
-        ItemNode::ExportFunction(name, _, _) => name.as_str(),
-        ItemNode::ExportDefaultFunction(Some(name), _, _) => name.as_str(),
-        ItemNode::ExportDefaultFunction(None, _, _) => "*default*",
-        ItemNode::Function(name, _, _) => name.as_str(),
+        ItemNode::ExportFunction(node) => node.name.as_str(),
+        ItemNode::ExportDefaultFunction(node) => match &node.name {
+            Some(name) => name.as_str(),
+            None => "*default*",
+        },
+        ItemNode::Function(node) => node.name.as_str(),
         ItemNode::ExportStatement(_) => "",
         ItemNode::Statement(_) => "",
         ItemNode::ImportEffect(_) => "",
-        ItemNode::Import(_, _) => "",
+        ItemNode::Import(_) => "",
         ItemNode::ExportAll(_) => "",
-        ItemNode::ExportAllAs(_, _) => "",
-        ItemNode::ExportFrom(_, _) => "",
+        ItemNode::ExportAllAs(_) => "",
+        ItemNode::ExportFrom(_) => "",
         ItemNode::ExportList(_) => "",
     }
 }

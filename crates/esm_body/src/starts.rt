@@ -27,14 +27,14 @@ fn item_statement(item: &ItemNode) -> Option<StmtId>
     match item {
         ItemNode::ExportStatement(id) => Some(*id),
         ItemNode::Statement(id) => Some(*id),
-        ItemNode::ExportFunction(_, _, _) => None,
-        ItemNode::ExportDefaultFunction(_, _, _) => None,
-        ItemNode::Function(_, _, _) => None,
+        ItemNode::ExportFunction(_) => None,
+        ItemNode::ExportDefaultFunction(_) => None,
+        ItemNode::Function(_) => None,
         ItemNode::ImportEffect(_) => None,
-        ItemNode::Import(_, _) => None,
+        ItemNode::Import(_) => None,
         ItemNode::ExportAll(_) => None,
-        ItemNode::ExportAllAs(_, _) => None,
-        ItemNode::ExportFrom(_, _) => None,
+        ItemNode::ExportAllAs(_) => None,
+        ItemNode::ExportFrom(_) => None,
         ItemNode::ExportList(_) => None,
     }
 }
@@ -115,19 +115,19 @@ fn branch(node: &StmtNode, truth: bool) -> Option<&[StmtId]>
                 Some(&[])
             }
         }
-        StmtNode::IfElse(_, ids, others) => {
+        StmtNode::IfElse(_, parts) => {
             if truth {
-                Some(ids.as_slice())
+                Some(parts.body.as_slice())
             } else {
-                Some(others.as_slice())
+                Some(parts.others.as_slice())
             }
         }
         StmtNode::Empty => None,
         StmtNode::Expression(_) => None,
-        StmtNode::Assign(_, _) => None,
+        StmtNode::Assign(_) => None,
         StmtNode::Block(_) => None,
-        StmtNode::Try(_, _) => None,
-        StmtNode::TryCatch(_, _, _) => None,
+        StmtNode::Try(_) => None,
+        StmtNode::TryCatch(_) => None,
         StmtNode::Throw(_) => None,
         StmtNode::Return => None,
         StmtNode::ReturnValue(_) => None,

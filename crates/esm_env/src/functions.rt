@@ -17,16 +17,16 @@ fn is_function(item: &ItemNode) -> bool
         ≡ (if result then k ∷ later else later) }
 {
     match item {
-        ItemNode::ExportFunction(_, _, _) => true,
-        ItemNode::ExportDefaultFunction(_, _, _) => true,
-        ItemNode::Function(_, _, _) => true,
+        ItemNode::ExportFunction(_) => true,
+        ItemNode::ExportDefaultFunction(_) => true,
+        ItemNode::Function(_) => true,
         ItemNode::ExportStatement(_) => false,
         ItemNode::Statement(_) => false,
         ItemNode::ImportEffect(_) => false,
-        ItemNode::Import(_, _) => false,
+        ItemNode::Import(_) => false,
         ItemNode::ExportAll(_) => false,
-        ItemNode::ExportAllAs(_, _) => false,
-        ItemNode::ExportFrom(_, _) => false,
+        ItemNode::ExportAllAs(_) => false,
+        ItemNode::ExportFrom(_) => false,
         ItemNode::ExportList(_) => false,
     }
 }

@@ -172,15 +172,17 @@ fn stmt_errs(alloc: Global, tree: &Tree, id: StmtId) -> Result<bool, Memory>
     match tree.stmt(id) {
         StmtNode::Block(ids) => block_errs(alloc, tree, below, ids, None),
         StmtNode::If(_, ids) => block_errs(alloc, tree, below, ids, None),
-        StmtNode::IfElse(_, ids, others) => blocks_err(alloc, tree, below, ids, None, others),
-        StmtNode::Try(ids, others) => blocks_err(alloc, tree, below, ids, None, others),
-        StmtNode::TryCatch(ids, name, others) => blocks_err(
+        StmtNode::IfElse(_, parts) => {
+            blocks_err(alloc, tree, below, &parts.body, None, &parts.others)
+        }
+        StmtNode::Try(parts) => blocks_err(alloc, tree, below, &parts.body, None, &parts.handler),
+        StmtNode::TryCatch(parts) => blocks_err(
             alloc,
             tree,
             below,
-            ids,
-            Some(name.as_str()),
-            others,
+            &parts.body,
+            Some(parts.name.as_str()),
+            &parts.handler,
         ),
         _ => Ok(false),
     }
@@ -219,11 +221,11 @@ fn item_errs(alloc: Global, tree: &Tree, item: &ItemNode) -> Result<bool, Memory
     match item {
         ItemNode::ExportStatement(id) => stmt_errs(alloc, tree, *id),
         ItemNode::Statement(id) => stmt_errs(alloc, tree, *id),
-        ItemNode::ExportFunction(_, parameters, ids) => function_errs(alloc, tree, parameters, ids),
-        ItemNode::ExportDefaultFunction(_, parameters, ids) => function_errs(
-            alloc, tree, parameters, ids,
-        ),
-        ItemNode::Function(_, parameters, ids) => function_errs(alloc, tree, parameters, ids),
+        ItemNode::ExportFunction(node) => function_errs(alloc, tree, &node.parameters, &node.body),
+        ItemNode::ExportDefaultFunction(node) => {
+            function_errs(alloc, tree, &node.parameters, &node.body)
+        }
+        ItemNode::Function(node) => function_errs(alloc, tree, &node.parameters, &node.body),
         _ => Ok(false),
     }
 }
@@ -269,12 +271,12 @@ fn add_item_names<'a>(
         ≡ texts names.old.items ++ early.declared_of (item_of tree.now.stmts item.now)) }
 {
     match item {
-        ItemNode::Import(_, bindings) => add_locals(names, bindings),
+        ItemNode::Import(node) => add_locals(names, &node.bindings),
         ItemNode::ExportStatement(id) => add_declared(names, tree, *id),
         ItemNode::Statement(id) => add_declared(names, tree, *id),
-        ItemNode::ExportFunction(name, _, _) => add_one(names, name.as_str()),
-        ItemNode::ExportDefaultFunction(name, _, _) => add_given(names, name),
-        ItemNode::Function(name, _, _) => add_one(names, name.as_str()),
+        ItemNode::ExportFunction(node) => add_one(names, node.name.as_str()),
+        ItemNode::ExportDefaultFunction(node) => add_given(names, &node.name),
+        ItemNode::Function(node) => add_one(names, node.name.as_str()),
         _ => Ok(()),
     }
 }
@@ -302,12 +304,12 @@ fn add_exported<'a>(
         ≡ texts names.old.items ++ early.exported_of (item_of tree.now.stmts item.now)) }
 {
     match item {
-        ItemNode::ExportAllAs(name, _) => add_one(names, name.as_str()),
-        ItemNode::ExportFrom(specifiers, _) => add_listed(names, specifiers),
+        ItemNode::ExportAllAs(node) => add_one(names, node.name.as_str()),
+        ItemNode::ExportFrom(node) => add_listed(names, &node.list),
         ItemNode::ExportList(specifiers) => add_listed(names, specifiers),
         ItemNode::ExportStatement(id) => add_statement(names, tree, *id),
-        ItemNode::ExportFunction(name, _, _) => add_one(names, name.as_str()),
-        ItemNode::ExportDefaultFunction(_, _, _) => add_one(names, "default"),
+        ItemNode::ExportFunction(node) => add_one(names, node.name.as_str()),
+        ItemNode::ExportDefaultFunction(_) => add_one(names, "default"),
         _ => Ok(()),
     }
 }

@@ -13,7 +13,10 @@ use esm_base::Text;
 use esm_lexer::LexemeList;
 use esm_parse_expr::Stop;
 use esm_parse_expr::tokens::{is_name_at, sees, terminal, text};
-use esm_tree::{ItemNode, StmtId, StmtNode, Terminal, Tree};
+use esm_tree::{
+    DefaultFunction, FunctionNode, ImportNode, ItemNode, NamespaceExport, PassedExports, StmtId,
+    StmtNode, Terminal, Tree, boxed_list,
+};
 use std::alloc::Global;
 
 fn outside(turns: usize) -> Room
@@ -57,11 +60,13 @@ fn import_form(
     if sees(tokens, at + 1, Terminal::Literal) {
         let specifier = text(alloc, tokens, at + 1)?;
         let behind = end(tokens, at + 2, false)?;
-        return Ok((ItemNode::ImportEffect(specifier), behind));
+        let boxed = Box::new(alloc, specifier)?;
+        return Ok((ItemNode::ImportEffect(boxed), behind));
     }
     let (found, behind) = clause(alloc, tokens, turns, at + 1)?;
     let (specifier, behind) = from(alloc, tokens, behind)?;
-    Ok((ItemNode::Import(specifier, found), behind))
+    let node = ImportNode::boxed(alloc, specifier, found)?;
+    Ok((ItemNode::Import(node), behind))
 }
 
 // Parameters and body. ECMA-262, FormalParameters, FunctionBody.
@@ -102,10 +107,11 @@ fn function(
     let name = text(alloc, tokens, at + 1)?;
     let (parts, behind) = rest(alloc, tokens, tree, turns, at + 2)?;
     let (found, body) = parts;
+    let node = FunctionNode::boxed(alloc, name, found, body)?;
     if exported {
-        Ok((ItemNode::ExportFunction(name, found, body), behind))
+        Ok((ItemNode::ExportFunction(node), behind))
     } else {
-        Ok((ItemNode::Function(name, found, body), behind))
+        Ok((ItemNode::Function(node), behind))
     }
 }
 
@@ -120,10 +126,12 @@ fn export_all(alloc: Global, tokens: &LexemeList, at: usize) -> Result<(ItemNode
         }
         let name = text(alloc, tokens, at + 2)?;
         let (specifier, behind) = from(alloc, tokens, at + 3)?;
-        return Ok((ItemNode::ExportAllAs(name, specifier), behind));
+        let node = Box::new(alloc, NamespaceExport { name, specifier })?;
+        return Ok((ItemNode::ExportAllAs(node), behind));
     }
     let (specifier, behind) = from(alloc, tokens, at + 1)?;
-    Ok((ItemNode::ExportAll(specifier), behind))
+    let boxed = Box::new(alloc, specifier)?;
+    Ok((ItemNode::ExportAll(boxed), behind))
 }
 
 fn export_list(
@@ -139,10 +147,12 @@ fn export_list(
     let (found, behind) = exported_names(alloc, tokens, turns, at + 1)?;
     if sees(tokens, behind, Terminal::From) {
         let (specifier, behind) = from(alloc, tokens, behind)?;
-        return Ok((ItemNode::ExportFrom(found, specifier), behind));
+        let node = PassedExports::boxed(alloc, found, specifier)?;
+        return Ok((ItemNode::ExportFrom(node), behind));
     }
     let behind = end(tokens, behind, false)?;
-    Ok((ItemNode::ExportList(found), behind))
+    let list = boxed_list(alloc, found)?;
+    Ok((ItemNode::ExportList(list), behind))
 }
 
 fn default_function(
@@ -158,7 +168,8 @@ fn default_function(
 {
     let (parts, behind) = rest(alloc, tokens, tree, turns, at)?;
     let (found, body) = parts;
-    Ok((ItemNode::ExportDefaultFunction(name, found, body), behind))
+    let node = DefaultFunction::boxed(alloc, name, found, body)?;
+    Ok((ItemNode::ExportDefaultFunction(node), behind))
 }
 
 fn export_default(

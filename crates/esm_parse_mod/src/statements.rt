@@ -10,9 +10,9 @@ ghost use Rattle.esm_parse_mod.specs.Inner.Nests.{Nests};
 
 use crate::bindings::{at_end, declaration, end, init};
 use esm_lexer::LexemeList;
-use esm_parse_expr::tokens::{is_name_at, newline_at, sees, terminal, text};
+use esm_parse_expr::tokens::{is_name_at, newline_at, node_text, sees, terminal};
 use esm_parse_expr::{Stop, expr, operand};
-use esm_tree::{StmtId, StmtNode, Terminal, Tree};
+use esm_tree::{Assignment, Attempt, Branches, NamedAttempt, StmtId, StmtNode, Terminal, Tree};
 use std::alloc::Global;
 
 /// How many turns a list may take, and whether it is read in a function's body.
@@ -78,10 +78,11 @@ fn assign(
         (read.assign tokens.now room.turns room.inside at) }
 {
     let _ = tokens.len();
-    let name = text(alloc, tokens, at)?;
+    let name = node_text(alloc, tokens, at)?;
     let (value, behind) = init(alloc, tokens, tree, room, at + 2)?;
     let behind = end(tokens, behind, false)?;
-    add(tree, StmtNode::Assign(name, value), behind)
+    let parts = Box::new(alloc, Assignment { name, value })?;
+    add(tree, StmtNode::Assign(parts), behind)
 }
 
 fn thrown(
@@ -242,7 +243,8 @@ impl<
         let (then, behind) = self.block(tokens, tree, behind + 1)?;
         if sees(tokens, behind, Terminal::Else) {
             let (others, behind) = self.block(tokens, tree, behind + 1)?;
-            return add(tree, StmtNode::IfElse(condition, then, others), behind);
+            let parts = Box::new(self.alloc, Branches { body: then, others })?;
+            return add(tree, StmtNode::IfElse(condition, parts), behind);
         }
         add(tree, StmtNode::If(condition, then), behind)
     }
@@ -267,7 +269,8 @@ impl<
         }
         if !sees(tokens, behind + 1, Terminal::Open) {
             let (handler, behind) = self.block(tokens, tree, behind + 1)?;
-            return add(tree, StmtNode::Try(body, handler), behind);
+            let parts = Box::new(self.alloc, Attempt { body, handler })?;
+            return add(tree, StmtNode::Try(parts), behind);
         }
         if !is_name_at(tokens, behind + 2) {
             return Err(Stop::Fault);
@@ -275,9 +278,17 @@ impl<
         if !sees(tokens, behind + 3, Terminal::Close) {
             return Err(Stop::Fault);
         }
-        let name = text(self.alloc, tokens, behind + 2)?;
+        let name = node_text(self.alloc, tokens, behind + 2)?;
         let (handler, behind) = self.block(tokens, tree, behind + 4)?;
-        add(tree, StmtNode::TryCatch(body, name, handler), behind)
+        let parts = Box::new(
+            self.alloc,
+            NamedAttempt {
+                body,
+                name,
+                handler,
+            },
+        )?;
+        add(tree, StmtNode::TryCatch(parts), behind)
     }
 
     pub fn statement(

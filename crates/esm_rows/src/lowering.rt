@@ -72,22 +72,22 @@ fn item_row(alloc: Global, tree: &Tree, item: &ItemNode) -> Result<Option<Row>, 
     ensures { IfOk result (IsFirstRow [] (functions_by (item_of tree.now.stmts item.now))) }
 {
     match item {
-        ItemNode::ExportFunction(_, parameters, body) => {
-            function_row(alloc, tree, parameters.as_slice(), body.as_slice())
+        ItemNode::ExportFunction(node) => {
+            function_row(alloc, tree, node.parameters.as_slice(), node.body.as_slice())
         }
-        ItemNode::ExportDefaultFunction(_, parameters, body) => {
-            function_row(alloc, tree, parameters.as_slice(), body.as_slice())
+        ItemNode::ExportDefaultFunction(node) => {
+            function_row(alloc, tree, node.parameters.as_slice(), node.body.as_slice())
         }
-        ItemNode::Function(_, parameters, body) => {
-            function_row(alloc, tree, parameters.as_slice(), body.as_slice())
+        ItemNode::Function(node) => {
+            function_row(alloc, tree, node.parameters.as_slice(), node.body.as_slice())
         }
         ItemNode::ExportStatement(_) => Ok(None),
         ItemNode::Statement(_) => Ok(None),
         ItemNode::ImportEffect(_) => Ok(None),
-        ItemNode::Import(_, _) => Ok(None),
+        ItemNode::Import(_) => Ok(None),
         ItemNode::ExportAll(_) => Ok(None),
-        ItemNode::ExportAllAs(_, _) => Ok(None),
-        ItemNode::ExportFrom(_, _) => Ok(None),
+        ItemNode::ExportAllAs(_) => Ok(None),
+        ItemNode::ExportFrom(_) => Ok(None),
         ItemNode::ExportList(_) => Ok(None),
     }
 }

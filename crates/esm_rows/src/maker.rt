@@ -310,12 +310,13 @@ impl Maker {
         match node {
             StmtNode::Block(ids) => self.block(alloc, tree, ids.as_slice()),
             StmtNode::If(value, _) => self.choose(id, *value),
-            StmtNode::IfElse(value, _, others) => {
-                self.choose_else(alloc, tree, id, *value, others.as_slice())
+            StmtNode::IfElse(value, parts) => {
+                self.choose_else(alloc, tree, id, *value, parts.others.as_slice())
             }
-            StmtNode::Try(_, handler) => self.attempt(alloc, tree, id, handler.as_slice()),
-            StmtNode::TryCatch(_, name, handler) => {
-                self.attempt_named(alloc, tree, id, name.as_str(), handler.as_slice())
+            StmtNode::Try(parts) => self.attempt(alloc, tree, id, parts.handler.as_slice()),
+            StmtNode::TryCatch(parts) => {
+                let name = parts.name.as_str();
+                self.attempt_named(alloc, tree, id, name, parts.handler.as_slice())
             }
             StmtNode::Empty => self.draft.put(Op::Step),
             StmtNode::Return => put_return(&mut self.draft),
@@ -324,7 +325,7 @@ impl Maker {
             StmtNode::ReturnValue(value) => self.value(alloc, tree, *value, Op::Return),
             StmtNode::Await(value) => self.awaited(alloc, tree, *value, Op::Drop),
             StmtNode::PrintAwait(value) => self.awaited(alloc, tree, *value, Op::PrintAwaited),
-            StmtNode::Assign(name, init) => self.assign(alloc, tree, name.as_str(), *init),
+            StmtNode::Assign(parts) => self.assign(alloc, tree, parts.name.as_str(), parts.value),
             StmtNode::Const(bindings) => self.declaration(alloc, tree, bindings.as_slice()),
             StmtNode::Let(bindings) => self.declaration(alloc, tree, bindings.as_slice()),
             StmtNode::Default(init) => self.defaults(alloc, tree, *init),

@@ -93,12 +93,12 @@ fn node_first(node: &StmtNode) -> &[StmtId]
 {
     match node {
         StmtNode::If(_, ids) => ids.as_slice(),
-        StmtNode::IfElse(_, ids, _) => ids.as_slice(),
-        StmtNode::Try(ids, _) => ids.as_slice(),
-        StmtNode::TryCatch(ids, _, _) => ids.as_slice(),
+        StmtNode::IfElse(_, parts) => parts.body.as_slice(),
+        StmtNode::Try(parts) => parts.body.as_slice(),
+        StmtNode::TryCatch(parts) => parts.body.as_slice(),
         StmtNode::Empty => &[],
         StmtNode::Expression(_) => &[],
-        StmtNode::Assign(_, _) => &[],
+        StmtNode::Assign(_) => &[],
         StmtNode::Block(_) => &[],
         StmtNode::Throw(_) => &[],
         StmtNode::Return => &[],

@@ -69,12 +69,12 @@ fn stmt_awaits(tree: &Tree, id: StmtId) -> bool
 {
     let below = id.0 as usize;
     match tree.stmt(id) {
-        StmtNode::Assign(_, value) => init_awaits(value),
+        StmtNode::Assign(parts) => init_awaits(&parts.value),
         StmtNode::Block(ids) => stmts_await(tree, below, ids),
         StmtNode::If(_, ids) => stmts_await(tree, below, ids),
-        StmtNode::IfElse(_, ids, others) => either_awaits(tree, below, ids, others),
-        StmtNode::Try(ids, others) => either_awaits(tree, below, ids, others),
-        StmtNode::TryCatch(ids, _, others) => either_awaits(tree, below, ids, others),
+        StmtNode::IfElse(_, parts) => either_awaits(tree, below, &parts.body, &parts.others),
+        StmtNode::Try(parts) => either_awaits(tree, below, &parts.body, &parts.handler),
+        StmtNode::TryCatch(parts) => either_awaits(tree, below, &parts.body, &parts.handler),
         StmtNode::Await(_) => true,
         StmtNode::PrintAwait(_) => true,
         StmtNode::Const(bindings) => bindings_await(bindings),

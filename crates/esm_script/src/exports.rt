@@ -88,18 +88,18 @@ fn add_exports(
         (item_of tree.now.stmts item.now))) }
 {
     match item {
-        ItemNode::ExportAllAs(name, specifier) => {
-            let request = place_of(requests, specifier);
-            exports.add_space(name, request)
+        ItemNode::ExportAllAs(node) => {
+            let request = place_of(requests, &node.specifier);
+            exports.add_space(&node.name, request)
         }
-        ItemNode::ExportFrom(specifiers, specifier) => {
-            let request = place_of(requests, specifier);
-            exports.add_all_passed(request, specifiers)
+        ItemNode::ExportFrom(node) => {
+            let request = place_of(requests, &node.specifier);
+            exports.add_all_passed(request, &node.list)
         }
         ItemNode::ExportList(specifiers) => exports.add_all_listed(index, specifiers),
         ItemNode::ExportStatement(id) => add_statement(alloc, exports, tree, *id),
-        ItemNode::ExportFunction(name, _, _) => exports.add_own(name),
-        ItemNode::ExportDefaultFunction(name, _, _) => add_function(alloc, exports, name),
+        ItemNode::ExportFunction(node) => exports.add_own(&node.name),
+        ItemNode::ExportDefaultFunction(node) => add_function(alloc, exports, &node.name),
         _ => Ok(()),
     }
 }

@@ -61,9 +61,9 @@ fn add_imports(
         ≡ imports.old.items ++ entries.imports_of requests.now.keys (item_of stmts item.now)) }
 {
     match item {
-        ItemNode::Import(specifier, bindings) => {
-            let request = place_of(requests, specifier);
-            add_bindings(imports, request, bindings)
+        ItemNode::Import(node) => {
+            let request = place_of(requests, &node.specifier);
+            add_bindings(imports, request, &node.bindings)
         }
         _ => Ok(()),
     }

@@ -16,10 +16,10 @@ fn specifier_of(item: &ItemNode) -> Option<&Text>
 {
     match item {
         ItemNode::ImportEffect(specifier) => Some(specifier),
-        ItemNode::Import(specifier, _) => Some(specifier),
+        ItemNode::Import(node) => Some(&node.specifier),
         ItemNode::ExportAll(specifier) => Some(specifier),
-        ItemNode::ExportAllAs(_, specifier) => Some(specifier),
-        ItemNode::ExportFrom(_, specifier) => Some(specifier),
+        ItemNode::ExportAllAs(node) => Some(&node.specifier),
+        ItemNode::ExportFrom(node) => Some(&node.specifier),
         _ => None,
     }
 }

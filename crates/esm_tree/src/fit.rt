@@ -6,8 +6,12 @@ ghost use Rattle.std.specs.Prelude.{◌≡◌, ℕ, List, IfOk};
 ghost use Rattle.esm_tree.specs.Syntax.{Expr, Stmt};
 ghost use Rattle.esm_tree.specs.Flat as flat;
 
-use crate::{ExprNode, ItemNode, StmtNode};
-use esm_base::Memory;
+use crate::{
+    DefaultFunction, ExportSpecifier, ExprNode, FunctionNode, ImportBinding, ImportNode,
+    PassedExports, StmtId, StmtNode,
+};
+use esm_base::{Memory, Text};
+use std::alloc::Global;
 
 // The same list in a block of its own size.
 fn tight<T: Drop>(list: Vec<T>) -> Result<Vec<T>, Memory>
@@ -49,25 +53,102 @@ pub(crate) fn fit_stmt(node: StmtNode) -> Result<StmtNode, Memory>
     }
 }
 
-/// The same item.
-pub(crate) fn fit_item(node: ItemNode) -> Result<ItemNode, Memory>
-    ensures same { IfOk result (λ n. (stmts : List Stmt) →
-        flat.item_of stmts n ≡ flat.item_of stmts node) }
-    ensures need { IfOk result (λ n. flat.item_need n ≡ flat.item_need node) }
-{
-    match node {
-        ItemNode::Import(specifier, bindings) => Ok(ItemNode::Import(specifier, tight(bindings)?)),
-        ItemNode::ExportFrom(list, specifier) => Ok(ItemNode::ExportFrom(tight(list)?, specifier)),
-        ItemNode::ExportList(list) => Ok(ItemNode::ExportList(tight(list)?)),
-        ItemNode::ExportFunction(name, parameters, body) => {
-            Ok(ItemNode::ExportFunction(name, tight(parameters)?, body))
-        }
-        ItemNode::ExportDefaultFunction(name, parameters, body) => {
-            Ok(ItemNode::ExportDefaultFunction(name, tight(parameters)?, body))
-        }
-        ItemNode::Function(name, parameters, body) => {
-            Ok(ItemNode::Function(name, tight(parameters)?, body))
-        }
-        other => Ok(other),
+impl ImportNode {
+    /// The node, in memory of its own.
+    pub fn boxed(
+        alloc: Global,
+        specifier: Text,
+        bindings: Vec<ImportBinding>,
+    ) -> Result<Box<ImportNode>, Memory>
+        ensures specifier { IfOk result (λ n. n.value.specifier ≡ specifier) }
+        ensures bindings { IfOk result (λ n. n.value.bindings.items ≡ bindings.items) }
+    {
+        let bindings = tight(bindings)?;
+        let node = Box::new(
+            alloc,
+            ImportNode {
+                specifier,
+                bindings,
+            },
+        )?;
+        Ok(node)
     }
+}
+
+impl PassedExports {
+    /// The exports, in memory of their own.
+    pub fn boxed(
+        alloc: Global,
+        list: Vec<ExportSpecifier>,
+        specifier: Text,
+    ) -> Result<Box<PassedExports>, Memory>
+        ensures list { IfOk result (λ n. n.value.list.items ≡ list.items) }
+        ensures specifier { IfOk result (λ n. n.value.specifier ≡ specifier) }
+    {
+        let list = tight(list)?;
+        let node = Box::new(alloc, PassedExports { list, specifier })?;
+        Ok(node)
+    }
+}
+
+impl FunctionNode {
+    /// The function, in memory of its own.
+    pub fn boxed(
+        alloc: Global,
+        name: Text,
+        parameters: Vec<Text>,
+        body: Vec<StmtId>,
+    ) -> Result<Box<FunctionNode>, Memory>
+        ensures name { IfOk result (λ n. n.value.name ≡ name) }
+        ensures parameters { IfOk result (λ n. n.value.parameters.items ≡ parameters.items) }
+        ensures body { IfOk result (λ n. n.value.body.items ≡ body.items) }
+    {
+        let parameters = tight(parameters)?;
+        let node = Box::new(
+            alloc,
+            FunctionNode {
+                name,
+                parameters,
+                body,
+            },
+        )?;
+        Ok(node)
+    }
+}
+
+impl DefaultFunction {
+    /// The function, in memory of its own.
+    pub fn boxed(
+        alloc: Global,
+        name: Option<Text>,
+        parameters: Vec<Text>,
+        body: Vec<StmtId>,
+    ) -> Result<Box<DefaultFunction>, Memory>
+        ensures name { IfOk result (λ n. n.value.name ≡ name) }
+        ensures parameters { IfOk result (λ n. n.value.parameters.items ≡ parameters.items) }
+        ensures body { IfOk result (λ n. n.value.body.items ≡ body.items) }
+    {
+        let parameters = tight(parameters)?;
+        let node = Box::new(
+            alloc,
+            DefaultFunction {
+                name,
+                parameters,
+                body,
+            },
+        )?;
+        Ok(node)
+    }
+}
+
+/// The list of an export, in memory of its own.
+pub fn boxed_list(
+    alloc: Global,
+    list: Vec<ExportSpecifier>,
+) -> Result<Box<Vec<ExportSpecifier>>, Memory>
+    ensures { IfOk result (λ n. n.value.items ≡ list.items) }
+{
+    let list = tight(list)?;
+    let boxed = Box::new(alloc, list)?;
+    Ok(boxed)
 }
