@@ -1,7 +1,8 @@
 -- Which forms can be run, one by one.
-use Rattle.std.proofs.Common.{◌≡◌, ◌≢◌, ℕ, zero, suc, ◌+◌, ◌<◌, ◌≤◌, Bool, true, false, List, [], ◌∷◌, length, map, drop, get_or, Some, None, refl, sym, ap, ◌∙◌, arith, subst}
+use Rattle.std.proofs.Common.{◌≡◌, ◌≢◌, ℕ, zero, suc, ◌+◌, ◌<◌, ◌≤◌, Bool, true, false, List, [], ◌∷◌, length, map, drop, get_or, Some, None, Box, refl, sym, ap, ◌∙◌, arith, subst}
 use Rattle.std.specs.Prelude.{◌&&◌, is_some, slice_index_or}
 use Rattle.std.proofs.lemmas.List.{drop_more, drop_all}
+use Rattle.std.specs.declared.alloc.Global.{Global}
 use Rattle.esm_base.specs.Urls.{Text}
 use Rattle.esm_tree.specs.declared.node.ExprId.{ExprId}
 use Rattle.esm_tree.specs.ExprIds.{ExprIds}
@@ -32,7 +33,7 @@ other_statement exprs stmts s.Empty a b = absurd (a refl)
 other_statement exprs stmts (s.Expression id) a b = absurd (b id refl)
 other_statement exprs stmts _ a b = refl
 
-pub other_item : (stmts : List Stmt) (node : ItemNode) → ((t : Text) → node ≢ i.ImportEffect t) → ((id : StmtId) → node ≢ i.Statement id) → None ≡ form_of (item_of stmts node)
+pub other_item : (stmts : List Stmt) (node : ItemNode) → ((t : Box Text Global) → node ≢ i.ImportEffect t) → ((id : StmtId) → node ≢ i.Statement id) → None ≡ form_of (item_of stmts node)
 other_item stmts (i.ImportEffect t) a b = absurd (a t refl)
 other_item stmts (i.Statement id) a b = absurd (b id refl)
 other_item stmts _ a b = refl

@@ -1,5 +1,5 @@
 -- What items export, declare and list, one after another; and the order in which early errors are looked for.
-use Rattle.std.proofs.Common.{◌≡◌, ◌≢◌, ℕ, zero, suc, ◌+◌, ◌<◌, ◌≤◌, Bool, true, false, not, ◌||◌, List, [], ◌∷◌, ◌++◌, length, drop, get_or, Option, Some, None, Vec, refl, sym, ap, ◌∙◌, arith}
+use Rattle.std.proofs.Common.{◌≡◌, ◌≢◌, ℕ, zero, suc, ◌+◌, ◌<◌, ◌≤◌, Bool, true, false, not, ◌||◌, List, [], ◌∷◌, ◌++◌, length, drop, get_or, Option, Some, None, Vec, Box, refl, sym, ap, ◌∙◌, arith}
 use Rattle.std.specs.List.{list_any}
 use Rattle.std.specs.Borrow.{Bor}
 use Rattle.std.specs.BTreeSet.{BTreeSet}
@@ -10,7 +10,11 @@ use Rattle.esm_tree.specs.declared.node.StmtNode.{StmtNode}
 use Rattle.esm_tree.specs.declared.node.StmtNode.TheVariants as n
 use Rattle.esm_tree.specs.declared.node.StmtId.{StmtId}
 use Rattle.esm_tree.specs.declared.node.Initializer.{Initializer}
-use Rattle.esm_tree.specs.declared.node.ImportBinding.{ImportBinding}
+use Rattle.esm_tree.specs.declared.node.ImportNode.{ImportNode}
+use Rattle.esm_tree.specs.declared.node.NamespaceExport.{NamespaceExport}
+use Rattle.esm_tree.specs.declared.node.PassedExports.{PassedExports}
+use Rattle.esm_tree.specs.declared.node.FunctionNode.{FunctionNode}
+use Rattle.esm_tree.specs.declared.node.DefaultFunction.{DefaultFunction}
 use Rattle.esm_tree.specs.declared.node.ExportSpecifier.{ExportSpecifier}
 use Rattle.esm_tree.specs.Syntax.{Expr, Stmt, Item}
 use Rattle.esm_tree.specs.Flat.{stmt_of, item_of, item_need, items_of, items_need, AllAtMost}
@@ -23,31 +27,31 @@ use Rattle.esm_parse_mod.proofs.SeenLemmas.{clashes_both}
 
 -- ---- the other items
 
-pub none_declared : (stmts : List Stmt) (node : ItemNode) → ((s : Text) (bs : Vec ImportBinding Global) → node ≢ i.Import s bs) → ((a : StmtId) → node ≢ i.ExportStatement a) → ((a : StmtId) → node ≢ i.Statement a)
-    → ((s : Text) (ps : Vec Text Global) (a : Vec StmtId Global) → node ≢ i.ExportFunction s ps a) → ((s : Option Text) (ps : Vec Text Global) (a : Vec StmtId Global) → node ≢ i.ExportDefaultFunction s ps a)
-    → ((s : Text) (ps : Vec Text Global) (a : Vec StmtId Global) → node ≢ i.Function s ps a) → declared_of (item_of stmts node) ≡ []
+pub none_declared : (stmts : List Stmt) (node : ItemNode) → ((p : Box ImportNode Global) → node ≢ i.Import p) → ((a : StmtId) → node ≢ i.ExportStatement a) → ((a : StmtId) → node ≢ i.Statement a)
+    → ((f : Box FunctionNode Global) → node ≢ i.ExportFunction f) → ((f : Box DefaultFunction Global) → node ≢ i.ExportDefaultFunction f)
+    → ((f : Box FunctionNode Global) → node ≢ i.Function f) → declared_of (item_of stmts node) ≡ []
 unfolding declared_of
-none_declared stmts (i.Import s bs) h _ _ _ _ _ = absurd (h s bs refl)
+none_declared stmts (i.Import p) h _ _ _ _ _ = absurd (h p refl)
 none_declared stmts (i.ExportStatement a) _ h _ _ _ _ = absurd (h a refl)
 none_declared stmts (i.Statement a) _ _ h _ _ _ = absurd (h a refl)
-none_declared stmts (i.ExportFunction s ps a) _ _ _ h _ _ = absurd (h s ps a refl)
-none_declared stmts (i.ExportDefaultFunction s ps a) _ _ _ _ h _ = absurd (h s ps a refl)
-none_declared stmts (i.Function s ps a) _ _ _ _ _ h = absurd (h s ps a refl)
+none_declared stmts (i.ExportFunction f) _ _ _ h _ _ = absurd (h f refl)
+none_declared stmts (i.ExportDefaultFunction f) _ _ _ _ h _ = absurd (h f refl)
+none_declared stmts (i.Function f) _ _ _ _ _ h = absurd (h f refl)
 none_declared stmts _ _ _ _ _ _ _ = refl
 
-pub none_exported : (stmts : List Stmt) (node : ItemNode) → ((m s : Text) → node ≢ i.ExportAllAs m s) → ((es : Vec ExportSpecifier Global) (s : Text) → node ≢ i.ExportFrom es s) → ((es : Vec ExportSpecifier Global) → node ≢ i.ExportList es)
-    → ((a : StmtId) → node ≢ i.ExportStatement a) → ((s : Text) (ps : Vec Text Global) (a : Vec StmtId Global) → node ≢ i.ExportFunction s ps a) → ((s : Option Text) (ps : Vec Text Global) (a : Vec StmtId Global) → node ≢ i.ExportDefaultFunction s ps a)
+pub none_exported : (stmts : List Stmt) (node : ItemNode) → ((p : Box NamespaceExport Global) → node ≢ i.ExportAllAs p) → ((p : Box PassedExports Global) → node ≢ i.ExportFrom p) → ((es : Box (Vec ExportSpecifier Global) Global) → node ≢ i.ExportList es)
+    → ((a : StmtId) → node ≢ i.ExportStatement a) → ((f : Box FunctionNode Global) → node ≢ i.ExportFunction f) → ((f : Box DefaultFunction Global) → node ≢ i.ExportDefaultFunction f)
     → exported_of (item_of stmts node) ≡ []
 unfolding exported_of
-none_exported stmts (i.ExportAllAs m s) h _ _ _ _ _ = absurd (h m s refl)
-none_exported stmts (i.ExportFrom es s) _ h _ _ _ _ = absurd (h es s refl)
+none_exported stmts (i.ExportAllAs p) h _ _ _ _ _ = absurd (h p refl)
+none_exported stmts (i.ExportFrom p) _ h _ _ _ _ = absurd (h p refl)
 none_exported stmts (i.ExportList es) _ _ h _ _ _ = absurd (h es refl)
 none_exported stmts (i.ExportStatement a) _ _ _ h _ _ = absurd (h a refl)
-none_exported stmts (i.ExportFunction s ps a) _ _ _ _ h _ = absurd (h s ps a refl)
-none_exported stmts (i.ExportDefaultFunction s ps a) _ _ _ _ _ h = absurd (h s ps a refl)
+none_exported stmts (i.ExportFunction f) _ _ _ _ h _ = absurd (h f refl)
+none_exported stmts (i.ExportDefaultFunction f) _ _ _ _ _ h = absurd (h f refl)
 none_exported stmts _ _ _ _ _ _ _ = refl
 
-pub none_listed : (stmts : List Stmt) (node : ItemNode) → ((es : Vec ExportSpecifier Global) → node ≢ i.ExportList es) → listed_of (item_of stmts node) ≡ []
+pub none_listed : (stmts : List Stmt) (node : ItemNode) → ((es : Box (Vec ExportSpecifier Global) Global) → node ≢ i.ExportList es) → listed_of (item_of stmts node) ≡ []
 unfolding listed_of
 none_listed stmts (i.ExportList es) h = absurd (h es refl)
 none_listed stmts _ h = refl

@@ -1,11 +1,16 @@
 -- Which names stood before, in a loop that looks for a repeat.
 use Rattle.std.proofs.Common.{◌≡◌, ℕ, ◌+◌, drop, Bool, true, false, ◌||◌, cond, List, [], ◌∷◌, ◌++◌, refl, sym, ap, ◌∙◌, append-nil, append_assoc}
-use Rattle.std.proofs.Common.{◌≢◌, ◌<◌, ◌≤◌, max, arith, Option, Vec}
+use Rattle.std.proofs.Common.{◌≢◌, ◌<◌, ◌≤◌, max, arith, Vec, Box}
 use Rattle.esm_tree.specs.declared.node.ItemNode.{ItemNode}
 use Rattle.esm_tree.specs.declared.node.ItemNode.TheVariants as i
 use Rattle.std.specs.declared.alloc.Global.{Global}
 use Rattle.esm_tree.specs.declared.node.ExprId.{ExprId}
 use Rattle.esm_tree.specs.declared.node.StmtNode.{StmtNode}
+use Rattle.esm_tree.specs.declared.node.Branches.{Branches}
+use Rattle.esm_tree.specs.declared.node.Attempt.{Attempt}
+use Rattle.esm_tree.specs.declared.node.NamedAttempt.{NamedAttempt}
+use Rattle.esm_tree.specs.declared.node.FunctionNode.{FunctionNode}
+use Rattle.esm_tree.specs.declared.node.DefaultFunction.{DefaultFunction}
 use Rattle.esm_tree.specs.declared.node.StmtNode.TheVariants as n
 use Rattle.std.specs.Str.{bytes_eq}
 use Rattle.std.specs.Borrow.{Bor}
@@ -134,13 +139,13 @@ pub clashes_both : (xs ys : List Scope) → any_clashes (xs ++ ys) ≡ (any_clas
 unfolding any_clashes
 clashes_both xs ys = any_append clashes xs ys
 
-pub other_scopes : (exprs : List Expr) (stmts : List Stmt) (node : StmtNode) → ((a : Vec StmtId Global) → node ≢ n.Block a) → ((e : ExprId) (a : Vec StmtId Global) → node ≢ n.If e a) → ((e : ExprId) (a b : Vec StmtId Global) → node ≢ n.IfElse e a b) → ((a b : Vec StmtId Global) → node ≢ n.Try a b) → ((a : Vec StmtId Global) (s : Text) (b : Vec StmtId Global) → node ≢ n.TryCatch a s b) → stmt_scopes (stmt_of exprs stmts node) ≡ []
+pub other_scopes : (exprs : List Expr) (stmts : List Stmt) (node : StmtNode) → ((a : Vec StmtId Global) → node ≢ n.Block a) → ((e : ExprId) (a : Vec StmtId Global) → node ≢ n.If e a) → ((e : ExprId) (p : Box Branches Global) → node ≢ n.IfElse e p) → ((p : Box Attempt Global) → node ≢ n.Try p) → ((p : Box NamedAttempt Global) → node ≢ n.TryCatch p) → stmt_scopes (stmt_of exprs stmts node) ≡ []
 unfolding stmt_scopes
 other_scopes exprs stmts (n.Block a) h _ _ _ _ = absurd (h a refl)
 other_scopes exprs stmts (n.If e a) _ h _ _ _ = absurd (h e a refl)
-other_scopes exprs stmts (n.IfElse e a b) _ _ h _ _ = absurd (h e a b refl)
-other_scopes exprs stmts (n.Try a b) _ _ _ h _ = absurd (h a b refl)
-other_scopes exprs stmts (n.TryCatch a s b) _ _ _ _ h = absurd (h a s b refl)
+other_scopes exprs stmts (n.IfElse e p) _ _ h _ _ = absurd (h e p refl)
+other_scopes exprs stmts (n.Try p) _ _ _ h _ = absurd (h p refl)
+other_scopes exprs stmts (n.TryCatch p) _ _ _ _ h = absurd (h p refl)
 other_scopes exprs stmts _ _ _ _ _ _ = refl
 
 pub none_first : (ps : List Text) → texts [] ++ ps ≡ ps
@@ -154,12 +159,12 @@ pub below_needs : (n : ℕ) (ids : List StmtId) → stmts_need ids ≤ n → All
 below_needs n [] h = tt
 below_needs n (id ∷ ids) h = let p = first_below id.0 (stmts_need ids) n h in (p.0, below_needs n ids p.1)
 
-pub other_items : (stmts : List Stmt) (node : ItemNode) → ((a : StmtId) → node ≢ i.ExportStatement a) → ((a : StmtId) → node ≢ i.Statement a) → ((s : Text) (ps : Vec Text Global) (a : Vec StmtId Global) → node ≢ i.ExportFunction s ps a)
-    → ((s : Option Text) (ps : Vec Text Global) (a : Vec StmtId Global) → node ≢ i.ExportDefaultFunction s ps a) → ((s : Text) (ps : Vec Text Global) (a : Vec StmtId Global) → node ≢ i.Function s ps a) → item_scopes (item_of stmts node) ≡ []
+pub other_items : (stmts : List Stmt) (node : ItemNode) → ((a : StmtId) → node ≢ i.ExportStatement a) → ((a : StmtId) → node ≢ i.Statement a) → ((f : Box FunctionNode Global) → node ≢ i.ExportFunction f)
+    → ((f : Box DefaultFunction Global) → node ≢ i.ExportDefaultFunction f) → ((f : Box FunctionNode Global) → node ≢ i.Function f) → item_scopes (item_of stmts node) ≡ []
 unfolding item_scopes
 other_items stmts (i.ExportStatement a) h _ _ _ _ = absurd (h a refl)
 other_items stmts (i.Statement a) _ h _ _ _ = absurd (h a refl)
-other_items stmts (i.ExportFunction s ps a) _ _ h _ _ = absurd (h s ps a refl)
-other_items stmts (i.ExportDefaultFunction s ps a) _ _ _ h _ = absurd (h s ps a refl)
-other_items stmts (i.Function s ps a) _ _ _ _ h = absurd (h s ps a refl)
+other_items stmts (i.ExportFunction f) _ _ h _ _ = absurd (h f refl)
+other_items stmts (i.ExportDefaultFunction f) _ _ _ h _ = absurd (h f refl)
+other_items stmts (i.Function f) _ _ _ _ h = absurd (h f refl)
 other_items stmts _ _ _ _ _ _ = refl

@@ -1,5 +1,5 @@
 -- Which statements await, one by one.
-use Rattle.std.proofs.Common.{◌≡◌, ◌≢◌, ℕ, zero, suc, ◌+◌, ◌<◌, ◌≤◌, Bool, true, false, List, [], ◌∷◌, length, drop, get_or, Vec, refl, ap, ◌∙◌, arith}
+use Rattle.std.proofs.Common.{◌≡◌, ◌≢◌, ℕ, zero, suc, ◌+◌, ◌<◌, ◌≤◌, Bool, true, false, List, [], ◌∷◌, length, drop, get_or, Vec, Box, refl, ap, ◌∙◌, arith}
 use Rattle.std.specs.Prelude.{◌||◌}
 use Rattle.std.specs.List.{list_any}
 use Rattle.std.specs.declared.alloc.Global.{Global}
@@ -7,13 +7,16 @@ use Rattle.esm_tree.specs.declared.node.ExprId.{ExprId}
 use Rattle.esm_tree.specs.declared.node.StmtId.{StmtId}
 use Rattle.esm_tree.specs.declared.node.Initializer.{Initializer}
 use Rattle.esm_tree.specs.declared.node.LexicalBinding.{LexicalBinding}
+use Rattle.esm_tree.specs.declared.node.Assignment.{Assignment}
+use Rattle.esm_tree.specs.declared.node.Branches.{Branches}
+use Rattle.esm_tree.specs.declared.node.Attempt.{Attempt}
+use Rattle.esm_tree.specs.declared.node.NamedAttempt.{NamedAttempt}
 use Rattle.esm_tree.specs.declared.node.StmtNode.{StmtNode}
 use Rattle.esm_tree.specs.declared.node.StmtNode.TheVariants as n
 use Rattle.esm_tree.specs.declared.node.ItemNode.{ItemNode}
 use Rattle.esm_tree.specs.declared.node.ItemNode.TheVariants as i
 use Rattle.esm_tree.specs.Syntax.{Expr, Stmt}
 use Rattle.esm_tree.specs.Flat.{init_of, bindings_of, stmt_of, stmt_part, stmt_parts, AllStmtsBelow, item_of, items_of}
-use Rattle.esm_base.specs.Urls.{Text}
 use Rattle.esm_ast.specs.Entries.{init_awaits, bindings_await, stmt_awaits, stmts_await, item_awaits}
 use Rattle.esm_script.proofs.Items.{at_is, past}
 
@@ -60,20 +63,20 @@ get_or_any (y ∷ ys) zero d e h = refl
 get_or_any (y ∷ ys) (suc k) d e h = get_or_any ys k d e (omega arith)
 
 pub other_statement : (exprs : List Expr) (stmts : List Stmt) (node : StmtNode)
-    → ((s : Text) (v : Initializer) → node ≢ n.Assign s v)
+    → ((p : Box Assignment Global) → node ≢ n.Assign p)
     → ((a : Vec StmtId Global) → node ≢ n.Block a) → ((e : ExprId) (a : Vec StmtId Global) → node ≢ n.If e a)
-    → ((e : ExprId) (a b : Vec StmtId Global) → node ≢ n.IfElse e a b) → ((a b : Vec StmtId Global) → node ≢ n.Try a b)
-    → ((a : Vec StmtId Global) (s : Text) (b : Vec StmtId Global) → node ≢ n.TryCatch a s b)
+    → ((e : ExprId) (p : Box Branches Global) → node ≢ n.IfElse e p) → ((p : Box Attempt Global) → node ≢ n.Try p)
+    → ((p : Box NamedAttempt Global) → node ≢ n.TryCatch p)
     → ((e : ExprId) → node ≢ n.Await e) → ((e : ExprId) → node ≢ n.PrintAwait e)
     → ((bs : Vec LexicalBinding Global) → node ≢ n.Const bs) → ((bs : Vec LexicalBinding Global) → node ≢ n.Let bs)
     → ((v : Initializer) → node ≢ n.Default v) → stmt_awaits (stmt_of exprs stmts node) ≡ false
 unfolding stmt_awaits
-other_statement exprs stmts (n.Assign s v) z a b c d e f g h l m = absurd (z s v refl)
+other_statement exprs stmts (n.Assign p) z a b c d e f g h l m = absurd (z p refl)
 other_statement exprs stmts (n.Block x) z a b c d e f g h l m = absurd (a x refl)
 other_statement exprs stmts (n.If y x) z a b c d e f g h l m = absurd (b y x refl)
-other_statement exprs stmts (n.IfElse y x w) z a b c d e f g h l m = absurd (c y x w refl)
-other_statement exprs stmts (n.Try x w) z a b c d e f g h l m = absurd (d x w refl)
-other_statement exprs stmts (n.TryCatch x s w) z a b c d e f g h l m = absurd (e x s w refl)
+other_statement exprs stmts (n.IfElse y p) z a b c d e f g h l m = absurd (c y p refl)
+other_statement exprs stmts (n.Try p) z a b c d e f g h l m = absurd (d p refl)
+other_statement exprs stmts (n.TryCatch p) z a b c d e f g h l m = absurd (e p refl)
 other_statement exprs stmts (n.Await y) z a b c d e f g h l m = absurd (f y refl)
 other_statement exprs stmts (n.PrintAwait y) z a b c d e f g h l m = absurd (g y refl)
 other_statement exprs stmts (n.Const bs) z a b c d e f g h l m = absurd (h bs refl)

@@ -1,5 +1,5 @@
 -- Exports that are gathered, and the index of imported names.
-use Rattle.std.proofs.Common.{◌≡◌, ◌≢◌, ℕ, zero, suc, ◌+◌, ◌-◌, ◌<◌, ◌≤◌, Bool, true, false, cond, List, [], ◌∷◌, ◌++◌, length, map, drop, get_or, Option, Some, None, Vec, refl, sym, ap, subst, ◌∙◌, arith, append_assoc, append-nil}
+use Rattle.std.proofs.Common.{◌≡◌, ◌≢◌, ℕ, zero, suc, ◌+◌, ◌-◌, ◌<◌, ◌≤◌, Bool, true, false, cond, List, [], ◌∷◌, ◌++◌, length, map, drop, get_or, Option, Some, None, Vec, Box, refl, sym, ap, subst, ◌∙◌, arith, append_assoc, append-nil}
 use Rattle.std.specs.Prelude.{option_map, bytes_eq}
 use Rattle.std.specs.Borrow.{Bor}
 use Rattle.std.specs.Map.{update}
@@ -7,6 +7,10 @@ use Rattle.std.specs.declared.alloc.Global.{Global}
 use Rattle.esm_tree.specs.declared.node.LexicalBinding.{LexicalBinding}
 use Rattle.esm_tree.specs.declared.node.ExportSpecifier.{ExportSpecifier}
 use Rattle.esm_tree.specs.declared.node.Initializer.{Initializer}
+use Rattle.esm_tree.specs.declared.node.NamespaceExport.{NamespaceExport}
+use Rattle.esm_tree.specs.declared.node.PassedExports.{PassedExports}
+use Rattle.esm_tree.specs.declared.node.FunctionNode.{FunctionNode}
+use Rattle.esm_tree.specs.declared.node.DefaultFunction.{DefaultFunction}
 use Rattle.esm_tree.specs.declared.node.StmtId.{StmtId}
 use Rattle.esm_tree.specs.declared.node.StmtNode.{StmtNode}
 use Rattle.esm_tree.specs.declared.node.StmtNode.TheVariants as n
@@ -134,15 +138,15 @@ other_statement exprs stmts (n.Const bs) a b c = absurd (b bs refl)
 other_statement exprs stmts (n.Let bs) a b c = absurd (c bs refl)
 other_statement exprs stmts _ a b c = refl
 
-pub other_exports : (requests : List Text) (imports : List ImportEntry) (stmts : List Stmt) (node : ItemNode) → ((m s : Text) → node ≢ i.ExportAllAs m s) → ((es : Vec ExportSpecifier Global) (s : Text) → node ≢ i.ExportFrom es s)
-    → ((es : Vec ExportSpecifier Global) → node ≢ i.ExportList es) → ((id : StmtId) → node ≢ i.ExportStatement id)
-    → ((m : Text) (ps : Vec Text Global) (ids : Vec StmtId Global) → node ≢ i.ExportFunction m ps ids)
-    → ((m : Option Text) (ps : Vec Text Global) (ids : Vec StmtId Global) → node ≢ i.ExportDefaultFunction m ps ids) → exports_of requests imports (item_of stmts node) ≡ []
+pub other_exports : (requests : List Text) (imports : List ImportEntry) (stmts : List Stmt) (node : ItemNode) → ((p : Box NamespaceExport Global) → node ≢ i.ExportAllAs p) → ((p : Box PassedExports Global) → node ≢ i.ExportFrom p)
+    → ((es : Box (Vec ExportSpecifier Global) Global) → node ≢ i.ExportList es) → ((id : StmtId) → node ≢ i.ExportStatement id)
+    → ((f : Box FunctionNode Global) → node ≢ i.ExportFunction f)
+    → ((f : Box DefaultFunction Global) → node ≢ i.ExportDefaultFunction f) → exports_of requests imports (item_of stmts node) ≡ []
 unfolding exports_of
-other_exports requests imports stmts (i.ExportAllAs m s) a b c d e f = absurd (a m s refl)
-other_exports requests imports stmts (i.ExportFrom es s) a b c d e f = absurd (b es s refl)
+other_exports requests imports stmts (i.ExportAllAs p) a b c d e f = absurd (a p refl)
+other_exports requests imports stmts (i.ExportFrom p) a b c d e f = absurd (b p refl)
 other_exports requests imports stmts (i.ExportList es) a b c d e f = absurd (c es refl)
 other_exports requests imports stmts (i.ExportStatement id) a b c d e f = absurd (d id refl)
-other_exports requests imports stmts (i.ExportFunction m ps ids) a b c d e f = absurd (e m ps ids refl)
-other_exports requests imports stmts (i.ExportDefaultFunction m ps ids) a b c d e f = absurd (f m ps ids refl)
+other_exports requests imports stmts (i.ExportFunction p) a b c d e f = absurd (e p refl)
+other_exports requests imports stmts (i.ExportDefaultFunction p) a b c d e f = absurd (f p refl)
 other_exports requests imports stmts _ a b c d e f = refl

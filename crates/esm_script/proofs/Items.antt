@@ -1,12 +1,13 @@
 -- The items of a tree, one by one.
-use Rattle.std.proofs.Common.{◌≡◌, ◌≢◌, ℕ, ◌+◌, ◌<◌, ◌≤◌, Bool, true, false, cond, List, [], ◌∷◌, ◌++◌, length, map, drop, get_or, Some, None, Vec, refl, sym, ap, ◌∙◌, arith, append_assoc, append-nil}
+use Rattle.std.proofs.Common.{◌≡◌, ◌≢◌, ℕ, ◌+◌, ◌<◌, ◌≤◌, Bool, true, false, cond, List, [], ◌∷◌, ◌++◌, length, map, drop, get_or, Some, None, Box, refl, sym, ap, ◌∙◌, arith, append_assoc, append-nil}
 use Rattle.std.proofs.lemmas.List.{drop_more, drop_all}
 use Rattle.std.proofs.lemmas.List.Sums.{prefix_len-le-length}
 use Rattle.std.specs.Prelude.{nat_lt, not}
 use Rattle.std.specs.List.{position, position_or_len}
 use Rattle.std.specs.declared.alloc.Global.{Global}
-use Rattle.esm_tree.specs.declared.node.ImportBinding.{ImportBinding}
-use Rattle.esm_tree.specs.declared.node.ExportSpecifier.{ExportSpecifier}
+use Rattle.esm_tree.specs.declared.node.ImportNode.{ImportNode}
+use Rattle.esm_tree.specs.declared.node.NamespaceExport.{NamespaceExport}
+use Rattle.esm_tree.specs.declared.node.PassedExports.{PassedExports}
 use Rattle.esm_tree.specs.declared.node.ItemNode.{ItemNode}
 use Rattle.esm_tree.specs.declared.node.ItemNode.TheVariants as i
 use Rattle.esm_tree.specs.Syntax.{Stmt, Item, ExportAll}
@@ -58,47 +59,47 @@ star_first requests (ExportAll s) xs = refl
 star_first requests _ xs = refl
 
 module _ (stmts : List Stmt) where
-  pub other_request : (node : ItemNode) → ((s : Text) → node ≢ i.ImportEffect s) → ((s : Text) (bs : Vec ImportBinding Global) → node ≢ i.Import s bs) → ((s : Text) → node ≢ i.ExportAll s) → ((n s : Text) → node ≢ i.ExportAllAs n s)
-      → ((es : Vec ExportSpecifier Global) (s : Text) → node ≢ i.ExportFrom es s) → None ≡ request_of (item_of stmts node)
+  pub other_request : (node : ItemNode) → ((s : Box Text Global) → node ≢ i.ImportEffect s) → ((p : Box ImportNode Global) → node ≢ i.Import p) → ((s : Box Text Global) → node ≢ i.ExportAll s) → ((p : Box NamespaceExport Global) → node ≢ i.ExportAllAs p)
+      → ((p : Box PassedExports Global) → node ≢ i.ExportFrom p) → None ≡ request_of (item_of stmts node)
   unfolding request_of
   other_request (i.ImportEffect s) a b c d e = absurd (a s refl)
-  other_request (i.Import s bs) a b c d e = absurd (b s bs refl)
+  other_request (i.Import p) a b c d e = absurd (b p refl)
   other_request (i.ExportAll s) a b c d e = absurd (c s refl)
-  other_request (i.ExportAllAs n s) a b c d e = absurd (d n s refl)
-  other_request (i.ExportFrom es s) a b c d e = absurd (e es s refl)
+  other_request (i.ExportAllAs p) a b c d e = absurd (d p refl)
+  other_request (i.ExportFrom p) a b c d e = absurd (e p refl)
   other_request (i.ExportList es) a b c d e = refl
   other_request (i.ExportStatement id) a b c d e = refl
-  other_request (i.ExportFunction n ps ss) a b c d e = refl
-  other_request (i.ExportDefaultFunction n ps ss) a b c d e = refl
-  other_request (i.Function n ps ss) a b c d e = refl
+  other_request (i.ExportFunction f) a b c d e = refl
+  other_request (i.ExportDefaultFunction f) a b c d e = refl
+  other_request (i.Function f) a b c d e = refl
   other_request (i.Statement id) a b c d e = refl
 
-  pub other_imports : (requests : List Text) (node : ItemNode) → ((s : Text) (bs : Vec ImportBinding Global) → node ≢ i.Import s bs) → imports_of requests (item_of stmts node) ≡ []
+  pub other_imports : (requests : List Text) (node : ItemNode) → ((p : Box ImportNode Global) → node ≢ i.Import p) → imports_of requests (item_of stmts node) ≡ []
   unfolding imports_of
-  other_imports requests (i.Import s bs) h = absurd (h s bs refl)
+  other_imports requests (i.Import p) h = absurd (h p refl)
   other_imports requests (i.ImportEffect s) h = refl
   other_imports requests (i.ExportAll s) h = refl
-  other_imports requests (i.ExportAllAs n s) h = refl
-  other_imports requests (i.ExportFrom es s) h = refl
+  other_imports requests (i.ExportAllAs p) h = refl
+  other_imports requests (i.ExportFrom p) h = refl
   other_imports requests (i.ExportList es) h = refl
   other_imports requests (i.ExportStatement id) h = refl
-  other_imports requests (i.ExportFunction n ps ss) h = refl
-  other_imports requests (i.ExportDefaultFunction n ps ss) h = refl
-  other_imports requests (i.Function n ps ss) h = refl
+  other_imports requests (i.ExportFunction f) h = refl
+  other_imports requests (i.ExportDefaultFunction f) h = refl
+  other_imports requests (i.Function f) h = refl
   other_imports requests (i.Statement id) h = refl
 
-  pub other_stars : (requests : List Text) (node : ItemNode) → ((s : Text) → node ≢ i.ExportAll s) → stars_of requests (item_of stmts node ∷ []) ≡ []
+  pub other_stars : (requests : List Text) (node : ItemNode) → ((s : Box Text Global) → node ≢ i.ExportAll s) → stars_of requests (item_of stmts node ∷ []) ≡ []
   unfolding stars_of
   other_stars requests (i.ExportAll s) h = absurd (h s refl)
-  other_stars requests (i.Import s bs) h = refl
+  other_stars requests (i.Import p) h = refl
   other_stars requests (i.ImportEffect s) h = refl
-  other_stars requests (i.ExportAllAs n s) h = refl
-  other_stars requests (i.ExportFrom es s) h = refl
+  other_stars requests (i.ExportAllAs p) h = refl
+  other_stars requests (i.ExportFrom p) h = refl
   other_stars requests (i.ExportList es) h = refl
   other_stars requests (i.ExportStatement id) h = refl
-  other_stars requests (i.ExportFunction n ps ss) h = refl
-  other_stars requests (i.ExportDefaultFunction n ps ss) h = refl
-  other_stars requests (i.Function n ps ss) h = refl
+  other_stars requests (i.ExportFunction f) h = refl
+  other_stars requests (i.ExportDefaultFunction f) h = refl
+  other_stars requests (i.Function f) h = refl
   other_stars requests (i.Statement id) h = refl
 
   module _ (nodes : List ItemNode) (k : ℕ) where
