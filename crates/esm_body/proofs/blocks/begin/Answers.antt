@@ -1,5 +1,7 @@
-use Rattle.std.proofs.Common.{length, ap}
+use Rattle.std.proofs.Common.{length, ap, ◌∙◌}
 use Rattle.std.specs.Arc.{arc_value}
+use Rattle.esm_tree.specs.declared.node.Attempt.{Attempt}
+use Rattle.esm_tree.specs.declared.node.NamedAttempt.{NamedAttempt}
 use Rattle.esm_body.specs.Code.{bound_name}
 use Rattle.esm_body.proofs.Levels.{begins_ok, sound_ok, below_up, becomes_same, block_ok, try_ok, catch_ok}
 use Rattle.esm_body.proofs.blocks.begin.Goals as goal
@@ -11,7 +13,7 @@ pub returns-in-Expression-clause-sound : goal.returns-in-Expression-clause-sound
 returns-in-Expression-clause-sound c = λ all. sound_ok (length (arc_value c.args.tree.now).stmts) (arc_value c.args.tree.now).stmts c.args.levels.now.items c.does.new.levels.items _ c.does.result (c.does.ensures.front (arc_value c.args.tree.now).stmts) (c.does.ensures.sound (length (arc_value c.args.tree.now).stmts) tt all)
 
 pub returns-in-Assign-clause-begun : goal.returns-in-Assign-clause-begun
-returns-in-Assign-clause-begun c = let e = rw c.in-Assign.is at c.requires.node.part in begins_ok (arc_value c.args.tree.now).stmts c.args.levels.now.items c.does_init.new.levels.items _ _ c.does_init.result e (rw e at (c.does_init.ensures.front (arc_value c.args.tree.now).stmts))
+returns-in-Assign-clause-begun c = let e = rw c.in-Assign.is at c.requires.node.part in begins_ok (arc_value c.args.tree.now).stmts c.args.levels.now.items c.does_init.new.levels.items _ _ c.does_init.result e (rw (c.deref.ensures, e) at (c.does_init.ensures.front (arc_value c.args.tree.now).stmts))
 
 pub returns-in-Assign-clause-sound : goal.returns-in-Assign-clause-sound
 returns-in-Assign-clause-sound c = λ all. sound_ok (length (arc_value c.args.tree.now).stmts) (arc_value c.args.tree.now).stmts c.args.levels.now.items c.does_init.new.levels.items _ c.does_init.result (c.does_init.ensures.front (arc_value c.args.tree.now).stmts) (c.does_init.ensures.sound (length (arc_value c.args.tree.now).stmts) c.requires.id all)
@@ -100,17 +102,19 @@ returns-in-Block-clause-begun c =
     block_ok (arc_value c.args.tree.now).stmts c.args.levels.now.items c.begin_block.new.levels.items _ _ _ _ c.begin_block.result e c.new.ensures.items c.as_slice.ensures.value c.begin_block.ensures.begun
 
 pub begin_block-requires-in-Try-clause-ids : goal.begin_block-requires-in-Try-clause-ids
-begin_block-requires-in-Try-clause-ids c = rw c.as_slice-in-Try.ensures.value (below_up _ _ _ c.requires.id (rw c.in-Try.is at c.requires.node.below).0)
+begin_block-requires-in-Try-clause-ids c = rw (c.as_slice-in-Try.ensures.value, c.deref-in-Try.ensures) (below_up _ _ _ c.requires.id (rw c.in-Try.is at c.requires.node.below).0)
 
 pub returns-in-Try-clause-begun : goal.returns-in-Try-clause-begun
 returns-in-Try-clause-begun c =
     let e = rw c.in-Try.is at c.requires.node.part in
-    try_ok (arc_value c.args.tree.now).stmts c.args.levels.now.items c.begin_block-in-Try.new.levels.items c.args.id _ _ _ _ c.begin_block-in-Try.result e c.new-in-Try.ensures.items c.as_slice-in-Try.ensures.value c.begin_block-in-Try.ensures.begun
+    let body = c.as_slice-in-Try.ensures.value ∙ ap (λ (p : Attempt). p.body.items) c.deref-in-Try.ensures in
+    try_ok (arc_value c.args.tree.now).stmts c.args.levels.now.items c.begin_block-in-Try.new.levels.items c.args.id _ _ _ _ c.begin_block-in-Try.result e c.new-in-Try.ensures.items body c.begin_block-in-Try.ensures.begun
 
 pub begin_block-requires-in-TryCatch-clause-ids : goal.begin_block-requires-in-TryCatch-clause-ids
-begin_block-requires-in-TryCatch-clause-ids c = rw c.as_slice-in-TryCatch.ensures.value (below_up _ _ _ c.requires.id (rw c.in-TryCatch.is at c.requires.node.below).0)
+begin_block-requires-in-TryCatch-clause-ids c = rw (c.as_slice-in-TryCatch.ensures.value, c.deref-in-TryCatch.ensures) (below_up _ _ _ c.requires.id (rw c.in-TryCatch.is at c.requires.node.below).0)
 
 pub returns-in-TryCatch-clause-begun : goal.returns-in-TryCatch-clause-begun
 returns-in-TryCatch-clause-begun c =
     let e = rw c.in-TryCatch.is at c.requires.node.part in
-    catch_ok (arc_value c.args.tree.now).stmts c.args.levels.now.items c.begin_block-in-TryCatch.new.levels.items c.args.id _ _ _ _ _ c.begin_block-in-TryCatch.result e c.new-in-TryCatch.ensures.items c.as_slice-in-TryCatch.ensures.value c.begin_block-in-TryCatch.ensures.begun
+    let body = c.as_slice-in-TryCatch.ensures.value ∙ ap (λ (p : NamedAttempt). p.body.items) c.deref-in-TryCatch.ensures in
+    catch_ok (arc_value c.args.tree.now).stmts c.args.levels.now.items c.begin_block-in-TryCatch.new.levels.items c.args.id _ _ _ _ _ c.begin_block-in-TryCatch.result e c.new-in-TryCatch.ensures.items body c.begin_block-in-TryCatch.ensures.begun

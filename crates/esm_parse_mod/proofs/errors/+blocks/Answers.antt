@@ -1,6 +1,9 @@
 use Rattle.std.proofs.Common.{◌≡◌, ◌<◌, ◌∙◌, ◌+◌, arith, ◌||◌, ◌++◌, [], ◌∷◌, drop, get_or, sym, ap, subst}
 use Rattle.esm_tree.specs.Flat.{stmt_parts}
 use Rattle.esm_tree.specs.declared.node.StmtId.{StmtId}
+use Rattle.esm_tree.specs.declared.node.Branches.{Branches}
+use Rattle.esm_tree.specs.declared.node.Attempt.{Attempt}
+use Rattle.esm_tree.specs.declared.node.NamedAttempt.{NamedAttempt}
 use Rattle.esm_grammar.specs.EarlyErrors.{has_repeat, block_names, stmts_scopes, stmt_scopes, scopes_of}
 use Rattle.std.specs.Result.{IfOk}
 use Rattle.esm_parse_mod.specs.Inner.Names.{texts, given, any_clashes}
@@ -88,21 +91,28 @@ pub stmt_errs-returns-in-IfElse : goal.stmt_errs-returns-in-IfElse
 unfolding stmt_scopes scopes_of
 stmt_errs-returns-in-IfElse t c =
     let done = c.args.tree.now.stmts in
-    let e = ap (λ s. any_clashes (stmt_scopes s)) c.stmt.ensures.node ∙ rw c.in-IfElse.is (λ i. any_clashes (scopes_of [] (stmt_parts done (sym c.deref-in-IfElse.ensures.value i)) ++ scopes_of [] (stmt_parts done (sym c.deref-in-IfElse-2.ensures.value i)))) in
+    let body = c.deref-in-IfElse-2.ensures.value ∙ ap (λ (p : Branches). p.body.items) c.deref-in-IfElse.ensures in
+    let others = c.deref-in-IfElse-4.ensures.value ∙ ap (λ (p : Branches). p.others.items) c.deref-in-IfElse-3.ensures in
+    let e = ap (λ s. any_clashes (stmt_scopes s)) c.stmt.ensures.node ∙ rw c.in-IfElse.is (λ i. any_clashes (scopes_of [] (stmt_parts done (sym body i)) ++ scopes_of [] (stmt_parts done (sym others i)))) in
     subst (λ t. IfOk c.blocks_err.result (λ b. b ≡ t)) (sym e) c.blocks_err.ensures
 
 pub stmt_errs-returns-in-Try : goal.stmt_errs-returns-in-Try
 unfolding stmt_scopes scopes_of
 stmt_errs-returns-in-Try t c =
     let done = c.args.tree.now.stmts in
-    let e = ap (λ s. any_clashes (stmt_scopes s)) c.stmt.ensures.node ∙ rw c.in-Try.is (λ i. any_clashes (scopes_of [] (stmt_parts done (sym c.deref-in-Try.ensures.value i)) ++ scopes_of [] (stmt_parts done (sym c.deref-in-Try-2.ensures.value i)))) in
+    let body = c.deref-in-Try-2.ensures.value ∙ ap (λ (p : Attempt). p.body.items) c.deref-in-Try.ensures in
+    let others = c.deref-in-Try-4.ensures.value ∙ ap (λ (p : Attempt). p.handler.items) c.deref-in-Try-3.ensures in
+    let e = ap (λ s. any_clashes (stmt_scopes s)) c.stmt.ensures.node ∙ rw c.in-Try.is (λ i. any_clashes (scopes_of [] (stmt_parts done (sym body i)) ++ scopes_of [] (stmt_parts done (sym others i)))) in
     subst (λ t. IfOk c.blocks_err-in-Try.result (λ b. b ≡ t)) (sym e) c.blocks_err-in-Try.ensures
 
 pub stmt_errs-returns-in-TryCatch : goal.stmt_errs-returns-in-TryCatch
 unfolding stmt_scopes scopes_of
 stmt_errs-returns-in-TryCatch t c =
     let done = c.args.tree.now.stmts in
-    let e = ap (λ s. any_clashes (stmt_scopes s)) c.stmt.ensures.node ∙ rw c.in-TryCatch.is (λ i. any_clashes (scopes_of [] (stmt_parts done (sym c.deref-in-TryCatch.ensures.value i)) ++ scopes_of (sym c.as_str.ensures.value i ∷ []) (stmt_parts done (sym c.deref-in-TryCatch-2.ensures.value i)))) in
+    let body = c.deref-in-TryCatch-2.ensures.value ∙ ap (λ (p : NamedAttempt). p.body.items) c.deref-in-TryCatch.ensures in
+    let others = c.deref-in-TryCatch-5.ensures.value ∙ ap (λ (p : NamedAttempt). p.handler.items) c.deref-in-TryCatch-4.ensures in
+    let name = c.as_str.ensures.value ∙ ap (λ (p : NamedAttempt). p.name) c.deref-in-TryCatch-3.ensures in
+    let e = ap (λ s. any_clashes (stmt_scopes s)) c.stmt.ensures.node ∙ rw c.in-TryCatch.is (λ i. any_clashes (scopes_of [] (stmt_parts done (sym body i)) ++ scopes_of (sym name i ∷ []) (stmt_parts done (sym others i)))) in
     subst (λ t. IfOk c.blocks_err-in-TryCatch.result (λ b. b ≡ t)) (sym e) c.blocks_err-in-TryCatch.ensures
 
 pub stmt_errs-returns-in_default : goal.stmt_errs-returns-in_default

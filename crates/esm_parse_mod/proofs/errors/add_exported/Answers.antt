@@ -6,15 +6,15 @@ use Rattle.esm_parse_mod.proofs.errors.add_exported.Goals as goal
 
 pub returns-in-ExportAllAs : goal.returns-in-ExportAllAs
 unfolding exported_of
-returns-in-ExportAllAs c = let one = rw c.as_str.ensures.value at c.add_one.ensures in rw c.in-ExportAllAs.is one
+returns-in-ExportAllAs c = let one = rw (c.as_str.ensures.value, c.deref.ensures) at c.add_one.ensures in rw c.in-ExportAllAs.is one
 
 pub returns-in-ExportFrom : goal.returns-in-ExportFrom
 unfolding exported_of
-returns-in-ExportFrom c = let one = rw c.deref.ensures.value at c.add_listed.ensures in rw c.in-ExportFrom.is one
+returns-in-ExportFrom c = let one = rw (c.deref-in-ExportFrom-2.ensures.value, c.deref-in-ExportFrom.ensures) at c.add_listed.ensures in rw c.in-ExportFrom.is one
 
 pub returns-in-ExportList : goal.returns-in-ExportList
 unfolding exported_of
-returns-in-ExportList c = let one = rw c.deref-in-ExportList.ensures.value at c.add_listed-in-ExportList.ensures in rw c.in-ExportList.is one
+returns-in-ExportList c = let one = rw (c.deref-in-ExportList-2.ensures.value, c.deref-in-ExportList.ensures) at c.add_listed-in-ExportList.ensures in rw c.in-ExportList.is one
 
 pub add_statement-requires : goal.add_statement-requires
 add_statement-requires c = let need = rw c.in-ExportStatement.is at c.requires in omega (arith, need)
@@ -25,7 +25,7 @@ returns-in-ExportStatement c = rw c.in-ExportStatement.is c.add_statement.ensure
 
 pub returns-in-ExportFunction : goal.returns-in-ExportFunction
 unfolding exported_of
-returns-in-ExportFunction c = let one = rw c.as_str-in-ExportFunction.ensures.value at c.add_one-in-ExportFunction.ensures in rw c.in-ExportFunction.is one
+returns-in-ExportFunction c = let one = rw (c.as_str-in-ExportFunction.ensures.value, c.deref-in-ExportFunction.ensures) at c.add_one-in-ExportFunction.ensures in rw c.in-ExportFunction.is one
 
 pub returns-in-ExportDefaultFunction : goal.returns-in-ExportDefaultFunction
 unfolding exported_of

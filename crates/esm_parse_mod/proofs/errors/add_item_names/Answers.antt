@@ -6,7 +6,7 @@ use Rattle.esm_parse_mod.proofs.errors.add_item_names.Goals as goal
 
 pub returns-in-Import : goal.returns-in-Import
 unfolding declared_of
-returns-in-Import c = let one = rw c.deref.ensures.value at c.add_locals.ensures in rw c.in-Import.is one
+returns-in-Import c = let one = rw (c.deref-in-Import.ensures.value, c.deref.ensures) at c.add_locals.ensures in rw c.in-Import.is one
 
 pub add_declared-requires : goal.add_declared-requires
 add_declared-requires c = let need = rw c.in-ExportStatement.is at c.requires in omega (arith, need)
@@ -24,15 +24,15 @@ returns-in-Statement c = rw c.in-Statement.is c.add_declared-in-Statement.ensure
 
 pub returns-in-ExportFunction : goal.returns-in-ExportFunction
 unfolding declared_of
-returns-in-ExportFunction c = let one = rw c.as_str.ensures.value at c.add_one.ensures in rw c.in-ExportFunction.is one
+returns-in-ExportFunction c = let one = rw (c.as_str.ensures.value, c.deref-in-ExportFunction.ensures) at c.add_one.ensures in rw c.in-ExportFunction.is one
 
 pub returns-in-ExportDefaultFunction : goal.returns-in-ExportDefaultFunction
 unfolding declared_of
-returns-in-ExportDefaultFunction c = rw c.in-ExportDefaultFunction.is c.add_given.ensures
+returns-in-ExportDefaultFunction c = let one = rw c.deref-in-ExportDefaultFunction.ensures at c.add_given.ensures in rw c.in-ExportDefaultFunction.is one
 
 pub returns-in-Function : goal.returns-in-Function
 unfolding declared_of
-returns-in-Function c = let one = rw c.as_str-in-Function.ensures.value at c.add_one-in-Function.ensures in rw c.in-Function.is one
+returns-in-Function c = let one = rw (c.as_str-in-Function.ensures.value, c.deref-in-Function.ensures) at c.add_one-in-Function.ensures in rw c.in-Function.is one
 
 pub returns-in_default : goal.returns-in_default
 returns-in_default c =

@@ -41,11 +41,11 @@ either_awaits-returns t c = c.stmts_await-2.ensures ∙ ap (λ b. b || stmts_awa
 
 pub stmt_awaits-returns-in-Assign : goal.stmt_awaits-returns-in-Assign
 unfolding stmt_awaits
-stmt_awaits-returns-in-Assign t c = rw (c.stmt.ensures.node, c.in-Assign.is) (c.init_awaits.ensures c.args.tree.now.exprs)
+stmt_awaits-returns-in-Assign t c = rw (c.stmt.ensures.node, c.in-Assign.is) (rw c.deref.ensures at (c.init_awaits.ensures c.args.tree.now.exprs))
 
 pub stmt_awaits-returns-in-Block : goal.stmt_awaits-returns-in-Block
 unfolding stmt_awaits
-stmt_awaits-returns-in-Block t c = rw (c.stmt.ensures.node, c.in-Block.is) (rw c.deref.ensures.value at c.stmts_await.ensures)
+stmt_awaits-returns-in-Block t c = rw (c.stmt.ensures.node, c.in-Block.is) (rw c.deref-in-Block.ensures.value at c.stmts_await.ensures)
 
 pub stmt_awaits-returns-in-If : goal.stmt_awaits-returns-in-If
 unfolding stmt_awaits
@@ -53,15 +53,15 @@ stmt_awaits-returns-in-If t c = rw (c.stmt.ensures.node, c.in-If.is) (rw c.deref
 
 pub stmt_awaits-returns-in-IfElse : goal.stmt_awaits-returns-in-IfElse
 unfolding stmt_awaits
-stmt_awaits-returns-in-IfElse t c = rw (c.stmt.ensures.node, c.in-IfElse.is) (rw (c.deref-in-IfElse.ensures.value, c.deref-in-IfElse-2.ensures.value) at c.either_awaits.ensures)
+stmt_awaits-returns-in-IfElse t c = rw (c.stmt.ensures.node, c.in-IfElse.is) (rw (c.deref-in-IfElse-2.ensures.value, c.deref-in-IfElse.ensures, c.deref-in-IfElse-4.ensures.value, c.deref-in-IfElse-3.ensures) at c.either_awaits.ensures)
 
 pub stmt_awaits-returns-in-Try : goal.stmt_awaits-returns-in-Try
 unfolding stmt_awaits
-stmt_awaits-returns-in-Try t c = rw (c.stmt.ensures.node, c.in-Try.is) (rw (c.deref-in-Try.ensures.value, c.deref-in-Try-2.ensures.value) at c.either_awaits-in-Try.ensures)
+stmt_awaits-returns-in-Try t c = rw (c.stmt.ensures.node, c.in-Try.is) (rw (c.deref-in-Try-2.ensures.value, c.deref-in-Try.ensures, c.deref-in-Try-4.ensures.value, c.deref-in-Try-3.ensures) at c.either_awaits-in-Try.ensures)
 
 pub stmt_awaits-returns-in-TryCatch : goal.stmt_awaits-returns-in-TryCatch
 unfolding stmt_awaits
-stmt_awaits-returns-in-TryCatch t c = rw (c.stmt.ensures.node, c.in-TryCatch.is) (rw (c.deref-in-TryCatch.ensures.value, c.deref-in-TryCatch-2.ensures.value) at c.either_awaits-in-TryCatch.ensures)
+stmt_awaits-returns-in-TryCatch t c = rw (c.stmt.ensures.node, c.in-TryCatch.is) (rw (c.deref-in-TryCatch-2.ensures.value, c.deref-in-TryCatch.ensures, c.deref-in-TryCatch-4.ensures.value, c.deref-in-TryCatch-3.ensures) at c.either_awaits-in-TryCatch.ensures)
 
 pub stmt_awaits-returns-in-Await : goal.stmt_awaits-returns-in-Await
 unfolding stmt_awaits
