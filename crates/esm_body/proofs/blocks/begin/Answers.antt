@@ -12,6 +12,9 @@ returns-in-Expression-clause-begun c = let e = rw c.in-Expression.is at c.requir
 pub returns-in-Expression-clause-sound : goal.returns-in-Expression-clause-sound
 returns-in-Expression-clause-sound c = λ all. sound_ok (length (arc_value c.args.tree.now).stmts) (arc_value c.args.tree.now).stmts c.args.levels.now.items c.does.new.levels.items _ c.does.result (c.does.ensures.front (arc_value c.args.tree.now).stmts) (c.does.ensures.sound (length (arc_value c.args.tree.now).stmts) tt all)
 
+pub does_init-requires-clause-value : goal.does_init-requires-clause-value
+does_init-requires-clause-value c = rw c.deref.ensures (rw c.in-Assign.is at c.requires.node.need)
+
 pub returns-in-Assign-clause-begun : goal.returns-in-Assign-clause-begun
 returns-in-Assign-clause-begun c = let e = rw c.in-Assign.is at c.requires.node.part in begins_ok (arc_value c.args.tree.now).stmts c.args.levels.now.items c.does_init.new.levels.items _ _ c.does_init.result e (rw (c.deref.ensures, e) at (c.does_init.ensures.front (arc_value c.args.tree.now).stmts))
 
