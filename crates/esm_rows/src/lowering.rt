@@ -73,13 +73,28 @@ fn item_row(alloc: Global, tree: &Tree, item: &ItemNode) -> Result<Option<Row>, 
 {
     match item {
         ItemNode::ExportFunction(node) => {
-            function_row(alloc, tree, node.parameters.as_slice(), node.body.as_slice())
+            function_row(
+                alloc,
+                tree,
+                node.parameters.as_slice(),
+                node.body.as_slice(),
+            )
         }
         ItemNode::ExportDefaultFunction(node) => {
-            function_row(alloc, tree, node.parameters.as_slice(), node.body.as_slice())
+            function_row(
+                alloc,
+                tree,
+                node.parameters.as_slice(),
+                node.body.as_slice(),
+            )
         }
         ItemNode::Function(node) => {
-            function_row(alloc, tree, node.parameters.as_slice(), node.body.as_slice())
+            function_row(
+                alloc,
+                tree,
+                node.parameters.as_slice(),
+                node.body.as_slice(),
+            )
         }
         ItemNode::ExportStatement(_) => Ok(None),
         ItemNode::Statement(_) => Ok(None),
