@@ -315,13 +315,8 @@ impl Maker {
             }
             StmtNode::Try(parts) => self.attempt(alloc, tree, id, parts.handler.as_slice()),
             StmtNode::TryCatch(parts) => {
-                self.attempt_named(
-                    alloc,
-                    tree,
-                    id,
-                    parts.name.as_str(),
-                    parts.handler.as_slice(),
-                )
+                let name = parts.name.as_str();
+                self.attempt_named(alloc, tree, id, name, parts.handler.as_slice())
             }
             StmtNode::Empty => self.draft.put(Op::Step),
             StmtNode::Return => put_return(&mut self.draft),

@@ -24,7 +24,7 @@ returns-in-Try c = λ made is owes. c.attempt.ensures made _ _ (ap first_block (
 
 pub returns-in-TryCatch : goal.returns-in-TryCatch
 returns-in-TryCatch c = λ made is owes.
-    let name = c.as_str.ensures.value ∙ ap (λ (p : NamedAttempt). p.name) c.deref-in-TryCatch.ensures in
+    let name = c.as_str-name.ensures.value ∙ ap (λ (p : NamedAttempt). p.name) c.deref-in-TryCatch.ensures in
     let handler = c.as_slice-in-TryCatch.ensures.value ∙ ap (λ (p : NamedAttempt). p.handler.items) c.deref-in-TryCatch-2.ensures in
     c.attempt_named.ensures made _ _ (ap first_block (rw c.in-TryCatch.is at is)) (ap (stmt_parts c.args.tree.now.stmts) (sym handler)) (rw (c.in-TryCatch.is, ← name) at owes)
 
@@ -51,7 +51,7 @@ returns-in-PrintAwait c = λ made is owes. c.awaited-in-PrintAwait.ensures made 
 
 pub returns-in-Assign : goal.returns-in-Assign
 returns-in-Assign c = λ made is owes.
-    let name = c.as_str-in-Assign.ensures.value ∙ ap (λ (p : Assignment). p.name) c.deref-in-Assign.ensures in
+    let name = c.as_str.ensures.value ∙ ap (λ (p : Assignment). p.name) c.deref-in-Assign.ensures in
     let value = ap (λ (p : Assignment). p.value) c.deref-in-Assign-2.ensures in
     c.assign.ensures made (rw (c.in-Assign.is, ← name, ← value) at owes)
 
