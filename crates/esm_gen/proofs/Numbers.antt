@@ -1,13 +1,13 @@
 -- What `strip_prefix` and `strip_suffix` leave of a text, and the numbers of URLs.
-use Rattle.std.proofs.Common.{◌≡◌, ◌≢◌, ◌∙◌, ap, sym, ℕ, ◌<◌, ◌≤◌, ◌^◌, List, ◌++◌, Some, None, arith}
-use Rattle.std.specs.Prelude.{Option, Result, Ok, unwrap_or, decimal}
+use Rattle.std.proofs.Common.{◌≡◌, ◌∙◌, ap, sym, ℕ, ◌<◌, ◌≤◌, ◌^◌, List, ◌++◌, Some, None, arith}
+use Rattle.std.specs.Prelude.{Option, Result, Ok, unwrap_or}
 use Rattle.std.specs.Result.{result_unwrap_or}
 use Rattle.std.specs.Option.{MatchOption, option_copied}
 use Rattle.std.specs.Str.Pattern.{FindsTextPrefix, FindsTextSuffix, StripsPrefix, StripsSuffix}
 use Rattle.std.proofs.lemmas.List.{append_cancel_left, append_cancel_right}
 use denote.Ref.{Bor}
 use Rattle.esm_base.specs.Urls.{Url}
-use Rattle.esm_gen.specs.Generated.{generated_at, module_url, module_text}
+use Rattle.esm_gen.specs.Generated.{generated_at, module_text}
 use Rattle.esm_gen.specs.Held.{IsNumberOf}
 use Rattle.esm_gen.proofs.FileLemmas.{found, not_found, one_number}
 

@@ -1,4 +1,4 @@
-use Rattle.std.proofs.Common.{◌≡◌, ◌∙◌, ap, sym, subst, ℕ, Vec, Global, Some, arith}
+use Rattle.std.proofs.Common.{◌≡◌, ◌∙◌, ap, subst, ℕ, Vec, Global, Some, arith}
 use Rattle.esm_gen.specs.Generated as spec
 use Rattle.esm_gen.specs.Held.{IsNumberOf}
 use Rattle.esm_gen.proofs.Numbers.{nothing_above, nothing_at, text_of}
