@@ -1,6 +1,7 @@
 // The lock.
 ghost use Rattle.std.specs.Prelude.{◌≡◌, ℕ, ◌+◌, ◌<◌, None, [], ◌++◌, IfOk, IsOk, MatchResult};
-ghost use Rattle.esm_hlock.specs.Makers.{makers_of, Continues, IsStep, added, number_after, numbers_after};
+ghost use Rattle.esm_hlock.specs.Makers.{makers_of, Continues, IsStep, AreSteps, added, number_after, numbers_after};
+ghost use Rattle.esm_hlock.specs.Inner.Growth.{MayGrow};
 ghost use Rattle.esm_hlock.specs.Views.{HasAllMakers, longer};
 ghost use Rattle.esm_hlock.specs.Closing.{ClosedWith};
 
@@ -102,6 +103,40 @@ impl<T: Story + Drop> Hlock<T> {
     pub fn leave(&self, held: Held<T>) -> Pass<T>
         requires own { IsHeldOf self.now held }
         requires step { IsStep T.maker (found held).number (found held).seen (T.story held.state) }
+        ensures own { IsPassOf self.now result }
+        ensures seen { (knows result).seen ≡ T.story held.state }
+        ensures shares { (knows result).shares ≡ (found held).shares }
+        ensures number { (knows result).number
+            ≡ number_after T.maker (found held).number (added (found held).seen (T.story held.state)) }
+        ensures numbers { (knows result).numbers
+            ≡ numbers_after T.maker (found held).number (found held).numbers
+            (added (found held).seen (T.story held.state)) }
+        ensures makers { HasAllMakers T.maker (knows result) }
+    {
+        self.put_back(held)
+    }
+
+    /// The same where the pass has a number, with any number of entries more: each has that number as
+    /// its maker, or none. The number and the numbers stay. It doesn't allocate.
+    pub fn leave_with_several(&self, held: Held<T>) -> Pass<T>
+        requires own { IsHeldOf self.now held }
+        requires steps { AreSteps T.maker (found held).number (found held).seen
+            (T.story held.state) }
+        ensures own { IsPassOf self.now result }
+        ensures seen { (knows result).seen ≡ T.story held.state }
+        ensures shares { (knows result).shares ≡ (found held).shares }
+        ensures number { (knows result).number ≡ (found held).number }
+        ensures numbers { (knows result).numbers ≡ (found held).numbers }
+        ensures makers { HasAllMakers T.maker (knows result) }
+    {
+        self.put_back(held)
+    }
+
+    // Puts the state back, with one entry more or several, and ends the turn.
+    fn put_back(&self, held: Held<T>) -> Pass<T>
+        requires own { IsHeldOf self.now held }
+        requires grows { MayGrow T.maker (found held).number (found held).seen
+            (T.story held.state) }
         ensures own { IsPassOf self.now result }
         ensures seen { (knows result).seen ≡ T.story held.state }
         ensures shares { (knows result).shares ≡ (found held).shares }

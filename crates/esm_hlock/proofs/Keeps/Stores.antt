@@ -5,21 +5,22 @@ use lib.ListN.{get_elem?}
 use Rattle.atomic_table.specs.Table.{step, keeps, gives, stepped, put_back, Allows}
 use Rattle.atomic_table.proofs.Lists.{set_here, set_else}
 use Rattle.esm_hlock.specs.declared.view.View.{View}
-use Rattle.esm_hlock.specs.Makers.{times, Continues, IsStep}
+use Rattle.esm_hlock.specs.Makers.{times, Continues}
+use Rattle.esm_hlock.specs.Inner.Growth.{MayGrow}
 use Rattle.esm_hlock.specs.Rule.{Fits, Kept}
 use Rattle.esm_hlock.specs.Inner.Seats.{without_ticket, with_history}
 use Rattle.esm_hlock.specs.Inner.Steps.{EndedTurn, story_in, StoredLength}
 use Rattle.esm_hlock.proofs.Basics.Lists.{false-true, at_length, same_at, total_set}
-use Rattle.esm_hlock.proofs.Keeps.Growing.{continues_self, grows}
+use Rattle.esm_hlock.proofs.Keeps.Growing.{continues_self, grows_by}
 use Rattle.esm_hlock.proofs.Keeps.Seats.{SeatOf, none_there, each_set, apart_idle, apart_same, out_same, same_shares, same_makers, has_all_makers, away, alone}
 
 module _ {T E : Type 0} (story : T → List E) (maker : E → Option ℕ) where
   -- a store of the length word, with the state of the new history in the slot
-  pub stores_length : (slots id : ℕ) (me : SeatOf T E) (state : T) (n : ℕ) → me.0.has_state ≡ true → me.1 ≡ (0, Some state) ∷ [] → IsStep maker me.0.number me.0.seen (story state) → n ≡ length (story state)
+  pub stores_length : (slots id : ℕ) (me : SeatOf T E) (state : T) (n : ℕ) → me.0.has_state ≡ true → me.1 ≡ (0, Some state) ∷ [] → MayGrow maker me.0.number me.0.seen (story state) → n ≡ length (story state)
       → Allows (Kept story maker) slots id me 2 (λ _. n) (λ _. StoredLength story maker (step slots 2 n 0 none) me n)
   stores_length slots id me state n holds in_hand grow count s r size at fits =
       let v = me.0 in let now : List E = story_in story maker me.1 in let is : now ≡ story state = ap (story_in story maker) in_hand in let w : View E = with_history maker v now in
-      let f = r.each id v at in let mine = f.turn holds in let g = grows story maker s r id v at now mine.2 (subst (λ l. IsStep maker v.number v.seen l) (sym is) grow) in
+      let f = r.each id v at in let mine = f.turn holds in let g = grows_by story maker s r id v at now mine.2 (subst (λ l. MayGrow maker v.number v.seen l) (sym is) grow) in
       let here : get_elem? (set s.views id w) id ≡ some w = set_here s.views id w (at_length s.views id v at) in
       let after : Kept story maker (stepped s 2 n id me.1 w keeps) = record {
         history = now;
