@@ -6,7 +6,7 @@ use native.Mathlib.Decide.{ℕ_discrete}
 use lib.ListN.{get_elem?}
 use Rattle.atomic_table.specs.Table.{State}
 use Rattle.esm_hlock.specs.declared.view.View.{View}
-use Rattle.esm_hlock.specs.Makers.{times, is_maker, enlisted, names, Continues, number_after, numbers_after, MayMake, IsStep, AreOf, AreSteps}
+use Rattle.esm_hlock.specs.Makers.{times, is_maker, enlisted, names, Continues, number_after, numbers_after, MayMake, IsStep, AreOf}
 use Rattle.esm_hlock.specs.Inner.Growth.{MayGrow}
 use Rattle.esm_hlock.specs.Rule.{Kept, total}
 use Rattle.esm_hlock.proofs.Basics.Lists.{drop_all, total_at, total_two}
