@@ -1,3 +1,4 @@
 pub mod Usable
 pub mod Keys
 pub mod Web
+pub mod Requests

@@ -7,6 +7,7 @@ use Rattle.esm_base.specs.Urls.{Text, Url, url_of, is_usable, IsUsable}
 use Rattle.esm_import_map.specs.ImportMap.{Maps, no_maps}
 use Rattle.esm_import_map.specs.Specifier.{url_like}
 use Rattle.esm_specifier.specs.Resolution.{greatest, resolution_of_specifier}
+use Rattle.esm_specifier.specs.Targets.{targets_of, AreUsable}
 use Rattle.esm_specifier.specs.declared.fault.SpecFault.{SpecFault}
 use Rattle.esm_specifier.specs.declared.fault.SpecFault.TheVariants.{S4, S5}
 
@@ -23,6 +24,11 @@ GreatestIs = (texts : List (List ℕ)) → MatchOption (greatest texts) (texts �
 abbrev pub ResolvesToUsable : Type 0
 ResolvesToUsable = (maps : Maps) (referrer : Url) (specifier : Text) (u : Url)
     → resolution_of_specifier maps referrer specifier ≡ Ok u → IsUsable u
+
+-- whatever the import map, what the requests of a module resolve to may name modules, and is one URL for each
+abbrev pub TargetsAreUsable : Type 0
+TargetsAreUsable = (maps : Maps) (referrer : Url) (requests : List Text) (urls : List Url)
+    → targets_of maps referrer requests ≡ Ok urls → AreUsable requests urls
 
 -- under the empty import map a specifier is its own URL, where that may name a module, and else nothing
 pub record ResolvesByItself : Type 0 where

@@ -1,5 +1,5 @@
 // Laws of the definitions, as functions without effect.
-ghost use Rattle.esm_specifier.specs.Laws.{GreatestIs, ResolvesAsTheStandard, ResolvesByItself, ResolvesToUsable};
+ghost use Rattle.esm_specifier.specs.Laws.{GreatestIs, ResolvesAsTheStandard, ResolvesByItself, ResolvesToUsable, TargetsAreUsable};
 
 /// The key that decides of those that match: a member than which none is greater in code unit order.
 pub fn greatest_is()
@@ -9,6 +9,12 @@ pub fn greatest_is()
 /// Whatever the import map, what a specifier resolves to is canonical and at most `MAX_URL_BYTES` long.
 pub fn resolves_to_usable()
     ensures { ResolvesToUsable }
+{}
+
+/// Whatever the import map, what the requests of a module resolve to is canonical and at most `MAX_URL_BYTES` long, one URL
+/// for each.
+pub fn targets_are_usable()
+    ensures { TargetsAreUsable }
 {}
 
 /// Under the empty import map a specifier resolves to the URL that it is, where that may name a module: S5 where it

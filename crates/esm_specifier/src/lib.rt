@@ -5,6 +5,8 @@ mod fault;
 pub mod laws;
 mod lookup;
 mod resolving;
+mod targets;
 
 pub use fault::{SpecEnd, SpecFault};
 pub use resolving::{resolve, resolve_against};
+pub use targets::{Targets, targets_of};
