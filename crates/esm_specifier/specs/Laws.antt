@@ -1,5 +1,6 @@
 -- The laws of resolving, and worked examples.
-use Rattle.std.specs.Prelude.{◌≡◌, ℕ, true, false, List, [], All, Contains, MatchOption, None, Some, Result, Ok, Err, codes}
+use Rattle.std.specs.Prelude.{◌≡◌, ◌<◌, ℕ, true, false, List, [], length, All, Contains, MatchOption, None, Some, Result, Ok, Err, codes}
+use Rattle.std.specs.Bool.{Decides}
 use Rattle.std.specs.Ordering.{is_lt}
 use Rattle.url.specs.Parts.{Parts, serialize}
 use Rattle.esm_base.specs.CodeUnits.{code_unit_order}
@@ -7,9 +8,10 @@ use Rattle.esm_base.specs.Urls.{Text, Url, url_of, is_usable, IsUsable}
 use Rattle.esm_import_map.specs.ImportMap.{Maps, no_maps}
 use Rattle.esm_import_map.specs.Specifier.{url_like}
 use Rattle.esm_specifier.specs.Resolution.{greatest, resolution_of_specifier}
-use Rattle.esm_specifier.specs.Targets.{targets_of, AreUsable}
+use Rattle.esm_specifier.specs.Targets.{Refusal, targets_of, are_targets, AreTargets, AreUsable}
 use Rattle.esm_specifier.specs.declared.fault.SpecFault.{SpecFault}
 use Rattle.esm_specifier.specs.declared.fault.SpecFault.TheVariants.{S4, S5}
+use Rattle.esm_specifier.specs.declared.targets.Targets.{Targets}
 
 -- a member of these texts than which none is greater in code unit order
 pub record IsGreatest (texts : List (List ℕ)) (text : List ℕ) : Type 0 where
@@ -29,6 +31,16 @@ ResolvesToUsable = (maps : Maps) (referrer : Url) (specifier : Text) (u : Url)
 abbrev pub TargetsAreUsable : Type 0
 TargetsAreUsable = (maps : Maps) (referrer : Url) (requests : List Text) (urls : List Url)
     → targets_of maps referrer requests ≡ Ok urls → AreUsable requests urls
+
+-- whatever the import map, a refusal is that of a request
+abbrev pub RefusalsAreRequests : Type 0
+RefusalsAreRequests = (maps : Maps) (referrer : Url) (requests : List Text) (refusal : Refusal)
+    → targets_of maps referrer requests ≡ Err refusal → refusal.place < length requests
+
+-- the test of targets says what they are
+abbrev pub TargetsAreTested : Type 0
+TargetsAreTested = (maps : Maps) (referrer : Url) (requests : List Text) (targets : Targets)
+    → Decides (are_targets maps referrer requests targets) (AreTargets maps referrer requests targets)
 
 -- under the empty import map a specifier is its own URL, where that may name a module, and else nothing
 pub record ResolvesByItself : Type 0 where

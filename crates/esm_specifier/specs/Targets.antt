@@ -1,9 +1,11 @@
 -- What the requests of a module resolve to.
-use Rattle.std.specs.Prelude.{◌≡◌, ℕ, suc, List, [], ◌∷◌, length, All, Result, Ok, Err}
-use Rattle.esm_base.specs.Urls.{Text, Url, IsUsable}
+use Rattle.std.specs.Prelude.{◌≡◌, ℕ, suc, ◌==◌, ◌&&◌, Bool, false, List, [], ◌∷◌, length, All, Result, Ok, Err}
+use Rattle.std.specs.Cmp.Lexicographic.{pointwise}
+use Rattle.esm_base.specs.Urls.{Text, Url, IsUsable, same_url}
 use Rattle.esm_import_map.specs.ImportMap.{Maps}
 use Rattle.esm_specifier.specs.Resolution.{resolution_of_specifier}
 use Rattle.esm_specifier.specs.declared.fault.SpecFault.{SpecFault}
+use Rattle.esm_specifier.specs.declared.fault.SpecFault.TheVariants.{S1, S2, S3, S4, S5}
 use Rattle.esm_specifier.specs.declared.targets.Targets.{Targets}
 use Rattle.esm_specifier.specs.declared.targets.Targets.TheVariants.{Found, Refused}
 
@@ -36,6 +38,28 @@ targets_view (Refused place fault) = Err (record { place = place; fault = fault 
 -- this is what these requests of the module at this URL resolve to
 abbrev pub AreTargets : Maps → Url → List Text → Targets → Type 0
 AreTargets maps referrer requests targets = targets_view targets ≡ targets_of maps referrer requests
+
+-- ---- as a test
+
+abbrev pub number_of : SpecFault → ℕ
+number_of S1 = 1
+number_of S2 = 2
+number_of S3 = 3
+number_of S4 = 4
+number_of S5 = 5
+
+abbrev pub same_targets : Result (List Url) Refusal → Result (List Url) Refusal → Bool
+same_targets (Ok urls) (Ok others) = pointwise same_url urls others
+same_targets (Ok urls) (Err refusal) = false
+same_targets (Err refusal) (Ok urls) = false
+same_targets (Err refusal) (Err other) =
+    (refusal.place == other.place) && (number_of refusal.fault == number_of other.fault)
+
+-- whether this is what these requests of the module at this URL resolve to
+abbrev pub are_targets : Maps → Url → List Text → Targets → Bool
+are_targets maps referrer requests targets = same_targets (targets_view targets) (targets_of maps referrer requests)
+
+-- ---- what is found
 
 -- what the requests of a module resolve to may name modules, and is one URL for each
 pub record AreUsable (requests : List Text) (urls : List Url) : Type 0 where

@@ -1,5 +1,5 @@
 // Laws of the definitions, as functions without effect.
-ghost use Rattle.esm_specifier.specs.Laws.{GreatestIs, ResolvesAsTheStandard, ResolvesByItself, ResolvesToUsable, TargetsAreUsable};
+ghost use Rattle.esm_specifier.specs.Laws.{GreatestIs, RefusalsAreRequests, ResolvesAsTheStandard, ResolvesByItself, ResolvesToUsable, TargetsAreTested, TargetsAreUsable};
 
 /// The key that decides of those that match: a member than which none is greater in code unit order.
 pub fn greatest_is()
@@ -15,6 +15,16 @@ pub fn resolves_to_usable()
 /// for each.
 pub fn targets_are_usable()
     ensures { TargetsAreUsable }
+{}
+
+/// Whatever the import map, the place of a refusal is that of a request.
+pub fn refusals_are_requests()
+    ensures { RefusalsAreRequests }
+{}
+
+/// The test of targets says whether they are what requests resolve to.
+pub fn targets_are_tested()
+    ensures { TargetsAreTested }
 {}
 
 /// Under the empty import map a specifier resolves to the URL that it is, where that may name a module: S5 where it
