@@ -136,9 +136,10 @@ tested (Ok urls) (Ok others) =
 tested (Ok urls) (Err refusal) = (λ e. absurd (true≢false (sym e)), λ e. other_urls _ refusal urls e)
 tested (Err refusal) (Ok urls) = (λ e. absurd (true≢false (sym e)), λ e. other_end _ refusal urls e)
 tested (Err a) (Err b) =
-    let d = Decides-and (a.place == b.place) (number_of a.fault == number_of b.fault) (Decides-eqb a.place b.place) (same_fault a.fault b.fault) in
-    (λ e. let k = d.0 e in ap (λ n. refused_by (record { place = n; fault = a.fault })) k.0 ∙ ap (λ f. refused_by (record { place = b.place; fault = f })) k.1,
-    λ e. let same = same_refusal a b e in d.1 (ap (λ (r : Refusal). r.place) same, ap (λ (r : Refusal). r.fault) same))
+    let d = Decides-and (a.place == b.place) (number_of a.fault == number_of b.fault) (Decides-eqb a.place b.place) (same_fault a.fault b.fault) in (
+      λ e. let k = d.0 e in ap (λ n. refused_by (record { place = n; fault = a.fault })) k.0 ∙ ap (λ f. refused_by (record { place = b.place; fault = f })) k.1,
+      λ e. let same = same_refusal a b e in d.1 (ap (λ (r : Refusal). r.place) same, ap (λ (r : Refusal). r.fault) same),
+    )
 
 pub targets_are_tested : TargetsAreTested
 targets_are_tested maps referrer requests targets = tested (targets_view targets) (targets_of maps referrer requests)

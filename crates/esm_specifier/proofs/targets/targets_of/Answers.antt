@@ -1,4 +1,4 @@
-use Rattle.std.proofs.Common.{ap, subst, sym, ◌∙◌, drop, ◌+◌, Err}
+use Rattle.std.proofs.Common.{ap, subst, sym, ◌∙◌, drop, ◌+◌}
 use Rattle.esm_specifier.specs.Resolution.{resolution_of_specifier}
 use Rattle.esm_specifier.proofs.Requests.{LeadsOn, refused_at, leads_begin, leads_more, leads_refused, leads_whole}
 use Rattle.esm_specifier.proofs.targets.targets_of.Goals as goal
