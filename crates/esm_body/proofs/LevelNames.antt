@@ -11,7 +11,8 @@ use Rattle.esm_rewriting.specs.Scopes.{Scope, cell_by, in_scope, in_scopes}
 use Rattle.esm_body.specs.Slots.{slot_of}
 use Rattle.esm_body.specs.Inner.Stack.{scopes_round}
 use Rattle.esm_body.specs.Code.{scope_of_level}
-use Rattle.esm_body.specs.Inner.SlotPlaces.{slot_place}
+use Rattle.esm_env.specs.NamePlaces.{first_place}
+use Rattle.esm_body.specs.Inner.SlotPlaces.{names_of}
 use Rattle.esm_body.specs.Inner.Names.{place_at, NoneFrom, IsFound}
 use Rattle.esm_body.specs.declared.work.Slot.{Slot}
 use Rattle.esm_body.specs.declared.work.Level.{Level}
@@ -56,9 +57,9 @@ back : (s : Slot) (ss : List Slot) (x : List ℕ) (o : Option ℕ) → PlaceBy s
 back s ss x None h = h
 back s ss x (Some j) h = h
 
-pub cell_at_place : (slots : List Slot) (x : List ℕ) → CellAt slots x (slot_place slots x)
+pub cell_at_place : (slots : List Slot) (x : List ℕ) → CellAt slots x (first_place (names_of slots) x)
 cell_at_place [] x = refl
-cell_at_place (s ∷ ss) x = back s ss x _ (place_by s ss x (bytes_eq s.name x) (slot_place ss x) (cell_at_place ss x))
+cell_at_place (s ∷ ss) x = back s ss x _ (place_by s ss x (bytes_eq s.name x) (first_place (names_of ss) x) (cell_at_place ss x))
 
 -- ---- all levels
 
@@ -74,7 +75,7 @@ scopes_last (t ∷ ss) s x = ap (option_or (in_scope t x)) (scopes_last ss s x) 
     or_assoc None b c = refl
     or_assoc (Some d) b c = refl
 
-cell_none : (slots : List Slot) (x : List ℕ) → slot_place slots x ≡ None → in_scope (map slot_of slots) x ≡ None
+cell_none : (slots : List Slot) (x : List ℕ) → first_place (names_of slots) x ≡ None → in_scope (map slot_of slots) x ≡ None
 cell_none slots x e = subst (CellAt slots x) e (cell_at_place slots x)
 
 -- no level declares it
@@ -112,7 +113,7 @@ place_behind (l ∷ ls) zero x h = absurd (omega (arith, h))
 place_behind (l ∷ ls) (suc i) x h = place_behind ls i x (omega (arith, h))
 
 -- the place in a level that is there
-pub place_there : (ls : List Level) (i : ℕ) (x : List ℕ) (d : Level) → i < length ls → place_at ls i x ≡ slot_place (get_or ls i d).slots x
+pub place_there : (ls : List Level) (i : ℕ) (x : List ℕ) (d : Level) → i < length ls → place_at ls i x ≡ first_place (names_of (get_or ls i d).slots) x
 place_there [] i x d h = absurd (omega (arith, h))
 place_there (l ∷ ls) zero x d h = refl
 place_there (l ∷ ls) (suc i) x d h = place_there ls i x d (omega (arith, h))

@@ -33,7 +33,8 @@ use Rattle.esm_body.specs.View.{state_of}
 use Rattle.esm_body.specs.Slots.{slot_of, scope_of_slots}
 use Rattle.esm_body.specs.Inner.Stack.{scopes_round}
 use Rattle.esm_body.specs.Code.{scope_of_level}
-use Rattle.esm_body.specs.Inner.SlotPlaces.{slot_place, set_slot}
+use Rattle.esm_env.specs.NamePlaces.{first_place}
+use Rattle.esm_body.specs.Inner.SlotPlaces.{names_of, set_slot}
 use Rattle.esm_body.specs.Inner.Names.{place_at, IsFound}
 use Rattle.esm_body.specs.Inner.Written.{SlotSet, LevelSet, OnlySlots, LevelWrote, slot_wrote, SlotWritten, SetWhere, TopSet, ScopesWrote, WritesAt, WritesTo, SetsAt, SetsTo, thrown, ThrowsNew, ThrowsWrote, Throws, IsLike, WritesName, SetsName}
 use Rattle.esm_body.specs.Inner.World.{HasScopes}
@@ -80,24 +81,24 @@ only_where (Some at) ls i v new h = only_set ls i at v new h
 -- ---- one scope
 
 abbrev PlacedBy : Slot → List Slot → List ℕ → ℕ → Value → Bool → Type 0
-PlacedBy s ss x at v b = (if b then Some 0 else option_map suc (slot_place ss x)) ≡ Some at
+PlacedBy s ss x at v b = (if b then Some 0 else option_map suc (first_place (names_of ss) x)) ≡ Some at
     → scope_of_slots (set_slot (s ∷ ss) at v) ≡ set_by b (slot_of s) (value_of v) (scope_of_slots ss) (set_in (scope_of_slots ss) x (value_of v))
 
-behind : (s : Slot) (ss : List Slot) (x : List ℕ) (at : ℕ) (v : Value) (o : Option ℕ) → slot_place ss x ≡ o
-    → ((at : ℕ) → slot_place ss x ≡ Some at → scope_of_slots (set_slot ss at v) ≡ set_in (scope_of_slots ss) x (value_of v))
+behind : (s : Slot) (ss : List Slot) (x : List ℕ) (at : ℕ) (v : Value) (o : Option ℕ) → first_place (names_of ss) x ≡ o
+    → ((at : ℕ) → first_place (names_of ss) x ≡ Some at → scope_of_slots (set_slot ss at v) ≡ set_in (scope_of_slots ss) x (value_of v))
     → option_map suc o ≡ Some at → scope_of_slots (set_slot (s ∷ ss) at v) ≡ slot_of s ∷ set_in (scope_of_slots ss) x (value_of v)
 behind s ss x at v None e again h = absurd cc
 behind s ss x zero v (Some j) e again h = absurd (let k : suc j ≡ zero = cc in omega (arith, k))
 behind s ss x (suc at) v (Some j) e again h = ap (λ c. slot_of s ∷ c) (again at (let k : suc j ≡ suc at = cc in let same : j ≡ at = omega (arith, k) in e ∙ ap Some same))
 
 placed_by : (s : Slot) (ss : List Slot) (x : List ℕ) (at : ℕ) (v : Value) (b : Bool)
-    → ((at : ℕ) → slot_place ss x ≡ Some at → scope_of_slots (set_slot ss at v) ≡ set_in (scope_of_slots ss) x (value_of v)) → PlacedBy s ss x at v b
+    → ((at : ℕ) → first_place (names_of ss) x ≡ Some at → scope_of_slots (set_slot ss at v) ≡ set_in (scope_of_slots ss) x (value_of v)) → PlacedBy s ss x at v b
 placed_by s ss x zero v true again = λ h. refl
 placed_by s ss x (suc at) v true again = λ h. absurd (let k : zero ≡ suc at = cc in omega (arith, k))
-placed_by s ss x at v false again = λ h. behind s ss x at v (slot_place ss x) refl again h
+placed_by s ss x at v false again = λ h. behind s ss x at v (first_place (names_of ss) x) refl again h
 
 -- the slot with the name is set
-scope_set : (ss : List Slot) (x : List ℕ) (at : ℕ) (v : Value) → slot_place ss x ≡ Some at → scope_of_slots (set_slot ss at v) ≡ set_in (scope_of_slots ss) x (value_of v)
+scope_set : (ss : List Slot) (x : List ℕ) (at : ℕ) (v : Value) → first_place (names_of ss) x ≡ Some at → scope_of_slots (set_slot ss at v) ≡ set_in (scope_of_slots ss) x (value_of v)
 scope_set [] x at v h = absurd cc
 scope_set (s ∷ ss) x at v h = placed_by s ss x at v (bytes_eq s.name x) (λ at k. scope_set ss x at v k) h
 
@@ -109,15 +110,15 @@ unset_by s ss x v false None again h = ap (λ c. slot_of s ∷ c) (again refl)
 unset_by s ss x v false (Some j) again h = absurd cc
 
 -- a scope without the name stays
-scope_unset : (ss : List Slot) (x : List ℕ) (v : Value) → slot_place ss x ≡ None → set_in (scope_of_slots ss) x (value_of v) ≡ scope_of_slots ss
+scope_unset : (ss : List Slot) (x : List ℕ) (v : Value) → first_place (names_of ss) x ≡ None → set_in (scope_of_slots ss) x (value_of v) ≡ scope_of_slots ss
 scope_unset [] x v h = refl
-scope_unset (s ∷ ss) x v h = unset_by s ss x v (bytes_eq s.name x) (slot_place ss x) (scope_unset ss x v) h
+scope_unset (s ∷ ss) x v h = unset_by s ss x v (bytes_eq s.name x) (first_place (names_of ss) x) (scope_unset ss x v) h
 
 in_some : (ss : List Slot) (x : List ℕ) (j : ℕ) → CellAt ss x (Some j) → (c : Cell CodeValue) × (in_scope (scope_of_slots ss) x ≡ Some c)
 in_some [] x j h = absurd (let a = h.0 in omega (arith, a))
 in_some (s ∷ ss) x j h = (cell_of (get_or (s ∷ ss) j s), h.1 s)
 
-place_some : (ss : List Slot) (x : List ℕ) (j : ℕ) → slot_place ss x ≡ Some j → (c : Cell CodeValue) × (in_scope (scope_of_slots ss) x ≡ Some c)
+place_some : (ss : List Slot) (x : List ℕ) (j : ℕ) → first_place (names_of ss) x ≡ Some j → (c : Cell CodeValue) × (in_scope (scope_of_slots ss) x ≡ Some c)
 place_some ss x j h = in_some ss x j (subst (CellAt ss x) h (cell_at_place ss x))
 
 -- ---- all scopes
@@ -162,7 +163,7 @@ has_some (l ∷ ls) (suc k) j x h =
     let c = has_some ls k j x (h.0, λ i lt. h.1 (suc i) (omega (arith, lt))) in
     (c.0, scopes_last (rounds ls) (scope_of_level l) x ∙ ap (λ o. option_or o (in_scope (scope_of_level l) x)) c.1)
 
-level_is : (l m : Level) (x : List ℕ) (j : ℕ) (v : Value) → slot_place l.slots x ≡ Some j → SlotSet l j v m → scope_of_level m ≡ set_in (scope_of_level l) x (value_of v)
+level_is : (l m : Level) (x : List ℕ) (j : ℕ) (v : Value) → first_place (names_of l.slots) x ≡ Some j → SlotSet l j v m → scope_of_level m ≡ set_in (scope_of_level l) x (value_of v)
 level_is l m x j v p h = ap scope_of_slots h.2 ∙ scope_set l.slots x j v p
 
 -- the innermost level that declares the name is set
@@ -255,19 +256,19 @@ sets_module (b ∷ c ∷ ls) e late m x v le h = absurd (omega (arith, le))
 -- ---- the place of a name in a level
 
 module _ (old : List Level) (level : ℕ) (x : List ℕ) (d : Level) (below : level < length old) where
-  pub top_place : (at : ℕ) → slot_place (get_or old level d).slots x ≡ Some at → (d : Level) → at < length (get_or old level d).slots
+  pub top_place : (at : ℕ) → first_place (names_of (get_or old level d).slots) x ≡ Some at → (d : Level) → at < length (get_or old level d).slots
   top_place at p = (place_bound old level at x (place_there old level x d below ∙ p)).1
 
-  pub top_set : (at : ℕ) (v : Value) (new : List Level) → slot_place (get_or old level d).slots x ≡ Some at → LevelSet old level at v new → TopSet old level x v new
+  pub top_set : (at : ℕ) (v : Value) (new : List Level) → first_place (names_of (get_or old level d).slots) x ≡ Some at → LevelSet old level at v new → TopSet old level x v new
   top_set at v new p h = subst (λ o. SetWhere o old level v new) (sym (place_there old level x d below ∙ p)) h
 
-  pub top_stays : (v : Value) → slot_place (get_or old level d).slots x ≡ None → TopSet old level x v old
+  pub top_stays : (v : Value) → first_place (names_of (get_or old level d).slots) x ≡ None → TopSet old level x v old
   top_stays v p = subst (λ o. SetWhere o old level v old) (sym (place_there old level x d below ∙ p)) refl
 
 -- the names of a level that was looked up
-pub place_as : (old : List Level) (level : ℕ) (x : List ℕ) (d l : Level) (o : Option ℕ) → l ≡ get_or old level d → slot_place l.slots x ≡ o
-    → slot_place (get_or old level d).slots x ≡ o
-place_as old level x d l o e p = ap (λ (l : Level). slot_place l.slots x) (sym e) ∙ p
+pub place_as : (old : List Level) (level : ℕ) (x : List ℕ) (d l : Level) (o : Option ℕ) → l ≡ get_or old level d → first_place (names_of l.slots) x ≡ o
+    → first_place (names_of (get_or old level d).slots) x ≡ o
+place_as old level x d l o e p = ap (λ (l : Level). first_place (names_of l.slots) x) (sym e) ∙ p
 
 pub slot_written : (old : List Level) (level at : ℕ) (v : Value) (r result : Wrote) (new : List Level) (d l : Level) (s : Slot) → l ≡ get_or old level d
     → r ≡ slot_wrote (get_or l.slots at s) → r ≡ result → LevelWrote old level at v result new → SlotWritten old level at v result new

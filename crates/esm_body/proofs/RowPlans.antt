@@ -30,7 +30,7 @@ use Rattle.esm_env.specs.Declarations.{function_at}
 use Rattle.esm_env.specs.Faithful.{HasImports}
 use Rattle.esm_env.specs.Laws.{ReadsRight, WritesRight}
 use Rattle.esm_env.specs.Modules.{Modules}
-use Rattle.esm_env.specs.NamePlaces.{found_at}
+use Rattle.esm_env.specs.NamePlaces.{first_place}
 use Rattle.esm_env.specs.OwnNames.{own_names}
 use Rattle.esm_env.specs.Placed.{place_by, place_of}
 use Rattle.esm_env.specs.Scopes.{Scopes, scope_in, read_in, cells_of}
@@ -147,8 +147,8 @@ module _ {I S : Type 0} (seen : I → S) (modules : S → Modules ℕ) (linked :
         (p, known_out (K (Errs w new)) told b.1, errs_well w new ready)
 
     -- the place of a name in its module's scope is that among the names that its tree declares
-    placed : (w : Inside I) (m : ℕ) (x : List ℕ) (s : ModuleScope) → Ready w → scope_in (scopes_of w.envs.now) m ≡ Some s → place_of (scopes_of w.envs.now) m x ≡ found_at (own_names ((modules (seen w.imports.now)).tree m)) x
-    placed w m x s ready own = ap (λ o. place_by o x) own ∙ ap (λ names. found_at names x) (s.named ∙ ap own_names (ready.made.trees m s own))
+    placed : (w : Inside I) (m : ℕ) (x : List ℕ) (s : ModuleScope) → Ready w → scope_in (scopes_of w.envs.now) m ≡ Some s → place_of (scopes_of w.envs.now) m x ≡ first_place (own_names ((modules (seen w.imports.now)).tree m)) x
+    placed w m x s ready own = ap (λ o. place_by o x) own ∙ ap (λ names. first_place names x) (s.named ∙ ap own_names (ready.made.trees m s own))
 
     pub reads_own : (w : Inside I) (m k : ℕ) (name : List ℕ) (read : Reading CodeValue) (told : Out) (new : Errors) → ReadsRight
         → ((x : List ℕ) → place_of (scopes_of w.envs.now) m x ≡ Some k → name ≡ x) → ((x : List ℕ) → place_of (scopes_of w.envs.now) m x ≡ Some k → read ≡ read_in (scopes_of w.envs.now) m x)

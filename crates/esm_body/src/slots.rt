@@ -1,24 +1,22 @@
 // The names of a block, in order, and where each stands.
-ghost use Rattle.std.specs.Prelude.{◌≡◌, ◌<◌, ◌++◌, ◌∷◌, [], ℕ, List, length, slice_index_or, OnOk, IfOk};
-ghost use Rattle.esm_env.specs.NamePlaces.{ArePlaces};
-ghost use Rattle.esm_body.specs.Inner.SlotPlaces.{IsIndexed, IsSlotPlace, names_of, set_slot};
+ghost use Rattle.std.specs.Prelude.{◌≡◌, ◌<◌, [], length, slice_index_or, IfOk};
+ghost use Rattle.esm_env.specs.NamePlaces.{first_place};
+ghost use Rattle.esm_body.specs.Inner.SlotPlaces.{names_of, set_slot};
 ghost use Rattle.esm_body.specs.declared.work.Slot.{Slot};
 
 use crate::work::Slot;
-use esm_base::{Memory, TextMap};
+use esm_base::Memory;
+use esm_env::{HasName, NameIndex};
 use esm_values::Value;
 use std::alloc::Global;
 use std::marker::Model;
-
-/// Up to how many names are looked through one by one.
-const FEW: usize = 16;
 
 /// The names of a block, in order. Contracts see the list of them.
 #[derive(Drop)]
 pub struct Slots {
     list: Vec<Slot>,
-    /// The first place of each name, where there are more than a few.
-    places: Option<TextMap<usize>>,
+    /// The first place of each name.
+    places: NameIndex,
 }
 
 impl Model for Slots {
@@ -27,62 +25,20 @@ impl Model for Slots {
 
     ghost Value = { List Slot };
 
-    ghost use Rattle.esm_body.specs.Inner.SlotPlaces.{IsIndexed};
+    ghost use Rattle.esm_env.specs.NamePlaces.{IsIndexOf};
+    ghost use Rattle.esm_body.specs.Inner.SlotPlaces.{names_of};
 
     ghost view = { λ s. s.list.items };
 
-    ghost invariant = { λ s. IsIndexed s.places s.list.items };
+    ghost invariant = { λ s. IsIndexOf s.places (names_of s.list.items) };
 }
 
-/// The first place of a name, looked for one by one.
-fn scan(slots: &[Slot], name: &str) -> Option<usize>
-    ensures { IsSlotPlace slots.now name.now result }
-{
-    for at in 0..slots.len() {
-        if slots[at].name.as_str() == name {
-            return Some(at);
-        }
-    }
-    None
-}
+impl HasName for Slot {
+    ghost own_name = { λ s. s.name };
 
-/// Adds the place of a name, unless the name has one.
-fn add_place(
-    alloc: Global,
-    places: &mut TextMap<usize>,
-    name: &str,
-    at: usize,
-) -> Result<(), Memory>
-    ensures { (before : List (List ℕ)) → length before ≡ at → ArePlaces places.old before
-        → OnOk result (ArePlaces places.new (before ++ name.now ∷ [])) }
-{
-    let key = String::from_str(alloc, name)?;
-    match places.insert_new(key, at) {
-        Ok(_fresh) => Ok(()),
-        Err(end) => Err(end),
+    fn name(&self) -> &str {
+        self.name.as_str()
     }
-}
-
-/// The first place of each name.
-fn places_of(alloc: Global, slots: &[Slot]) -> Result<TextMap<usize>, Memory>
-    ensures { IfOk result (λ places. ArePlaces places (names_of slots.now)) }
-{
-    let mut places = TextMap::empty(alloc);
-    for at in 0..slots.len() {
-        add_place(alloc, &mut places, slots[at].name.as_str(), at)?;
-    }
-    Ok(places)
-}
-
-/// The first place of each name, where there are more than a few.
-fn index(alloc: Global, slots: &[Slot]) -> Result<Option<TextMap<usize>>, Memory>
-    ensures { IfOk result (λ places. IsIndexed places slots.now) }
-{
-    if slots.len() <= FEW {
-        return Ok(None);
-    }
-    let places = places_of(alloc, slots)?;
-    Ok(Some(places))
 }
 
 /// Sets the value of the name at this place.
@@ -100,26 +56,23 @@ impl Slots {
     {
         Slots {
             list: Vec::new(alloc),
-            places: None,
+            places: NameIndex::none(),
         }
     }
 
-    /// These names.
+    /// These names, with their index. Where memory runs out they are gone.
     pub(crate) fn of(alloc: Global, list: Vec<Slot>) -> Result<Slots, Memory>
         ensures { IfOk result (λ slots. slots ≡ list.items) }
     {
-        let places = index(alloc, list.as_slice())?;
+        let places = NameIndex::of(alloc, list.as_slice())?;
         Ok(Slots { list, places })
     }
 
     /// The first place of a name. It doesn't allocate.
     pub(crate) fn place(&self, name: &str) -> Option<usize>
-        ensures { IsSlotPlace self.now name.now result }
+        ensures { first_place (names_of self.now) name.now ≡ result }
     {
-        match &self.places {
-            Some(places) => places.get(name).copied(),
-            None => scan(self.list.as_slice(), name),
-        }
+        self.places.place(self.list.as_slice(), name)
     }
 
     /// The name at this place.

@@ -1,4 +1,5 @@
 pub mod FoundNames
+pub mod NameIndexes
 pub mod Places
 pub mod ScopesLemmas
 pub mod FaithfulLemmas

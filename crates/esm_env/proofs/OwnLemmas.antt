@@ -8,7 +8,7 @@ use Rattle.esm_tree.specs.Syntax.{Item}
 use Rattle.esm_base.specs.declared.module_id.ModuleId.{ModuleId}
 use Rattle.esm_env.specs.Declarations.{Declaration, FunctionCode, declared_in, body_of, functions_by, functions_of}
 use Rattle.esm_env.specs.Makes.{unset_slots, function_slots, names_by, function_names, slots_for}
-use Rattle.esm_env.specs.NamePlaces.{found_at}
+use Rattle.esm_env.specs.NamePlaces.{first_place}
 use Rattle.esm_env.specs.OwnNames.{own_names}
 use Rattle.esm_values.specs.Code.{CodeValue}
 use Rattle.esm_env.specs.Cells.{Reading, read_value, read_cell}
@@ -42,15 +42,15 @@ made_names m items =
 -- ---- places
 
 -- what has a place stands there
-pub placed_below : (slots : List Slot) (x : List ℕ) (place : ℕ) → found_at (slot_names slots) x ≡ Some place → place < length slots
+pub placed_below : (slots : List Slot) (x : List ℕ) (place : ℕ) → first_place (slot_names slots) x ≡ Some place → place < length slots
 placed_below slots x place e = (slot_place slots x (Some place) (sym e)).1
 
-pub placed_slot : (slots : List Slot) (x : List ℕ) (place : ℕ) (d : Slot) → found_at (slot_names slots) x ≡ Some place → slot_in slots x ≡ Some (slice_index_or slots place d)
+pub placed_slot : (slots : List Slot) (x : List ℕ) (place : ℕ) (d : Slot) → first_place (slot_names slots) x ≡ Some place → slot_in slots x ≡ Some (slice_index_or slots place d)
 placed_slot slots x place d e =
     let p = slot_place slots x (Some place) (sym e) in
     ap (λ n. slice_get slots n) p.0 ∙ slice_get-get_or slots place d p.1
 
-pub placed_in : (slots : List Slot) (x : List ℕ) (place : ℕ) → found_at (slot_names slots) x ≡ Some place → place_in slots x ≡ place
+pub placed_in : (slots : List Slot) (x : List ℕ) (place : ℕ) → first_place (slot_names slots) x ≡ Some place → place_in slots x ≡ place
 placed_in slots x place e = (slot_place slots x (Some place) (sym e)).0
 
 -- the place that is found is the place
@@ -60,37 +60,37 @@ both slots x None (Some q) h k = let e = h in let f = k in absurd (omega arith)
 both slots x (Some p) None h k = let e = h in let f = k in absurd (omega arith)
 both slots x (Some p) (Some q) h k = ap (λ n. Some n) (sym h.0 ∙ k.0)
 
-pub place_told : (slots : List Slot) (x : List ℕ) (o : Option ℕ) → IsPlace slots x o → o ≡ found_at (slot_names slots) x
-place_told slots x o h = both slots x o (found_at (slot_names slots) x) h (slot_place slots x (found_at (slot_names slots) x) refl)
+pub place_told : (slots : List Slot) (x : List ℕ) (o : Option ℕ) → IsPlace slots x o → o ≡ first_place (slot_names slots) x
+place_told slots x o h = both slots x o (first_place (slot_names slots) x) h (slot_place slots x (first_place (slot_names slots) x) refl)
 
-module _ (s : Slot) (x : List ℕ) (d : Slot) (later : List Slot) (next : (place : ℕ) → found_at (slot_names later) x ≡ Some place → (slice_index_or later place d).name ≡ x) where
-  later_name : (o : Option ℕ) → found_at (slot_names later) x ≡ o → (place : ℕ) → option_map suc o ≡ Some place → (slice_index_or (s ∷ later) place d).name ≡ x
+module _ (s : Slot) (x : List ℕ) (d : Slot) (later : List Slot) (next : (place : ℕ) → first_place (slot_names later) x ≡ Some place → (slice_index_or later place d).name ≡ x) where
+  later_name : (o : Option ℕ) → first_place (slot_names later) x ≡ o → (place : ℕ) → option_map suc o ≡ Some place → (slice_index_or (s ∷ later) place d).name ≡ x
   later_name None q place e = cc
   later_name (Some k) q zero e = cc
   later_name (Some k) q (suc place) e = let same : k ≡ place = cc in next place (q ∙ ap (λ n. Some n) same)
 
-  first_name : (b : Bool) → bytes_eq s.name x ≡ b → (place : ℕ) → (if b then Some 0 else option_map suc (found_at (slot_names later) x)) ≡ Some place → (slice_index_or (s ∷ later) place d).name ≡ x
+  first_name : (b : Bool) → bytes_eq s.name x ≡ b → (place : ℕ) → (if b then Some 0 else option_map suc (first_place (slot_names later) x)) ≡ Some place → (slice_index_or (s ∷ later) place d).name ≡ x
   first_name true h zero e = (bytes_eq-Decides s.name x).0 h
   first_name true h (suc place) e = cc
-  first_name false h place e = later_name (found_at (slot_names later) x) refl place e
+  first_name false h place e = later_name (first_place (slot_names later) x) refl place e
 
 -- it has that name
-pub placed_name : (slots : List Slot) (x : List ℕ) (place : ℕ) (d : Slot) → found_at (slot_names slots) x ≡ Some place → (slice_index_or slots place d).name ≡ x
+pub placed_name : (slots : List Slot) (x : List ℕ) (place : ℕ) (d : Slot) → first_place (slot_names slots) x ≡ Some place → (slice_index_or slots place d).name ≡ x
 placed_name [] x place d e = cc
 placed_name (s ∷ ss) x place d e = first_name s x d ss (λ p k. placed_name ss x p d k) (bytes_eq s.name x) refl place e
 
 -- ---- reading
 
-some_slot : (slots : List Slot) (x : List ℕ) (place : ℕ) → found_at (slot_names slots) x ≡ Some place → (t : Slot) × (slot_in slots x ≡ Some t)
+some_slot : (slots : List Slot) (x : List ℕ) (place : ℕ) → first_place (slot_names slots) x ≡ Some place → (t : Slot) × (slot_in slots x ≡ Some t)
 some_slot [] x place e = let h = placed_below [] x place e in absurd (omega arith)
 some_slot (s ∷ ss) x place e = (slice_index_or (s ∷ ss) place s, placed_slot (s ∷ ss) x place s e)
 
-pub read_slot : (slots : List Slot) (x : List ℕ) (place : ℕ) (v : Option CodeValue) → ((d : Slot) → v ≡ (slot_cell (slice_index_or slots place d)).value) → found_at (slot_names slots) x ≡ Some place
+pub read_slot : (slots : List Slot) (x : List ℕ) (place : ℕ) (v : Option CodeValue) → ((d : Slot) → v ≡ (slot_cell (slice_index_or slots place d)).value) → first_place (slot_names slots) x ≡ Some place
     → read_value v ≡ read_cell (cell_in (slot_in slots x))
 read_slot [] x place v h e = let k = placed_below [] x place e in absurd (omega arith)
 read_slot (s ∷ ss) x place v h e = ap read_value (h s) ∙ sym (ap (λ o. read_cell (cell_in o)) (placed_slot (s ∷ ss) x place s e))
 
-pub found_of : (e : Scopes) (m : ℕ) (s : ModuleScope) (x : List ℕ) (place : ℕ) → scope_in e m ≡ Some s → place_of e m x ≡ Some place → found_at (names_of s) x ≡ Some place
+pub found_of : (e : Scopes) (m : ℕ) (s : ModuleScope) (x : List ℕ) (place : ℕ) → scope_in e m ≡ Some s → place_of e m x ≡ Some place → first_place (names_of s) x ≡ Some place
 found_of e m s x place h p = sym (ap (λ o. place_by o x) h) ∙ p
 
 -- a name with a place is read there
@@ -120,7 +120,7 @@ done_by false (Some v) e h = refl
 abbrev SetAt : List Slot → ℕ → Bool → Type 0
 SetAt slots place is = (d : Slot) → is ≡ is_some (slot_cell (slice_index_or slots place d)).value
 
-set_slot : (slots : List Slot) (x : List ℕ) (place : ℕ) (is : Bool) (t : Slot) → SetAt slots place is → found_at (slot_names slots) x ≡ Some place → slot_in slots x ≡ Some t → is_some (slot_cell t).value ≡ is
+set_slot : (slots : List Slot) (x : List ℕ) (place : ℕ) (is : Bool) (t : Slot) → SetAt slots place is → first_place (slot_names slots) x ≡ Some place → slot_in slots x ≡ Some t → is_some (slot_cell t).value ≡ is
 set_slot slots x place is t h e k =
     let same : slice_index_or slots place t ≡ t = one _ _ (sym (placed_slot slots x place t e) ∙ k) in
     subst (λ u. is_some (slot_cell u).value ≡ is) same (sym (h t))
@@ -128,15 +128,15 @@ set_slot slots x place is t h e k =
     one : (a b : Slot) → ◌≡◌ {A = Option Slot} (Some a) (Some b) → a ≡ b
     one a b q = cc
 
-pub unset_at : (slots : List Slot) (x : List ℕ) (place : ℕ) (imports : Bool) (is : Bool) → SetAt slots place is → is ≡ false → found_at (slot_names slots) x ≡ Some place → wrote.Unset ≡ wrote_by (cell_in (slot_in slots x)) imports
+pub unset_at : (slots : List Slot) (x : List ℕ) (place : ℕ) (imports : Bool) (is : Bool) → SetAt slots place is → is ≡ false → first_place (slot_names slots) x ≡ Some place → wrote.Unset ≡ wrote_by (cell_in (slot_in slots x)) imports
 unset_at slots x place imports is h b e =
     let t = some_slot slots x place e in
     unset_by t.0.constant (slot_cell t.0).value (set_slot slots x place is t.0 h e t.1 ∙ b) ∙ sym (ap (λ o. wrote_by (cell_in o) imports) t.1)
 
-pub constant_at : (slots : List Slot) (x : List ℕ) (place : ℕ) (imports : Bool) (is : Bool) (t : Slot) → SetAt slots place is → is ≡ true → found_at (slot_names slots) x ≡ Some place → slot_in slots x ≡ Some t → t.constant ≡ true
+pub constant_at : (slots : List Slot) (x : List ℕ) (place : ℕ) (imports : Bool) (is : Bool) (t : Slot) → SetAt slots place is → is ≡ true → first_place (slot_names slots) x ≡ Some place → slot_in slots x ≡ Some t → t.constant ≡ true
     → wrote.Constant ≡ wrote_by (cell_in (slot_in slots x)) imports
 constant_at slots x place imports is t h b e k c = constant_by t.constant (slot_cell t).value (set_slot slots x place is t h e k ∙ b) c ∙ sym (ap (λ o. wrote_by (cell_in o) imports) k)
 
-pub done_at : (slots : List Slot) (x : List ℕ) (place : ℕ) (imports : Bool) (is : Bool) (t : Slot) → SetAt slots place is → is ≡ true → found_at (slot_names slots) x ≡ Some place → slot_in slots x ≡ Some t → t.constant ≡ false
+pub done_at : (slots : List Slot) (x : List ℕ) (place : ℕ) (imports : Bool) (is : Bool) (t : Slot) → SetAt slots place is → is ≡ true → first_place (slot_names slots) x ≡ Some place → slot_in slots x ≡ Some t → t.constant ≡ false
     → wrote.Done ≡ wrote_by (cell_in (slot_in slots x)) imports
 done_at slots x place imports is t h b e k c = done_by t.constant (slot_cell t).value (set_slot slots x place is t h e k ∙ b) c ∙ sym (ap (λ o. wrote_by (cell_in o) imports) k)

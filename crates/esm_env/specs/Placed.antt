@@ -1,6 +1,6 @@
 -- The places of the names that modules declare.
 use Rattle.std.specs.Prelude.{ℕ, List, map, Option, Some, None}
-use Rattle.esm_env.specs.NamePlaces.{found_at}
+use Rattle.esm_env.specs.NamePlaces.{first_place}
 use Rattle.esm_env.specs.Scopes.{Scopes, scope_in}
 use Rattle.esm_env.specs.declared.scope.ModuleScope.{ModuleScope}
 
@@ -10,7 +10,7 @@ names_of s = map (λ t. t.name) s.slots.items
 
 abbrev pub place_by : Option ModuleScope → List ℕ → Option ℕ
 place_by None x = None
-place_by (Some s) x = found_at (names_of s) x
+place_by (Some s) x = first_place (names_of s) x
 
 -- the place of a name among those that the module itself declares
 abbrev pub place_of : Scopes → ℕ → List ℕ → Option ℕ

@@ -4,14 +4,14 @@ ghost use Rattle.std.specs.Arc.{arc_value};
 ghost use Rattle.esm_env.specs.Calls.{told_read};
 ghost use Rattle.esm_env.specs.Cells.{read_cell};
 ghost use Rattle.esm_env.specs.Scopes.{IsImport, IsWritten, StaysOrWrites};
-ghost use Rattle.esm_env.specs.NamePlaces.{found_at};
+ghost use Rattle.esm_env.specs.NamePlaces.{first_place};
 ghost use Rattle.esm_env.specs.OwnNames.{own_names};
 ghost use Rattle.esm_env.specs.Placed.{names_of};
 ghost use Rattle.esm_env.specs.Slots.{IsPlace, cell_in, slot_in};
 ghost use Rattle.esm_env.specs.declared.scope.Wrote.TheVariants as wrote;
 
 use crate::functions::function_places;
-use crate::index::{import_places, slot_places};
+use crate::name_index::places_of;
 use crate::scope::{ModuleScope, Read, Target, Wrote};
 use crate::slots::{Slot, is_set, value_at, write_at};
 use esm_base::{Memory, ModuleId, Text};
@@ -35,8 +35,8 @@ impl ModuleScope {
         ensures tree { IfOk result (λ s. s.tree ≡ tree) }
         ensures namespace { IfOk result (λ s. s.namespace ≡ Value.Namespace m) }
     {
-        let slot_places = slot_places(alloc, slots.as_slice())?;
-        let import_places = import_places(alloc, imports.as_slice())?;
+        let slot_places = places_of(alloc, slots.as_slice())?;
+        let import_places = places_of(alloc, imports.as_slice())?;
         let functions = function_places(alloc, &tree)?;
         let scope = ModuleScope {
             namespace: Value::Namespace(m),
@@ -104,7 +104,7 @@ impl ModuleScope {
 
     /// Reads the name at a place.
     pub(crate) fn read_place(&self, place: usize) -> Read<'_>
-        ensures { (x : List ℕ) → found_at (names_of self.now) x ≡ Some place
+        ensures { (x : List ℕ) → first_place (names_of self.now) x ≡ Some place
             → told_read result ≡ read_cell (cell_in (slot_in self.now.slots.items x)) }
     {
         let slots = self.slots.as_slice();
@@ -120,7 +120,7 @@ impl ModuleScope {
 
     /// The name at a place, or an empty text.
     pub(crate) fn name_at(&self, place: usize) -> &str
-        ensures { (x : List ℕ) → found_at (names_of self.now) x ≡ Some place → result.now ≡ x }
+        ensures { (x : List ℕ) → first_place (names_of self.now) x ≡ Some place → result.now ≡ x }
     {
         if place < self.slots.len() {
             self.slots[place].name.as_str()
@@ -131,7 +131,7 @@ impl ModuleScope {
 
     /// Writes the name at a place.
     pub(crate) fn write_place(&mut self, place: usize, value: Value) -> Wrote
-        ensures { (x : List ℕ) → found_at (names_of self.old) x ≡ Some place
+        ensures { (x : List ℕ) → first_place (names_of self.old) x ≡ Some place
             → IsWritten self.old x value result self.new }
     {
         if place < self.slots.len() {

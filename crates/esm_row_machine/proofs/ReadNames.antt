@@ -8,7 +8,7 @@ use Rattle.esm_tree.specs.Syntax.{Expr, Item}
 use Rattle.esm_env.specs.Cells.{Reading}
 use Rattle.esm_env.specs.Cells.{Reading as reading}
 use Rattle.esm_env.specs.Modules.{Modules}
-use Rattle.esm_env.specs.NamePlaces.{found_at}
+use Rattle.esm_env.specs.NamePlaces.{first_place}
 use Rattle.esm_values.specs.Value as value
 use Rattle.esm_values.specs.Acts.{Act as act}
 use Rattle.esm_values.specs.Completion.{Completion}
@@ -169,7 +169,7 @@ module _ {W S : Type 0} (state : W → State ℕ S) (modules : S → Modules ℕ
   read_own k c after late same result p =
       by c.told.0 c.told.1 (subst (λ q. Told q c.rest c.spot) c.told.2 c.tells) (subst (λ (m : ℕ). Heard s.operands.items (λ told. SaysPlace after m k told) left result late.operands.items) c.at.stand.stands.below.frame.home p)
     where
-      by : (t : List ℕ) → found_at (owns_in state modules linked begins Ready Keeps owns w h.at) t ≡ Some k → Told (o.Name t) c.rest c.spot → Heard s.operands.items (λ told. SaysPlace after h.at k told) left result late.operands.items → Does result after late
+      by : (t : List ℕ) → first_place (owns_in state modules linked begins Ready Keeps owns w h.at) t ≡ Some k → Told (o.Name t) c.rest c.spot → Heard s.operands.items (λ told. SaysPlace after h.at k told) left result late.operands.items → Does result after late
       by t is told q = named_at c t told after late same result (record { told = q.told; says = q.says t is; took = q.took })
 
   -- ---- the URL

@@ -4,7 +4,7 @@ use Rattle.esm_base.specs.declared.limits.Limit.{Limit}
 use Rattle.esm_base.specs.declared.memory.Memory.{Memory}
 use Rattle.esm_env.specs.Declarations.{FunctionCode}
 use Rattle.esm_env.specs.Modules.{Modules, function_of}
-use Rattle.esm_env.specs.NamePlaces.{found_at}
+use Rattle.esm_env.specs.NamePlaces.{first_place}
 use Rattle.esm_values.specs.Value as value
 use Rattle.esm_values.specs.Acts.{Act as act}
 use Rattle.esm_values.specs.Code.{CodeValue, value_of, numbered}
@@ -168,7 +168,7 @@ module _ {W S : Type 0} (state : W → State ℕ S) (modules : S → Modules ℕ
 
     -- the name with this place
     abbrev pub ReadsPlace : W → ℕ → ℕ → Result Out Stop → W → Type 0
-    ReadsPlace w m k result after = (x : List ℕ) → found_at (owns_in w m) x ≡ Some k → Reads w m x result after
+    ReadsPlace w m k result after = (x : List ℕ) → first_place (owns_in w m) x ≡ Some k → Reads w m x result after
 
     abbrev pub IsRowIn : W → ℕ → ℕ → Result (Option Row) Memory → Type 0
     IsRowIn w m k (Ok (Some row)) = Ready w → IsLinked w m

@@ -6,7 +6,8 @@ use Rattle.std.specs.Prelude.{option_map, if◌then◌else◌}
 use Rattle.std.specs.Str.{bytes_eq}
 use Rattle.std.specs.Option.{option_or}
 use Rattle.std.proofs.lemmas.List.{length-map}
-use Rattle.esm_rows.specs.LocalPlaces.{place_in}
+use Rattle.esm_env.specs.NamePlaces.{first_place}
+use Rattle.esm_rows.specs.LocalPlaces.{texts_of}
 use Rattle.esm_rows.specs.Locals.{declaration, declared, names_onto, names_of, place_told}
 use Rattle.esm_rows.specs.Rows.{Names, Found, found_at, found_among, found_in, found_here, many_names}
 use Rattle.esm_rows.specs.declared.names.Block.{Block}
@@ -24,12 +25,12 @@ found_by false (Some j) l ls before (suc k) d later e more =
     ap (λ n. Some (found_at n (get_or ls k d).constant)) (omega arith) ∙ more k (ap Some same)
 
 -- a name at its first place is what is found among the names behind so many others
-pub found_place : (locals : List Local) (x : List ℕ) (before at : ℕ) (d : Local) → Some at ≡ place_in locals x → Some (found_at (before + at) (get_or locals at d).constant) ≡ found_among before (declared locals) x
+pub found_place : (locals : List Local) (x : List ℕ) (before at : ℕ) (d : Local) → Some at ≡ first_place (texts_of locals) x → Some (found_at (before + at) (get_or locals at d).constant) ≡ found_among before (declared locals) x
 found_place [] x before at d e = absurd cc
 found_place (l ∷ ls) x before at d e =
-    found_by (bytes_eq l.name x) (place_in ls x) l ls before at d (found_among (suc before) (declared ls) x) e (λ k h. found_place ls x (suc before) k d h)
+    found_by (bytes_eq l.name x) (first_place (texts_of ls) x) l ls before at d (found_among (suc before) (declared ls) x) e (λ k h. found_place ls x (suc before) k d h)
 
-pub found_there : (locals : List Local) (x : List ℕ) (before at next : ℕ) (l : Local) → Some at ≡ place_in locals x → next ≡ before + at → l ≡ get_or locals at l → Some (found_at next l.constant) ≡ found_among before (declared locals) x
+pub found_there : (locals : List Local) (x : List ℕ) (before at next : ℕ) (l : Local) → Some at ≡ first_place (texts_of locals) x → next ≡ before + at → l ≡ get_or locals at l → Some (found_at next l.constant) ≡ found_among before (declared locals) x
 found_there locals x before at next l e n is =
     ap (λ m. Some (found_at m l.constant)) n ∙ ap (λ (k : Local). Some (found_at (before + at) k.constant)) is ∙ found_place locals x before at l e
 
@@ -38,10 +39,10 @@ lost_by true o f later e more = absurd cc
 lost_by false None f later e more = more refl
 lost_by false (Some k) f later e more = absurd cc
 
-pub lost : (locals : List Local) (x : List ℕ) (before : ℕ) → None ≡ place_in locals x → None ≡ found_among before (declared locals) x
+pub lost : (locals : List Local) (x : List ℕ) (before : ℕ) → None ≡ first_place (texts_of locals) x → None ≡ found_among before (declared locals) x
 lost [] x before e = refl
 lost (l ∷ ls) x before e =
-    lost_by (bytes_eq l.name x) (place_in ls x) (found_at before l.constant) (found_among (suc before) (declared ls) x) e (lost ls x (suc before))
+    lost_by (bytes_eq l.name x) (first_place (texts_of ls) x) (found_at before l.constant) (found_among (suc before) (declared ls) x) e (lost ls x (suc before))
 
 -- ---- among blocks
 

@@ -2,7 +2,7 @@
 use Rattle.std.proofs.Common.{◌≡◌, ℕ, zero, suc, ◌<◌, ◌⊎◌, inl, inr, Bool, true, false, List, [], ◌∷◌, ◌++◌, map, length, Option, Some, None, refl, ap, subst, sym, ◌∙◌, slice_set, slice_index_or, get_or, length-append, arith}
 use Rattle.std.specs.Prelude.{slice_get, option_map, bytes_eq, if◌then◌else◌}
 use Rattle.esm_env.specs.Declarations.{FunctionCode}
-use Rattle.esm_env.specs.NamePlaces.{found_at}
+use Rattle.esm_env.specs.NamePlaces.{first_place}
 use Rattle.esm_env.specs.Slots.{place_by, place_in}
 use Rattle.esm_env.specs.declared.slots.Slot.{Slot}
 use Rattle.esm_rows.specs.Rows.{Operation, Row}
@@ -15,7 +15,7 @@ use Rattle.esm_rows.specs.Owning.{IsStill, AreStill}
 
 -- ---- the table of the module
 
-no_place : (x : List ℕ) (k : ℕ) → found_at [] x ≡ Some k → ⊥
+no_place : (x : List ℕ) (k : ℕ) → first_place [] x ≡ Some k → ⊥
 no_place x k e = cc
 
 module _ (owns texts : List (List ℕ)) where
@@ -144,10 +144,10 @@ further true n k len e h f = cc
 further false n k len e h f = omega (arith, e, h)
 
 -- the place of a slot is that of its name
-pub placed : (slots : List Slot) (x : List ℕ) (k : ℕ) → place_in slots x ≡ k → k < length slots → found_at (Names slots) x ≡ Some k
+pub placed : (slots : List Slot) (x : List ℕ) (k : ℕ) → place_in slots x ≡ k → k < length slots → first_place (Names slots) x ≡ Some k
 placed [] x k e h = absurd (omega (arith, h))
 placed (s ∷ slots) x k e h =
-    place_step (bytes_eq s.name x) (place_in slots x) k (found_at (Names slots) x) e
+    place_step (bytes_eq s.name x) (place_in slots x) k (first_place (Names slots) x) e
     (λ f. placed slots x (place_in slots x) refl (further (bytes_eq s.name x) (place_in slots x) k (length slots) e h f))
 
 -- ---- the row of an item's function

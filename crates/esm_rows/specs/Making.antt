@@ -5,7 +5,7 @@ use Rattle.esm_tree.specs.Syntax.{Expr, Links, ends, member, call}
 use Rattle.esm_tree.specs.Flat.{part, compared_parts}
 use Rattle.esm_tree.specs.Flat.{parts as expr_parts}
 use Rattle.std.specs.List.{flat_map}
-use Rattle.esm_env.specs.NamePlaces.{found_at}
+use Rattle.esm_env.specs.NamePlaces.{first_place}
 use Rattle.esm_tree.specs.declared.node.ExprId.{ExprId}
 use Rattle.esm_tree.specs.declared.node.Link.{Link}
 use Rattle.esm_tree.specs.declared.node.Link.TheVariants as link
@@ -111,7 +111,7 @@ TextAt texts k make p = (s : List ℕ) × (slice_get texts k ≡ Some s) × (p �
 
 -- the name whose first place among those of the module is this
 abbrev pub OwnAt : List (List ℕ) → ℕ → Operation → Type 0
-OwnAt owns k p = (s : List ℕ) × (found_at owns s ≡ Some k) × (p ≡ o.Name s)
+OwnAt owns k p = (s : List ℕ) × (first_place owns s ≡ Some k) × (p ≡ o.Name s)
 
 -- an operation of the code is this one, with the texts of its tables
 module _ (owns texts : List (List ℕ)) where

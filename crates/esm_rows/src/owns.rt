@@ -1,7 +1,7 @@
 // Names that a module itself declares are read by their places in it.
 ghost use Rattle.std.specs.Prelude.{◌≡◌, ◌<◌, [], List, ℕ, Some, length, slice_get};
 ghost use Rattle.esm_env.specs.Declarations.{FunctionCode};
-ghost use Rattle.esm_env.specs.NamePlaces.{found_at};
+ghost use Rattle.esm_env.specs.NamePlaces.{first_place};
 ghost use Rattle.esm_env.specs.Placed.{names_of};
 ghost use Rattle.esm_rows.specs.Functions.{IsFirstRow, IsRow};
 ghost use Rattle.esm_rows.specs.Making.{IsTold};
@@ -16,7 +16,7 @@ use esm_values::RcText;
 /// The read of a name, whose text stands here, by its place in the module. Where that is too large, by the text.
 fn own_place(place: usize, text: u32) -> Op
     ensures { (owns : List (List ℕ)) → (texts : List (List ℕ)) → (x : List ℕ)
-        → slice_get texts text ≡ Some x → found_at owns x ≡ Some place
+        → slice_get texts text ≡ Some x → first_place owns x ≡ Some place
         → IsTold owns texts result (o.Name x) }
 {
     match u32::try_from(place) {

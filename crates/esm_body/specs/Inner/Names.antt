@@ -16,7 +16,8 @@ use Rattle.esm_env.specs.Slots.{valued_by}
 use Rattle.esm_env.specs.Scopes.{Scopes, read_or, read_in}
 use Rattle.esm_rewriting.specs.Scopes.{Scope, in_scopes}
 use Rattle.esm_rewriting.specs.Acts.{not_initialized, not_defined}
-use Rattle.esm_body.specs.Inner.SlotPlaces.{slot_place}
+use Rattle.esm_env.specs.NamePlaces.{first_place}
+use Rattle.esm_body.specs.Inner.SlotPlaces.{names_of}
 use Rattle.esm_body.specs.declared.names.Found.{Found}
 use Rattle.esm_body.specs.declared.names.Found.TheVariants as found
 use Rattle.esm_body.specs.declared.work.Slot.{Slot}
@@ -40,7 +41,7 @@ reading_in ss e m x = read_or (in_scopes ss x) (read_in e m x)
 -- the place of the name in the level with this number, if there is one
 abbrev pub place_in : Option Level → List ℕ → Option ℕ
 place_in None x = None
-place_in (Some l) x = slot_place l.slots x
+place_in (Some l) x = first_place (names_of l.slots) x
 
 abbrev pub place_at : List Level → ℕ → List ℕ → Option ℕ
 place_at levels k x = place_in (slice_get levels k) x

@@ -1,10 +1,12 @@
-use Rattle.std.proofs.Common.{◌∙◌, ap, sym}
-use Rattle.esm_body.specs.Inner.SlotPlaces.{slot_place}
-use Rattle.esm_body.proofs.SlotPlaces.{indexed_place}
+use Rattle.std.proofs.Common.{◌≡◌, ◌∙◌, ap, sym, subst}
+use Rattle.esm_env.specs.NamePlaces.{IsIndexOf, first_place}
+use Rattle.esm_body.specs.Inner.SlotPlaces.{names_of}
 use Rattle.esm_body.proofs.slots.Slots.place.Goals as goal
 
-pub returns-in-Some : goal.returns-in-Some
-returns-in-Some c = indexed_place c.self.inside.places c.in-Some.places c.self.inside.list.items c.args.self.now c.args.name.now c.copied.result c.self.invariant c.in-Some.is c.self.view_is (c.copied.ensures ∙ c.get.ensures)
+pub place-requires : goal.place-requires
+place-requires c = subst (λ ss. IsIndexOf c.self.inside.places (names_of ss)) (sym c.as_slice.ensures.value) c.self.invariant
 
-pub returns-in-None : goal.returns-in-None
-returns-in-None c = ap (λ ss. slot_place ss c.args.name.now) (sym (c.as_slice.ensures.value ∙ c.self.view_is)) ∙ c.scan.ensures
+pub returns : goal.returns
+returns c =
+    let there : c.place.result ≡ first_place (names_of c.as_slice.result.now) c.args.name.now = c.place.ensures in
+    sym (there ∙ ap (λ ss. first_place (names_of ss) c.args.name.now) (c.as_slice.ensures.value ∙ c.self.view_is))

@@ -1,7 +1,7 @@
 use Rattle.esm_env.proofs.FoundNames.{placed}
 use Rattle.std.proofs.Common.{ap}
 use Rattle.std.specs.Prelude.{Ok}
-use Rattle.esm_env.proofs.index.add_place.Goals as goal
+use Rattle.esm_env.proofs.name_index.add_place.Goals as goal
 
 pub returns-in-Ok : goal.returns-in-Ok
 returns-in-Ok c =
