@@ -72,6 +72,10 @@ module _ (blocks : List Block) (from : Names → Option Found) where
   looked i found many h f =
       f.told ∙ ap from (subst (λ bs. names_onto bs f.names ≡ names_of blocks) (drop_of_length-le blocks h) f.left)
 
+  pub counts_all : (i : ℕ) (found : Option Place) (many : ℕ) → length blocks ≤ i → Finding blocks from i found many → many ≡ many_names (names_of blocks)
+  counts_all i found many h f =
+      f.counts ∙ ap many_names (subst (λ bs. names_onto bs f.names ≡ names_of blocks) (drop_of_length-le blocks h) f.left)
+
 -- in this block, or else in those outside
 pub found_more : (name : List ℕ) (ds : List Local) (names : Names) (here found later : Option Place) (many : ℕ) → many ≡ many_names names → place_told found ≡ found_in names name → place_told here ≡ found_among many (declared ds) name → place_told later ≡ option_or (place_told here) (place_told found) → place_told later ≡ found_in (declared ds ∷ names) name
 found_more name ds names here found later many m f h e =

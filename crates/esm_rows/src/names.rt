@@ -2,7 +2,7 @@
 ghost use Rattle.std.specs.Prelude.{◌≡◌, ◌+◌, IfOk};
 ghost use Rattle.std.specs.Option.{option_or};
 ghost use Rattle.esm_rows.specs.Locals.{declared, names_of, place_told};
-ghost use Rattle.esm_rows.specs.Rows.{found_among, found_in, found_here};
+ghost use Rattle.esm_rows.specs.Rows.{found_among, found_in, found_here, many_names};
 
 use crate::locals::Locals;
 use esm_base::Memory;
@@ -98,16 +98,27 @@ pub(crate) fn find(blocks: &[Block], name: &str) -> Result<Option<Place>, Memory
     Ok(found)
 }
 
+/// How many names these blocks have.
+fn many_of(blocks: &[Block]) -> Result<u32, Memory>
+    ensures { IfOk result (λ many. many ≡ many_names (names_of blocks.now)) }
+{
+    let mut many = 0u32;
+    for at in 0..blocks.len() {
+        let block = &blocks[at].names;
+        many = counted(many, block.len())?;
+    }
+    Ok(many)
+}
+
 /// The place of a name in the innermost of these blocks, if that has it.
 pub(crate) fn find_here(blocks: &[Block], name: &str) -> Result<Option<Place>, Memory>
     ensures { IfOk result (λ place. place_told place ≡ found_here (names_of blocks.now) name.now) }
 {
-    let mut found = None;
-    let mut before = 0u32;
-    for at in 0..blocks.len() {
-        let block = &blocks[at].names;
-        found = place_among(block, before, name)?;
-        before = counted(before, block.len())?;
+    match blocks.split_last() {
+        Some((inner, outer)) => {
+            let before = many_of(outer)?;
+            place_among(&inner.names, before, name)
+        }
+        None => Ok(None),
     }
-    Ok(found)
 }

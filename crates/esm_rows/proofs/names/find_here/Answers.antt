@@ -1,16 +1,29 @@
-use Rattle.std.proofs.Common.{refl}
-use Rattle.esm_rows.specs.Rows.{found_here}
-use Rattle.esm_rows.proofs.Found.{begins, looks, looked, here_more}
+use Rattle.std.proofs.Common.{◌≡◌, ℕ, List, [], ◌∷◌, ◌++◌, length, refl, ap, sym, ◌∙◌, arith}
+use Rattle.std.proofs.lemmas.Result.{IfOk-weaker}
+use Rattle.std.specs.Prelude.{Option, None}
+use Rattle.esm_rows.specs.Locals.{declared, names_of, place_told}
+use Rattle.esm_rows.specs.Rows.{found_among, found_here, many_names}
+use Rattle.esm_rows.specs.declared.names.Block.{Block}
+use Rattle.esm_rows.specs.declared.names.Place.{Place}
+use Rattle.esm_rows.proofs.Entered.{names_push}
+use Rattle.esm_rows.proofs.Found.{here_more}
 use Rattle.esm_rows.proofs.names.find_here.Goals as goal
 
-pub loop-at-init : goal.loop-at-init
-loop-at-init c = begins c.args.blocks.now (λ ns. found_here ns c.args.name.now) refl
+nowhere : (blocks : List Block) (name : List ℕ) → length blocks ≡ 0 → None ≡ found_here (names_of blocks) name
+nowhere [] name none = refl
+nowhere (b ∷ bs) name none = absurd (omega (arith, none))
 
-pub loop-at-preserved : goal.loop-at-preserved
-loop-at-preserved c =
-    let f = c.loop-at.invariant in
-    let after = rw c.len.ensures at c.in_ok-before.ensures in
-    looks c.args.blocks.now (λ ns. found_here ns c.args.name.now) c.loop-at.at _ c.loop-at.found c.in_ok-found.found c.loop-at.before _ c.loop-at-test.true f (here_more c.args.name.now _ f.names c.in_ok-found.found c.loop-at.before f.counts c.in_ok-found.ensures) after
+innermost : (blocks outer : List Block) (inner : Block) (name : List ℕ) (many : ℕ) → blocks ≡ outer ++ inner ∷ [] → many ≡ many_names (names_of outer) → (here : Option Place) → place_told here ≡ found_among many (declared inner.names) name → place_told here ≡ found_here (names_of blocks) name
+innermost blocks outer inner name many last counts here h =
+    here_more name inner.names (names_of outer) here many counts h ∙ ap (λ ns. found_here ns name) (sym (ap names_of last ∙ names_push outer inner []))
 
-pub returns : goal.returns
-returns c = looked c.args.blocks.now (λ ns. found_here ns c.args.name.now) c.loop-at.at c.loop-at.found c.loop-at.before c.loop-at-test.false c.loop-at.invariant
+pub returns-in_ok-before-in-Some : goal.returns-in_ok-before-in-Some
+returns-in_ok-before-in-Some c =
+    let inner = c.in-Some.inner.now in
+    let before = c.in_ok-before-in-Some.before in
+    let name = c.args.name.now in
+    IfOk-weaker c.place_among.result (λ place. place_told place ≡ found_among before (declared inner.names) name) (λ place. place_told place ≡ found_here (names_of c.args.blocks.now) name)
+    (innermost c.args.blocks.now c.in-Some.outer.now inner name before c.in-Some.ensures.cases.0 c.in_ok-before-in-Some.ensures) c.place_among.ensures
+
+pub returns-in-None : goal.returns-in-None
+returns-in-None c = nowhere c.args.blocks.now c.args.name.now c.in-None.ensures.cases
