@@ -10,7 +10,7 @@ use Rattle.esm_env.specs.Declarations.{Declaration}
 use Rattle.esm_rows.specs.Rows.{Row, Names, init_row, bindings_row, set_by, found_here}
 use Rattle.esm_rows.specs.Locals.{declared, names_onto, names_of}
 use Rattle.esm_rows.specs.Working.{outer}
-use Rattle.esm_rows.specs.declared.names.Block.{Block}
+use Rattle.esm_rows.specs.declared.names.Local.{Local}
 
 -- what is there and what is left are the whole
 module _ {X : Type 0} (one : X → List Declaration) (rest : List X → List Declaration) (xs : List X) where
@@ -29,11 +29,11 @@ module _ {X : Type 0} (one : X → List Declaration) (rest : List X → List Dec
 
 -- ---- blocks
 
-pub names_push : (bs : List Block) (b : Block) (ns : Names) → names_onto (bs ++ b ∷ []) ns ≡ declared b.names ∷ names_onto bs ns
+pub names_push : (bs : List (List Local)) (b : List Local) (ns : Names) → names_onto (bs ++ b ∷ []) ns ≡ declared b ∷ names_onto bs ns
 names_push [] b ns = refl
-names_push (a ∷ bs) b ns = names_push bs b (declared a.names ∷ ns)
+names_push (a ∷ bs) b ns = names_push bs b (declared a ∷ ns)
 
-pub popped : (bs bs2 : List Block) (r : Option Block) (n m : ℕ) → n ≡ length bs → bs ≡ bs2 ++ option_to_list r → MatchOption r ((n ≡ 0) × (m ≡ 0)) (λ _. m + 1 ≡ n) → names_of bs2 ≡ outer (names_of bs)
+pub popped : (bs bs2 : List (List Local)) (r : Option (List Local)) (n m : ℕ) → n ≡ length bs → bs ≡ bs2 ++ option_to_list r → MatchOption r ((n ≡ 0) × (m ≡ 0)) (λ _. m + 1 ≡ n) → names_of bs2 ≡ outer (names_of bs)
 popped bs bs2 (Some b) n m l e k = sym (ap outer (ap names_of e ∙ names_push bs2 b []))
 popped [] [] None n m l e k = refl
 popped [] (b ∷ bs2) None n m l e k = absurd (cc)

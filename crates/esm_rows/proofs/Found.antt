@@ -1,5 +1,5 @@
 -- A name of a block by its place there, and of blocks, one after another.
-use Rattle.std.proofs.Common.{◌≡◌, ◌≤◌, ◌<◌, ℕ, zero, suc, ◌+◌, Bool, true, false, List, [], ◌∷◌, length, drop, Option, Some, None, refl, ap, subst, ◌∙◌, get_or, arith}
+use Rattle.std.proofs.Common.{◌≡◌, ◌≤◌, ◌<◌, ℕ, zero, suc, ◌+◌, Bool, true, false, List, [], ◌∷◌, length, drop, Option, Some, None, refl, ap, sym, subst, ◌∙◌, get_or, arith}
 use Rattle.std.proofs.lemmas.List.{drop_more}
 use Rattle.std.proofs.Math.ListN.{drop_of_length-le}
 use Rattle.std.specs.Prelude.{option_map, if◌then◌else◌}
@@ -10,7 +10,6 @@ use Rattle.esm_env.specs.NamePlaces.{first_place}
 use Rattle.esm_rows.specs.LocalPlaces.{texts_of}
 use Rattle.esm_rows.specs.Locals.{declaration, declared, names_onto, names_of, place_told}
 use Rattle.esm_rows.specs.Rows.{Names, Found, found_at, found_among, found_in, found_here, many_names}
-use Rattle.esm_rows.specs.declared.names.Block.{Block}
 use Rattle.esm_rows.specs.declared.names.Place.{Place}
 use Rattle.esm_rows.specs.declared.names.Local.{Local}
 
@@ -47,23 +46,23 @@ lost (l ∷ ls) x before e =
 -- ---- among blocks
 
 -- the blocks before this place were looked at: what was found in them, and how many names they have
-pub record Finding (blocks : List Block) (from : Names → Option Found) (i : ℕ) (found : Option Place) (many : ℕ) : Type 0 where
+pub record Finding (blocks : List (List Local)) (from : Names → Option Found) (i : ℕ) (found : Option Place) (many : ℕ) : Type 0 where
   pub names : Names
   pub left : names_onto (drop i blocks) names ≡ names_of blocks
   pub told : place_told found ≡ from names
   pub counts : many ≡ many_names names
 
-module _ (blocks : List Block) (from : Names → Option Found) where
+module _ (blocks : List (List Local)) (from : Names → Option Found) where
   pub begins : None ≡ from [] → Finding blocks from 0 None 0
   begins e = record { names = []; left = refl; told = e; counts = refl }
 
-  pub looks : (i : ℕ) (b : Block) (found later : Option Place) (many after : ℕ) → i < length blocks → (f : Finding blocks from i found many) → (place_told later ≡ from (declared (get_or blocks i b).names ∷ f.names)) → after ≡ many + length (get_or blocks i b).names → Finding blocks from (i + 1) later after
-  looks i b found later many after h f e a =
-      let k = length-map (get_or blocks i b).names declaration in
+  pub looks : (i : ℕ) (b : List Local) (found later : Option Place) (many after : ℕ) → i < length blocks → (f : Finding blocks from i found many) → b ≡ get_or blocks i b → (place_told later ≡ from (declared b ∷ f.names)) → after ≡ many + length b → Finding blocks from (i + 1) later after
+  looks i b found later many after h f is e a =
+      let k = length-map b declaration in
       let m = f.counts in
       record {
-        names = declared (get_or blocks i b).names ∷ f.names;
-        left = subst (λ bs. names_onto bs f.names ≡ names_of blocks) (drop_more blocks i b h) f.left;
+        names = declared b ∷ f.names;
+        left = subst (λ bs. names_onto bs f.names ≡ names_of blocks) (drop_more blocks i b h ∙ ap (λ (l : List Local). l ∷ drop (i + 1) blocks) (sym is)) f.left;
         told = e;
         counts = omega (arith, k, m, a);
       }

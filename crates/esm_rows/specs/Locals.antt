@@ -3,7 +3,6 @@ use Rattle.std.specs.Prelude.{List, [], ◌∷◌, map, Option, Some, None}
 use Rattle.esm_env.specs.Declarations.{Declaration}
 use Rattle.esm_rows.specs.Rows.{Names, Found, found_at}
 use Rattle.esm_rows.specs.declared.names.Local.{Local}
-use Rattle.esm_rows.specs.declared.names.Block.{Block}
 use Rattle.esm_rows.specs.declared.names.Place.{Place}
 
 abbrev pub declaration : Local → Declaration
@@ -13,11 +12,11 @@ abbrev pub declared : List Local → List Declaration
 declared ls = map declaration ls
 
 -- the last block is the innermost
-abbrev pub names_onto : List Block → Names → Names
+abbrev pub names_onto : List (List Local) → Names → Names
 names_onto [] ns = ns
-names_onto (b ∷ bs) ns = names_onto bs (declared b.names ∷ ns)
+names_onto (b ∷ bs) ns = names_onto bs (declared b ∷ ns)
 
-abbrev pub names_of : List Block → Names
+abbrev pub names_of : List (List Local) → Names
 names_of bs = names_onto bs []
 
 abbrev pub place_told : Option Place → Option Found

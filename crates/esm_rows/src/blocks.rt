@@ -8,7 +8,7 @@ ghost use Rattle.esm_rows.specs.Locals.{declared, names_of};
 ghost use Rattle.esm_rows.specs.Working.{outer};
 
 use crate::locals::Locals;
-use crate::names::{Block, Local, count};
+use crate::names::{Local, count};
 use crate::nodes::stmt_at;
 use esm_base::{Memory, Text};
 use esm_tree::{LexicalBinding, StmtId, StmtNode, Tree};
@@ -110,14 +110,14 @@ pub(crate) fn add_names(
 }
 
 /// The block of these statements.
-pub(crate) fn block_of(alloc: Global, tree: &Tree, ids: &[StmtId]) -> Result<Block, Memory>
-    ensures { IfOk result (λ block. declared block.names
+pub(crate) fn block_of(alloc: Global, tree: &Tree, ids: &[StmtId]) -> Result<Locals, Memory>
+    ensures { IfOk result (λ block. declared block
         ≡ declared_in (stmt_parts tree.now.stmts ids.now)) }
 {
     let mut list = Vec::new(alloc);
     add_names(alloc, &mut list, tree, ids)?;
     let names = Locals::of(alloc, list)?;
-    Ok(Block { names })
+    Ok(names)
 }
 
 /// The block of these statements behind the name of what was thrown.
@@ -126,15 +126,15 @@ pub(crate) fn catch_block(
     tree: &Tree,
     name: &str,
     ids: &[StmtId],
-) -> Result<Block, Memory>
-    ensures { IfOk result (λ block. declared block.names
+) -> Result<Locals, Memory>
+    ensures { IfOk result (λ block. declared block
         ≡ caught_names (Some name.now) ++ declared_in (stmt_parts tree.now.stmts ids.now)) }
 {
     let mut list = Vec::new(alloc);
     add_name(alloc, &mut list, name, false)?;
     add_names(alloc, &mut list, tree, ids)?;
     let names = Locals::of(alloc, list)?;
-    Ok(Block { names })
+    Ok(names)
 }
 
 /// How many names a block has.
@@ -155,16 +155,16 @@ pub(crate) fn beside(all: u32, these: u32) -> Result<u32, Memory>
 }
 
 /// One block more, inside the others.
-pub(crate) fn push_block(blocks: &mut Vec<Block>, block: Block) -> Result<(), Memory>
+pub(crate) fn push_block(blocks: &mut Vec<Locals>, block: Locals) -> Result<(), Memory>
     ensures { OnOk result (names_of blocks.new.items
-        ≡ declared block.names ∷ names_of blocks.old.items) }
+        ≡ declared block ∷ names_of blocks.old.items) }
 {
     blocks.push(block)?;
     Ok(())
 }
 
 /// Leaves the innermost block.
-pub(crate) fn pop_block(blocks: &mut Vec<Block>)
+pub(crate) fn pop_block(blocks: &mut Vec<Locals>)
     ensures { names_of blocks.new.items ≡ outer (names_of blocks.old.items) }
 {
     let _block = blocks.pop();

@@ -6,7 +6,8 @@ ghost use Rattle.esm_rows.specs.Locals.{names_of, place_told};
 ghost use Rattle.esm_rows.specs.Making.{IsTold};
 ghost use Rattle.esm_rows.specs.Drafts.{IsDraft, IsToldIn};
 
-use crate::names::{Block, Place, count, find, find_here};
+use crate::locals::Locals;
+use crate::names::{Place, count, find, find_here};
 use crate::op::Op;
 use esm_base::Memory;
 use esm_values::RcText;
@@ -150,7 +151,7 @@ impl Draft {
     pub(crate) fn put_read(
         &mut self,
         alloc: Global,
-        blocks: &[Block],
+        blocks: &[Locals],
         name: &str,
     ) -> Result<(), Memory>
         ensures { (c : Row) → IsDraft self.old c → OnOk result (IsDraft self.new
@@ -165,7 +166,7 @@ impl Draft {
     pub(crate) fn put_write(
         &mut self,
         alloc: Global,
-        blocks: &[Block],
+        blocks: &[Locals],
         name: &str,
     ) -> Result<(), Memory>
         ensures { (c : Row) → IsDraft self.old c → OnOk result (IsDraft self.new
@@ -180,7 +181,7 @@ impl Draft {
     pub(crate) fn put_set(
         &mut self,
         alloc: Global,
-        blocks: &[Block],
+        blocks: &[Locals],
         name: &str,
     ) -> Result<(), Memory>
         ensures { (c : Row) → IsDraft self.old c → OnOk result (IsDraft self.new

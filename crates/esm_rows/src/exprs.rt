@@ -7,7 +7,7 @@ ghost use Rattle.esm_rows.specs.Locals.{names_of};
 ghost use Rattle.esm_rows.specs.Drafts.{IsDraft, Leads};
 
 use crate::draft::Draft;
-use crate::names::Block;
+use crate::locals::Locals;
 use crate::nodes::{expr_at, member_text};
 use crate::op::Op;
 use crate::tasks::{
@@ -22,7 +22,7 @@ fn put_node(
     alloc: Global,
     draft: &mut Draft,
     tasks: &mut Vec<Task>,
-    blocks: &[Block],
+    blocks: &[Locals],
     left: u32,
     id: ExprId,
     node: &ExprNode,
@@ -58,7 +58,7 @@ fn put_part(
     draft: &mut Draft,
     tasks: &mut Vec<Task>,
     tree: &Tree,
-    blocks: &[Block],
+    blocks: &[Locals],
     id: ExprId,
 ) -> Result<(), Memory>
     ensures { (made : Row) → Leads (names_of blocks.now) tree.now.exprs
@@ -78,7 +78,7 @@ fn do_task(
     draft: &mut Draft,
     tasks: &mut Vec<Task>,
     tree: &Tree,
-    blocks: &[Block],
+    blocks: &[Locals],
     task: Task,
 ) -> Result<(), Memory>
     ensures { (made : Row) → Leads (names_of blocks.now) tree.now.exprs
@@ -97,7 +97,7 @@ pub(crate) fn put_expr(
     alloc: Global,
     draft: &mut Draft,
     tree: &Tree,
-    blocks: &[Block],
+    blocks: &[Locals],
     id: ExprId,
 ) -> Result<(), Memory>
     ensures { (c : Row) → IsDraft draft.old c → OnOk result (IsDraft draft.new

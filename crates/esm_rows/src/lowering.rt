@@ -14,7 +14,7 @@ use crate::blocks::{add_names, add_parameters, beside, many_in};
 use crate::draft::Draft;
 use crate::locals::Locals;
 use crate::maker::Maker;
-use crate::names::{Block, count};
+use crate::names::count;
 use crate::owns::own_first;
 use crate::row::Row;
 use esm_base::{Memory, Text};
@@ -23,8 +23,8 @@ use esm_tree::{ItemNode, StmtId, Tree};
 use std::alloc::Global;
 
 /// The operations of a body whose names are those of this block.
-fn made(alloc: Global, tree: &Tree, block: Block, body: &[StmtId]) -> Result<Draft, Memory>
-    ensures { IfOk result (λ d. IsDraft d (stmts_row (declared block.names ∷ [])
+fn made(alloc: Global, tree: &Tree, block: Locals, body: &[StmtId]) -> Result<Draft, Memory>
+    ensures { IfOk result (λ d. IsDraft d (stmts_row (declared block ∷ [])
         (stmt_parts tree.now.stmts body.now) (o.End ∷ []))) }
 {
     let mut maker = Maker::of(alloc, block, body)?;
@@ -44,7 +44,7 @@ fn row_of(alloc: Global, tree: &Tree, parameters: &[Text], body: &[StmtId]) -> R
     let all = many_in(&names)?;
     let given = count(parameters.len())?;
     let own = beside(all, given)?;
-    let draft = made(alloc, tree, Block { names }, body)?;
+    let draft = made(alloc, tree, names, body)?;
     Ok(Row {
         ops: draft.ops,
         texts: draft.texts,

@@ -14,7 +14,7 @@ ghost use Rattle.esm_rows.specs.Working.{Comes, IsPlainOp, OwesIn, OwesWork, fir
 use crate::blocks::{beside, block_of, catch_block, many_in, pop_block, push_block};
 use crate::draft::Draft;
 use crate::exprs::put_expr;
-use crate::names::Block;
+use crate::locals::Locals;
 use crate::nodes::{first_ids, stmt_at};
 use crate::op::Op;
 use crate::simple::{put_assign, put_awaited, put_declaration, put_default, put_return, put_value};
@@ -28,15 +28,15 @@ use std::alloc::Global;
 pub(crate) struct Maker {
     pub(crate) draft: Draft,
     /// The blocks round the place, of which the last is the innermost.
-    pub(crate) blocks: Vec<Block>,
+    pub(crate) blocks: Vec<Locals>,
     pub(crate) works: Vec<Work>,
 }
 
 impl Maker {
     /// A row of these statements, whose names are those of this block.
-    pub(crate) fn of(alloc: Global, block: Block, body: &[StmtId]) -> Result<Maker, Memory>
+    pub(crate) fn of(alloc: Global, block: Locals, body: &[StmtId]) -> Result<Maker, Memory>
         ensures { (exprs : List Expr) → (stmts : List Stmt) → IfOk result (λ m. Comes exprs stmts m
-            (stmts_row (declared block.names ∷ []) (stmt_parts stmts body.now)
+            (stmts_row (declared block ∷ []) (stmt_parts stmts body.now)
             (o.End ∷ []))) }
     {
         let mut draft = Draft::new(alloc);
@@ -53,10 +53,10 @@ impl Maker {
     }
 
     /// Enters a block of these statements, which ends with one operation and begins with another.
-    fn open(&mut self, block: Block, close: Op, begin: Op, ids: &[StmtId]) -> Result<(), Memory>
+    fn open(&mut self, block: Locals, close: Op, begin: Op, ids: &[StmtId]) -> Result<(), Memory>
         ensures { (exprs : List Expr) → (stmts : List Stmt) → (made : Row) → IsPlainOp close
             → IsPlainOp begin → OwesIn exprs stmts self.old
-            (λ c. plain begin ∷ stmts_row (declared block.names ∷ names_of self.old.blocks.items)
+            (λ c. plain begin ∷ stmts_row (declared block ∷ names_of self.old.blocks.items)
             (stmt_parts stmts ids.now) (plain close ∷ c)) made
             → OnOk result (Comes exprs stmts self.new made) }
     {
@@ -75,7 +75,7 @@ impl Maker {
     {
         let left = self.draft.left()?;
         let block = block_of(alloc, tree, ids)?;
-        let many = many_in(&block.names)?;
+        let many = many_in(&block)?;
         push_work(&mut self.works, Work::Put(Op::Step))?;
         self.open(block, Op::Leave(many, left), Op::Enter(many), ids)
     }
@@ -90,7 +90,7 @@ impl Maker {
         let ids = first_ids(tree, id);
         let others = self.draft.left()?;
         let block = block_of(alloc, tree, ids)?;
-        let many = many_in(&block.names)?;
+        let many = many_in(&block)?;
         push_work(&mut self.works, Work::Put(Op::Choose(others)))?;
         self.open(block, Op::Leave(many, left), Op::Enter(many), ids)
     }
@@ -105,7 +105,7 @@ impl Maker {
         let ids = first_ids(tree, id);
         let handler = self.draft.left()?;
         let block = block_of(alloc, tree, ids)?;
-        let many = many_in(&block.names)?;
+        let many = many_in(&block)?;
         self.open(block, Op::EndTry(many, left), Op::Try(many, handler), ids)
     }
 
@@ -144,7 +144,7 @@ impl Maker {
     {
         let left = self.draft.left()?;
         let block = block_of(alloc, tree, others)?;
-        let many = many_in(&block.names)?;
+        let many = many_in(&block)?;
         push_if(&mut self.works, id, value, left)?;
         self.open(block, Op::Leave(many, left), Op::Enter(many), others)
     }
@@ -167,7 +167,7 @@ impl Maker {
     {
         let left = self.draft.left()?;
         let block = block_of(alloc, tree, handler)?;
-        let many = many_in(&block.names)?;
+        let many = many_in(&block)?;
         push_two(&mut self.works, Work::Put(Op::Step), Work::Tried(id, left))?;
         self.open(
             block,
@@ -198,7 +198,7 @@ impl Maker {
     {
         let left = self.draft.left()?;
         let block = catch_block(alloc, tree, name, handler)?;
-        let all = many_in(&block.names)?;
+        let all = many_in(&block)?;
         let many = beside(all, 1)?;
         push_two(&mut self.works, Work::Put(Op::Step), Work::Tried(id, left))?;
         self.open(block, Op::Leave(all, left), Op::Caught(many), handler)

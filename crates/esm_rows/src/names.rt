@@ -17,13 +17,6 @@ pub struct Local {
     pub constant: bool,
 }
 
-/// The names of a block.
-#[derive(Drop)]
-pub struct Block {
-    /// In order.
-    pub names: Locals,
-}
-
 /// Where the value of a name stands.
 #[derive(Clone, Copy)]
 pub struct Place {
@@ -84,13 +77,13 @@ fn first_of(first: Option<Place>, second: Option<Place>) -> Option<Place>
 }
 
 /// The place of a name in the innermost of these blocks that has it, of which the last is the innermost.
-pub(crate) fn find(blocks: &[Block], name: &str) -> Result<Option<Place>, Memory>
+pub(crate) fn find(blocks: &[Locals], name: &str) -> Result<Option<Place>, Memory>
     ensures { IfOk result (λ place. place_told place ≡ found_in (names_of blocks.now) name.now) }
 {
     let mut found = None;
     let mut before = 0u32;
     for at in 0..blocks.len() {
-        let block = &blocks[at].names;
+        let block = &blocks[at];
         let here = place_among(block, before, name)?;
         found = first_of(here, found);
         before = counted(before, block.len())?;
@@ -99,25 +92,25 @@ pub(crate) fn find(blocks: &[Block], name: &str) -> Result<Option<Place>, Memory
 }
 
 /// How many names these blocks have.
-fn many_of(blocks: &[Block]) -> Result<u32, Memory>
+fn many_of(blocks: &[Locals]) -> Result<u32, Memory>
     ensures { IfOk result (λ many. many ≡ many_names (names_of blocks.now)) }
 {
     let mut many = 0u32;
     for at in 0..blocks.len() {
-        let block = &blocks[at].names;
+        let block = &blocks[at];
         many = counted(many, block.len())?;
     }
     Ok(many)
 }
 
 /// The place of a name in the innermost of these blocks, if that has it.
-pub(crate) fn find_here(blocks: &[Block], name: &str) -> Result<Option<Place>, Memory>
+pub(crate) fn find_here(blocks: &[Locals], name: &str) -> Result<Option<Place>, Memory>
     ensures { IfOk result (λ place. place_told place ≡ found_here (names_of blocks.now) name.now) }
 {
     match blocks.split_last() {
         Some((inner, outer)) => {
             let before = many_of(outer)?;
-            place_among(&inner.names, before, name)
+            place_among(inner, before, name)
         }
         None => Ok(None),
     }

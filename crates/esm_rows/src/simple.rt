@@ -10,7 +10,7 @@ ghost use Rattle.esm_rows.specs.Drafts.{IsDraft, IsToldIn};
 
 use crate::draft::Draft;
 use crate::exprs::put_expr;
-use crate::names::Block;
+use crate::locals::Locals;
 use crate::op::Op;
 use esm_base::Memory;
 use esm_tree::{ExprId, Initializer, LexicalBinding, Tree};
@@ -21,7 +21,7 @@ fn put_await(
     alloc: Global,
     draft: &mut Draft,
     tree: &Tree,
-    blocks: &[Block],
+    blocks: &[Locals],
     id: ExprId,
 ) -> Result<(), Memory>
     ensures { (c : Row) → IsDraft draft.old c → OnOk result (IsDraft draft.new
@@ -36,7 +36,7 @@ fn put_init(
     alloc: Global,
     draft: &mut Draft,
     tree: &Tree,
-    blocks: &[Block],
+    blocks: &[Locals],
     init: Initializer,
 ) -> Result<(), Memory>
     ensures { (c : Row) → IsDraft draft.old c → OnOk result (IsDraft draft.new
@@ -54,7 +54,7 @@ fn put_declared(
     alloc: Global,
     draft: &mut Draft,
     tree: &Tree,
-    blocks: &[Block],
+    blocks: &[Locals],
     name: &str,
     init: Initializer,
 ) -> Result<(), Memory>
@@ -71,7 +71,7 @@ fn put_bindings(
     alloc: Global,
     draft: &mut Draft,
     tree: &Tree,
-    blocks: &[Block],
+    blocks: &[Locals],
     bindings: &[LexicalBinding],
 ) -> Result<(), Memory>
     ensures { (c : Row) → IsDraft draft.old c → OnOk result (IsDraft draft.new
@@ -96,7 +96,7 @@ pub(crate) fn put_declaration(
     alloc: Global,
     draft: &mut Draft,
     tree: &Tree,
-    blocks: &[Block],
+    blocks: &[Locals],
     bindings: &[LexicalBinding],
 ) -> Result<(), Memory>
     ensures { (c : Row) → IsDraft draft.old c → OnOk result (IsDraft draft.new (o.Step
@@ -112,7 +112,7 @@ pub(crate) fn put_default(
     alloc: Global,
     draft: &mut Draft,
     tree: &Tree,
-    blocks: &[Block],
+    blocks: &[Locals],
     init: Initializer,
 ) -> Result<(), Memory>
     ensures { (c : Row) → IsDraft draft.old c → OnOk result (IsDraft draft.new (o.Step
@@ -127,7 +127,7 @@ pub(crate) fn put_assign(
     alloc: Global,
     draft: &mut Draft,
     tree: &Tree,
-    blocks: &[Block],
+    blocks: &[Locals],
     name: &str,
     init: Initializer,
 ) -> Result<(), Memory>
@@ -144,7 +144,7 @@ pub(crate) fn put_value(
     alloc: Global,
     draft: &mut Draft,
     tree: &Tree,
-    blocks: &[Block],
+    blocks: &[Locals],
     id: ExprId,
     last: Op,
 ) -> Result<(), Memory>
@@ -162,7 +162,7 @@ pub(crate) fn put_awaited(
     alloc: Global,
     draft: &mut Draft,
     tree: &Tree,
-    blocks: &[Block],
+    blocks: &[Locals],
     id: ExprId,
     last: Op,
 ) -> Result<(), Memory>

@@ -18,5 +18,5 @@ returns c = λ made ss handler is hs owes.
     let d = c.in_ok-block.ensures ∙ ap (λ z. caught_names (Some c.args.name.now) ++ declared_in z) s in
     let a = c.in_ok-all.ensures in
     let l = c.in_ok-left.ensures owes.row owes.told in
-    let same = named_same (names_of c.args.self.now.blocks.items) handler c.args.name.now (declared c.in_ok-block.block.names) (stmt_parts c.args.tree.now.stmts c.args.handler.now) d s c.in_ok-all.all c.in_ok-many.many c.in_ok-left.left owes.row a c.in_ok-many.ensures l in
-    c.open.ensures c.args.tree.now.exprs c.args.tree.now.stmts made (λ texts. refl) (λ texts. refl) (shift c.args.tree.now.exprs c.args.tree.now.stmts (w.Put op.Step ∷ w.Tried c.args.id c.in_ok-left.left ∷ []) owes (λ r. o.Caught true c.in_ok-many.many ∷ stmts_row (declared c.in_ok-block.block.names ∷ names_of c.args.self.now.blocks.items) (stmt_parts c.args.tree.now.stmts c.args.handler.now) (o.Leave c.in_ok-all.all c.in_ok-left.left ∷ r)) owes.row owes.told (λ i. amid (names_of c.args.self.now.blocks.items) (o.Step ∷ tried_row (names_of c.args.self.now.blocks.items) (is i) (l i) (same i))) ((λ texts. refl), (tt, tt)) _ c.in_ok-push_two.ensures)
+    let same = named_same (names_of c.args.self.now.blocks.items) handler c.args.name.now (declared c.in_ok-block.block) (stmt_parts c.args.tree.now.stmts c.args.handler.now) d s c.in_ok-all.all c.in_ok-many.many c.in_ok-left.left owes.row a c.in_ok-many.ensures l in
+    c.open.ensures c.args.tree.now.exprs c.args.tree.now.stmts made (λ texts. refl) (λ texts. refl) (shift c.args.tree.now.exprs c.args.tree.now.stmts (w.Put op.Step ∷ w.Tried c.args.id c.in_ok-left.left ∷ []) owes (λ r. o.Caught true c.in_ok-many.many ∷ stmts_row (declared c.in_ok-block.block ∷ names_of c.args.self.now.blocks.items) (stmt_parts c.args.tree.now.stmts c.args.handler.now) (o.Leave c.in_ok-all.all c.in_ok-left.left ∷ r)) owes.row owes.told (λ i. amid (names_of c.args.self.now.blocks.items) (o.Step ∷ tried_row (names_of c.args.self.now.blocks.items) (is i) (l i) (same i))) ((λ texts. refl), (tt, tt)) _ c.in_ok-push_two.ensures)

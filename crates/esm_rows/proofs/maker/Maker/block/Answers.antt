@@ -16,4 +16,4 @@ returns c = λ made ss is owes.
     let d = c.in_ok-block.ensures ∙ ap declared_in s in
     let m = c.in_ok-many.ensures in
     let l = c.in_ok-left.ensures owes.row owes.told in
-    c.open.ensures c.args.tree.now.exprs c.args.tree.now.stmts made (λ texts. refl) (λ texts. refl) (shift c.args.tree.now.exprs c.args.tree.now.stmts (w.Put op.Step ∷ []) owes (λ r. o.Enter c.in_ok-many.many ∷ stmts_row (declared c.in_ok-block.block.names ∷ names_of c.args.self.now.blocks.items) (stmt_parts c.args.tree.now.stmts c.args.ids.now) (o.Leave c.in_ok-many.many c.in_ok-left.left ∷ r)) owes.row owes.told (ap (λ r. amid (names_of c.args.self.now.blocks.items) (o.Step ∷ r)) (block_same (names_of c.args.self.now.blocks.items) ss (declared c.in_ok-block.block.names) (stmt_parts c.args.tree.now.stmts c.args.ids.now) d s c.in_ok-many.many c.in_ok-left.left (length owes.row) owes.row m l)) ((λ texts. refl), tt) _ c.in_ok-push_work.ensures)
+    c.open.ensures c.args.tree.now.exprs c.args.tree.now.stmts made (λ texts. refl) (λ texts. refl) (shift c.args.tree.now.exprs c.args.tree.now.stmts (w.Put op.Step ∷ []) owes (λ r. o.Enter c.in_ok-many.many ∷ stmts_row (declared c.in_ok-block.block ∷ names_of c.args.self.now.blocks.items) (stmt_parts c.args.tree.now.stmts c.args.ids.now) (o.Leave c.in_ok-many.many c.in_ok-left.left ∷ r)) owes.row owes.told (ap (λ r. amid (names_of c.args.self.now.blocks.items) (o.Step ∷ r)) (block_same (names_of c.args.self.now.blocks.items) ss (declared c.in_ok-block.block) (stmt_parts c.args.tree.now.stmts c.args.ids.now) d s c.in_ok-many.many c.in_ok-left.left (length owes.row) owes.row m l)) ((λ texts. refl), tt) _ c.in_ok-push_work.ensures)

@@ -16,5 +16,5 @@ returns c = λ made ss others is os owes.
     let d = c.in_ok-block.ensures ∙ ap declared_in s in
     let m = c.in_ok-many.ensures in
     let l = c.in_ok-left.ensures owes.row owes.told in
-    let same = block_same (names_of c.args.self.now.blocks.items) others (declared c.in_ok-block.block.names) (stmt_parts c.args.tree.now.stmts c.args.others.now) d s c.in_ok-many.many c.in_ok-left.left (length owes.row) owes.row m l in
-    c.open.ensures c.args.tree.now.exprs c.args.tree.now.stmts made (λ texts. refl) (λ texts. refl) (shift c.args.tree.now.exprs c.args.tree.now.stmts (w.Put op.Step ∷ w.Value c.args.value ∷ w.First c.args.id c.in_ok-left.left ∷ []) owes (λ r. o.Enter c.in_ok-many.many ∷ stmts_row (declared c.in_ok-block.block.names ∷ names_of c.args.self.now.blocks.items) (stmt_parts c.args.tree.now.stmts c.args.others.now) (o.Leave c.in_ok-many.many c.in_ok-left.left ∷ r)) owes.row owes.told (λ i. amid (names_of c.args.self.now.blocks.items) (o.Step ∷ expr_row (names_of c.args.self.now.blocks.items) (part c.args.tree.now.exprs c.args.value) (first_row (names_of c.args.self.now.blocks.items) (is i) (l i) (same i)))) ((λ texts. refl), (tt, (tt, tt))) _ c.in_ok-push_if.ensures)
+    let same = block_same (names_of c.args.self.now.blocks.items) others (declared c.in_ok-block.block) (stmt_parts c.args.tree.now.stmts c.args.others.now) d s c.in_ok-many.many c.in_ok-left.left (length owes.row) owes.row m l in
+    c.open.ensures c.args.tree.now.exprs c.args.tree.now.stmts made (λ texts. refl) (λ texts. refl) (shift c.args.tree.now.exprs c.args.tree.now.stmts (w.Put op.Step ∷ w.Value c.args.value ∷ w.First c.args.id c.in_ok-left.left ∷ []) owes (λ r. o.Enter c.in_ok-many.many ∷ stmts_row (declared c.in_ok-block.block ∷ names_of c.args.self.now.blocks.items) (stmt_parts c.args.tree.now.stmts c.args.others.now) (o.Leave c.in_ok-many.many c.in_ok-left.left ∷ r)) owes.row owes.told (λ i. amid (names_of c.args.self.now.blocks.items) (o.Step ∷ expr_row (names_of c.args.self.now.blocks.items) (part c.args.tree.now.exprs c.args.value) (first_row (names_of c.args.self.now.blocks.items) (is i) (l i) (same i)))) ((λ texts. refl), (tt, (tt, tt))) _ c.in_ok-push_if.ensures)

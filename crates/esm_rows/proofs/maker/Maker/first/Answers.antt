@@ -16,4 +16,4 @@ returns c = λ made owes.
     let d = c.in_ok-block.ensures ∙ ap declared_in s in
     let m = c.in_ok-many.ensures in
     let k = c.in_ok-others.ensures owes.row owes.told in
-    c.open.ensures c.args.tree.now.exprs c.args.tree.now.stmts made (λ texts. refl) (λ texts. refl) (shift c.args.tree.now.exprs c.args.tree.now.stmts (w.Put (op.Choose c.in_ok-others.others) ∷ []) owes (λ r. o.Enter c.in_ok-many.many ∷ stmts_row (declared c.in_ok-block.block.names ∷ names_of c.args.self.now.blocks.items) (stmt_parts c.args.tree.now.stmts c.first_ids-ids.result.now) (o.Leave c.in_ok-many.many c.args.left ∷ r)) owes.row owes.told (ap (λ r. amid (names_of c.args.self.now.blocks.items) r) (first_same (names_of c.args.self.now.blocks.items) (first_block (stmt_part c.args.tree.now.stmts c.args.id)) (declared c.in_ok-block.block.names) (stmt_parts c.args.tree.now.stmts c.first_ids-ids.result.now) d s c.in_ok-others.others c.in_ok-many.many c.args.left c.args.left owes.row k m refl)) ((λ texts. refl), tt) _ c.in_ok-push_work.ensures)
+    c.open.ensures c.args.tree.now.exprs c.args.tree.now.stmts made (λ texts. refl) (λ texts. refl) (shift c.args.tree.now.exprs c.args.tree.now.stmts (w.Put (op.Choose c.in_ok-others.others) ∷ []) owes (λ r. o.Enter c.in_ok-many.many ∷ stmts_row (declared c.in_ok-block.block ∷ names_of c.args.self.now.blocks.items) (stmt_parts c.args.tree.now.stmts c.first_ids-ids.result.now) (o.Leave c.in_ok-many.many c.args.left ∷ r)) owes.row owes.told (ap (λ r. amid (names_of c.args.self.now.blocks.items) r) (first_same (names_of c.args.self.now.blocks.items) (first_block (stmt_part c.args.tree.now.stmts c.args.id)) (declared c.in_ok-block.block) (stmt_parts c.args.tree.now.stmts c.first_ids-ids.result.now) d s c.in_ok-others.others c.in_ok-many.many c.args.left c.args.left owes.row k m refl)) ((λ texts. refl), tt) _ c.in_ok-push_work.ensures)
