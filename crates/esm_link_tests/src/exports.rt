@@ -12,7 +12,6 @@ use esm_resolve::{
     Binding, ExportGraph, Resolution, exported_names, is_sound, namespace_keys, resolve_export,
 };
 use std::alloc::Global;
-use std::test::Fail;
 
 // The records of a site, whose requests have loaded their modules.
 #[derive(Drop)]
@@ -102,75 +101,79 @@ fn shown(alloc: Global, text: &str, found: &Resolution) -> Result<String, Memory
     }
 }
 
-// The names, with a blank behind each.
+// The names, with blanks between, or `nothing`.
 fn joined(alloc: Global, names: &[Text]) -> Result<String, Memory> {
     let mut text = String::new(alloc);
+    let mut gap = "";
     for name in names {
+        text.push_str(gap)?;
         text.push_str(name.as_str())?;
-        text.push_str(" ")?;
+        gap = " ";
+    }
+    if names.is_empty() {
+        text.push_str("nothing")?;
     }
     Ok(text)
 }
 
-// Whether a name of the first module of a site denotes this.
-fn denotes(alloc: Global, text: &str, name: &str, wanted: &str) -> Result<bool, Memory> {
-    let site = build(alloc, text)?;
-    let graph = graph(&site)?;
-    let found = resolution(alloc, &graph, ModuleId(0), name)?;
-    Ok(shown(alloc, text, &found)?.as_str() == wanted)
+// What a name of the first module denotes; of `(names)` the names that it exports, of `(keys)` the keys of its namespace.
+fn told(alloc: Global, graph: &Loaded<'_>, text: &str, asked: &str) -> Result<String, Memory> {
+    let m = ModuleId(0);
+    if asked == "(names)" {
+        return joined(alloc, names_of(alloc, graph, m)?.as_slice());
+    }
+    if asked == "(keys)" {
+        return joined(alloc, keys_of(alloc, graph, m)?.as_slice());
+    }
+    shown(alloc, text, &resolution(alloc, graph, m, asked)?)
 }
 
-// Whether the first module of a site exports these names, and its namespace has these keys.
-fn exports(alloc: Global, text: &str, names: &str, keys: &str) -> Result<bool, Memory> {
-    let site = build(alloc, text)?;
-    let graph = graph(&site)?;
-    let found = names_of(alloc, &graph, ModuleId(0))?;
-    let has_names = joined(alloc, found.as_slice())?.as_str() == names;
-    let found = keys_of(alloc, &graph, ModuleId(0))?;
-    Ok(has_names && joined(alloc, found.as_slice())?.as_str() == keys)
+// Whether this is told of a site.
+fn is_told(alloc: Global, site: &Site, text: &str, row: &str) -> Result<bool, Memory> {
+    let Some((asked, wanted)) = row.split_once(" = ") else {
+        return Ok(false);
+    };
+    let found = told(alloc, &graph(site)?, text, asked)?;
+    Ok(found.as_str() == wanted)
 }
 
-const TWO: &str =
-    "s~export * from 'a'; export * from 'b';|a~export const x = 'a';|b~export const x = 'b';";
+// A site, what is asked of its first module, and what is told: how a name's resolution goes, or the module and the name that
+// it leads to. There are a name behind two stars, two stars that lead to one binding, a default behind a star, two modules
+// that export each other's name, and names whose code units stand in another order.
+const EXPORTS: &str = "\
+s~export * from 'a'; export * from 'b';|a~export const x = 'a';|b~export const x = 'b'; => x = ambiguous
+s~export * from 'a'; export * from 'b';|a~export * from 'c';|b~export * from 'c';|c~export const x = 'c'; => x = c x
+s~export * from 'd';|d~export default 'v'; => default = missing
+a~export {x} from 'b';|b~export {x} from 'a'; => x = missing
+s~export * from 'a'; export * from 'b';|a~export const x = 'a';|b~export const x = 'b'; => (names) = x
+s~export * from 'a'; export * from 'b';|a~export const x = 'a';|b~export const x = 'b'; => (keys) = nothing
+s~export * from 'a'; export * from 'b';|a~export * from 'c';|b~export * from 'c';|c~export const x = 'c'; => (names) = x
+s~export * from 'a'; export * from 'b';|a~export * from 'c';|b~export * from 'c';|c~export const x = 'c'; => (keys) = x
+k~export const \u{FF21} = '1'; export const \u{10400} = '2'; => (names) = \u{FF21} \u{10400}
+k~export const \u{FF21} = '1'; export const \u{10400} = '2'; => (keys) = \u{10400} \u{FF21}";
 
-const ONE: &str =
-    "s~export * from 'a'; export * from 'b';|a~export * from 'c';|b~export * from 'c';|c~export const x = 'c';";
+// Whether a row of `EXPORTS` is as it says.
+fn is_row_told(alloc: Global, row: &str) -> Result<bool, Memory> {
+    let Some((text, rest)) = row.split_once(" => ") else {
+        return Ok(false);
+    };
+    let site = build(alloc, text)?;
+    is_told(alloc, &site, text, rest)
+}
+
+// The first row of `EXPORTS` that isn't as it says, if there is one.
+fn wrong_row(alloc: Global) -> Result<Option<&'static str>, Memory> {
+    for row in EXPORTS.lines() {
+        if !is_row_told(alloc, row)? {
+            return Ok(Some(row));
+        }
+    }
+    Ok(None)
+}
 
 #[test]
-fn names_denote_what_stands_behind_them(rt: HostRuntime) -> Result<(), Fail> {
-    let alloc = rt.alloc();
-    for (text, name, wanted) in [
-        (TWO, "x", "ambiguous"),
-        (ONE, "x", "c x"),
-        (
-            "s~export * from 'd';|d~export default 'v';",
-            "default",
-            "missing",
-        ),
-        (
-            "a~export {x} from 'b';|b~export {x} from 'a';",
-            "x",
-            "missing",
-        ),
-    ] {
-        assert!(rt; denotes(alloc, text, name, wanted)?, "{text}");
-    }
-    Ok(())
-}
-
-#[test]
-fn namespaces_have_the_names_of_one_binding_as_keys(rt: HostRuntime) -> Result<(), Fail> {
-    let alloc = rt.alloc();
-    for (text, names, keys) in [
-        (TWO, "x ", ""),
-        (ONE, "x ", "x "),
-        (
-            "k~export const \u{FF21} = '1'; export const \u{10400} = '2';",
-            "\u{FF21} \u{10400} ",
-            "\u{10400} \u{FF21} ",
-        ),
-    ] {
-        assert!(rt; exports(alloc, text, names, keys)?, "{text}");
-    }
+fn names_denote_and_are_exported(rt: HostRuntime) -> Result<(), Memory> {
+    assert_eq!(rt; wrong_row(rt.alloc())?, None);
+    assert!(rt; EXPORTS.lines().count() == 10);
     Ok(())
 }

@@ -8,4 +8,6 @@ mod exports;
 #[cfg(test)]
 mod linking;
 #[cfg(test)]
+mod records;
+#[cfg(test)]
 mod sites;

@@ -12,7 +12,6 @@ use esm_link::{LinkEnd, LinkFault, LinkKind, laws, link};
 use esm_realm::ModuleStatus;
 use esm_values::{RcText, Value};
 use std::alloc::Global;
-use std::test::Fail;
 
 // A fault as a text: its kind, its module, its name and its target.
 fn fault_text(alloc: Global, text: &str, fault: &LinkFault) -> Result<String, Memory> {
@@ -92,47 +91,106 @@ fn told(
     Ok(told)
 }
 
+// Whether linking a module comes to this.
+fn is_told(
+    alloc: Global,
+    site: &mut Site,
+    envs: &mut Envs,
+    text: &str,
+    root: u32,
+    expected: &str,
+) -> Result<bool, Memory>
+    requires { IsBuilt (map arc_value site.old.trees.items) (records_of site.old.realm) }
+    ensures { IsBuilt (map arc_value site.new.trees.items) (records_of site.new.realm) }
+{
+    let told = told(alloc, site, envs, text, ModuleId(root))?;
+    Ok(told.as_str() == expected)
+}
+
 // Whether linking the first module comes to this, and linking it again.
+fn is_told_twice(
+    alloc: Global,
+    site: &mut Site,
+    envs: &mut Envs,
+    text: &str,
+    expected: &str,
+) -> Result<bool, Memory>
+    requires { IsBuilt (map arc_value site.old.trees.items) (records_of site.old.realm) }
+{
+    if is_told(alloc, site, envs, text, 0, expected)? {
+        is_told(alloc, site, envs, text, 0, expected)
+    } else {
+        Ok(false)
+    }
+}
+
+// The same with a new site.
 fn comes_to(alloc: Global, text: &str, expected: &str) -> Result<bool, Memory> {
     let mut site = build(alloc, text)?;
     let mut envs = Envs::new(alloc);
-    let first = told(alloc, &mut site, &mut envs, text, ModuleId(0))?;
-    let again = told(alloc, &mut site, &mut envs, text, ModuleId(0))?;
-    Ok(first.as_str() == expected && again.as_str() == expected)
+    is_told_twice(alloc, &mut site, &mut envs, text, expected)
 }
 
-#[test]
-fn sites_link_as_the_standard_says(rt: HostRuntime) -> Result<(), Fail> {
-    let alloc = rt.alloc();
-    for (text, expected) in SITES {
-        assert!(rt; comes_to(alloc, text, expected)?);
+// Whether a row is a heading, which begins with `# `.
+fn is_heading(row: &str) -> bool {
+    match row.split_once("# ") {
+        Some((before, _words)) => before.is_empty(),
+        None => false,
     }
+}
+
+// Whether the site of a row links as the row says; a heading says nothing.
+fn is_row_told(alloc: Global, row: &str) -> Result<bool, Memory> {
+    match row.split_once(" => ") {
+        Some((text, expected)) => comes_to(alloc, text, expected),
+        None => Ok(is_heading(row)),
+    }
+}
+
+// The first row of both tables whose site links otherwise, if there is one.
+fn wrong_row(alloc: Global) -> Result<Option<&'static str>, Memory> {
+    for row in SITES.lines().chain(SOUGHT.lines()) {
+        if !is_row_told(alloc, row)? {
+            return Ok(Some(row));
+        }
+    }
+    Ok(None)
+}
+
+// Thirty sites below eleven headings, and four below two.
+#[test]
+fn sites_link_as_the_standard_says(rt: HostRuntime) -> Result<(), Memory> {
+    assert_eq!(rt; wrong_row(rt.alloc())?, None);
+    assert!(rt; SITES.lines().count() == 41 && SOUGHT.lines().count() == 6);
     Ok(())
 }
 
-#[test]
-fn names_are_sought_over_other_modules(rt: HostRuntime) -> Result<(), Fail> {
-    let alloc = rt.alloc();
-    for (text, expected) in SOUGHT {
-        assert!(rt; comes_to(alloc, text, expected)?);
+const CYCLE: &str =
+    "m~import 'a';|a~import 'b'; export let x;|b~import 'a'; import {n} from 'c';|c~|d~import 'c'; import 'e';|e~import 'd';";
+
+// Whether the first module of `CYCLE` has its fault, the fifth links over what has closed, and the second has the fault again.
+fn is_cut_short(alloc: Global, site: &mut Site, envs: &mut Envs) -> Result<bool, Memory>
+    requires { IsBuilt (map arc_value site.old.trees.items) (records_of site.old.realm) }
+{
+    if !is_told(alloc, site, envs, CYCLE, 0, "K1 b n c: ---+--")? {
+        return Ok(false);
     }
-    Ok(())
+    if !is_told(alloc, site, envs, CYCLE, 4, "fine: ---+++")? {
+        return Ok(false);
+    }
+    is_told(alloc, site, envs, CYCLE, 1, "K1 b n c: ---+++")
+}
+
+fn cycle_is_cut_short(alloc: Global) -> Result<bool, Memory> {
+    let mut site = build(alloc, CYCLE)?;
+    let mut envs = Envs::new(alloc);
+    is_cut_short(alloc, &mut site, &mut envs)
 }
 
 // Behind a fault in a cycle another root is linked, over what had closed; from the first the fault is the same again.
 #[test]
-fn links_again_behind_a_fault_in_a_cycle(rt: HostRuntime) -> Result<(), Fail> {
-    let alloc = rt.alloc();
-    let text =
-        "m~import 'a';|a~import 'b'; export let x;|b~import 'a'; import {n} from 'c';|c~|d~import 'c'; import 'e';|e~import 'd';";
-    let mut site = build(alloc, text)?;
-    let mut envs = Envs::new(alloc);
-    let first = told(alloc, &mut site, &mut envs, text, ModuleId(0))?;
-    assert_eq!(rt; first.as_str(), "K1 b n c: ---+--");
-    let other = told(alloc, &mut site, &mut envs, text, ModuleId(4))?;
-    assert_eq!(rt; other.as_str(), "fine: ---+++");
-    let again = told(alloc, &mut site, &mut envs, text, ModuleId(1))?;
-    assert_eq!(rt; again.as_str(), "K1 b n c: ---+++");
+fn links_again_behind_a_fault_in_a_cycle(rt: HostRuntime) -> Result<(), Memory> {
+    assert!(rt; cycle_is_cut_short(rt.alloc())?);
     Ok(())
 }
 
@@ -157,45 +215,83 @@ fn reads_text(envs: &Envs, m: ModuleId, name: &str, text: &str) -> bool {
     }
 }
 
+const DECLARED: &str = "m~export let x = '1';";
+
+// Whether `x` of the first module is unset, and then initialised and written, and `y` is undeclared.
+fn is_set_and_written(alloc: Global, envs: &mut Envs) -> Result<bool, Memory> {
+    let m = ModuleId(0);
+    if reads_as(envs, m, "x") != "unset" {
+        return Ok(false);
+    }
+    envs.initialise(m, "x", Value::Text(RcText::copy(alloc, "1")?));
+    Ok(
+        reads_text(envs, m, "x", "1")
+            && envs.write(m, "x", Value::Undefined) == Wrote::Done
+            && reads_as(envs, m, "y") == "undeclared",
+    )
+}
+
+fn links_and_is_set(alloc: Global, site: &mut Site, envs: &mut Envs) -> Result<bool, Memory>
+    requires { IsBuilt (map arc_value site.old.trees.items) (records_of site.old.realm) }
+{
+    if is_told(alloc, site, envs, DECLARED, 0, "fine: +")? {
+        is_set_and_written(alloc, envs)
+    } else {
+        Ok(false)
+    }
+}
+
+fn declared_is_set(alloc: Global) -> Result<bool, Memory> {
+    let mut site = build(alloc, DECLARED)?;
+    let mut envs = Envs::new(alloc);
+    links_and_is_set(alloc, &mut site, &mut envs)
+}
+
 // A name is unset until it is initialised, and may then be written.
 #[test]
-fn a_declared_name_is_set_and_written(rt: HostRuntime) -> Result<(), Fail> {
-    let alloc = rt.alloc();
-    let text = "m~export let x = '1';";
-    let mut site = build(alloc, text)?;
-    let mut envs = Envs::new(alloc);
-    let first = told(alloc, &mut site, &mut envs, text, ModuleId(0))?;
-    assert_eq!(rt; first.as_str(), "fine: +");
-    assert_eq!(rt; reads_as(&envs, ModuleId(0), "x"), "unset");
-    envs.initialise(ModuleId(0), "x", Value::Text(RcText::copy(alloc, "1")?));
-    assert!(rt; reads_text(&envs, ModuleId(0), "x", "1"));
-    let wrote = envs.write(ModuleId(0), "x", Value::Undefined);
-    assert_eq!(rt; wrote, Wrote::Done);
-    assert_eq!(rt; reads_as(&envs, ModuleId(0), "y"), "undeclared");
+fn a_declared_name_is_set_and_written(rt: HostRuntime) -> Result<(), Memory> {
+    assert!(rt; declared_is_set(rt.alloc())?);
     Ok(())
+}
+
+const BOUND: &str =
+    "m~import {x, f, y as z} from 's'; import * as n from 'a';|s~export * from 'a';|a~export const x = ''; export function f() {} let y; export {y};";
+
+// How names of the first module of `BOUND` read once it is linked, and once `x` of the third is initialised.
+const READ: &str = "x unset\nz unset\nf value\nn value\ny undeclared";
+
+const READ_BEHIND: &str = "x value\nz unset";
+
+// Whether the names of these rows read so.
+fn all_read_so(envs: &Envs, rows: &str) -> bool {
+    for row in rows.lines() {
+        match row.split_once(' ') {
+            Some((name, wanted)) if reads_as(envs, ModuleId(0), name) == wanted => {}
+            _ => return false,
+        }
+    }
+    true
+}
+
+fn links_and_reads(alloc: Global, site: &mut Site, envs: &mut Envs) -> Result<bool, Memory>
+    requires { IsBuilt (map arc_value site.old.trees.items) (records_of site.old.realm) }
+{
+    if !is_told(alloc, site, envs, BOUND, 0, "fine: +++")? || !all_read_so(envs, READ) {
+        return Ok(false);
+    }
+    envs.initialise(ModuleId(2), "x", Value::Undefined);
+    Ok(all_read_so(envs, READ_BEHIND))
+}
+
+fn bound_reads(alloc: Global) -> Result<bool, Memory> {
+    let mut site = build(alloc, BOUND)?;
+    let mut envs = Envs::new(alloc);
+    links_and_reads(alloc, &mut site, &mut envs)
 }
 
 // An import reads as what it is bound to: unset before its declaration has run, and a function at once.
 #[test]
-fn imports_read_where_they_are_bound(rt: HostRuntime) -> Result<(), Fail> {
-    let alloc = rt.alloc();
-    let text =
-        "m~import {x, f, y as z} from 's'; import * as n from 'a';|s~export * from 'a';|a~export const x = ''; export function f() {} let y; export {y};";
-    let mut site = build(alloc, text)?;
-    let mut envs = Envs::new(alloc);
-    let first = told(alloc, &mut site, &mut envs, text, ModuleId(0))?;
-    assert_eq!(rt; first.as_str(), "fine: +++");
-    for (name, wanted) in [
-        ("x", "unset"),
-        ("z", "unset"),
-        ("f", "value"),
-        ("n", "value"),
-        ("y", "undeclared"),
-    ] {
-        assert_eq!(rt; reads_as(&envs, ModuleId(0), name), wanted);
-    }
-    envs.initialise(ModuleId(2), "x", Value::Undefined);
-    assert_eq!(rt; reads_as(&envs, ModuleId(0), "x"), "value");
-    assert_eq!(rt; reads_as(&envs, ModuleId(0), "z"), "unset");
+fn imports_read_where_they_are_bound(rt: HostRuntime) -> Result<(), Memory> {
+    assert!(rt; bound_reads(rt.alloc())?);
     Ok(())
 }
