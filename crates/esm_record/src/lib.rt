@@ -6,6 +6,3 @@ mod record;
 
 pub use delivery::Delivery;
 pub use record::append_record;
-
-#[cfg(test)]
-mod tests;

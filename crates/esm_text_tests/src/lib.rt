@@ -1,4 +1,5 @@
-//! Tests of what module texts say: their tokens, their expressions, whether they are module texts, and their entries.
+//! Tests of what module texts say: their tokens, their expressions, whether they are module texts, and their entries; and of
+//! records of what was taken.
 #![tactic(auto)]
 
 #[cfg(test)]
@@ -7,6 +8,8 @@ mod entries;
 mod expressions;
 #[cfg(test)]
 mod grammar_rows;
+#[cfg(test)]
+mod records;
 #[cfg(test)]
 mod tokens;
 #[cfg(test)]

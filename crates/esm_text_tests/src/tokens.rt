@@ -4,10 +4,9 @@ use esm_base::{ReadEnd, TextFault};
 use esm_lexer::{lexemes, tokens};
 use esm_tree::TokenKind;
 use std::alloc::{AllocError, Global};
-use std::test::Fail;
 
-// What a row's text stands for: these signs are characters that would not be seen in a row.
-fn unmarked(alloc: Global, row: &str) -> Result<String, AllocError> {
+/// What a row's text stands for: these signs are characters that would not be seen in a row.
+pub fn unmarked(alloc: Global, row: &str) -> Result<String, AllocError> {
     let mut text = String::new(alloc);
     for c in row.chars() {
         let meant = match c {
@@ -182,35 +181,23 @@ Literal:ab | "a\¶b"
 Name:a P2 | a 1 b
 "#;
 
-#[test]
-fn texts_have_their_tokens(rt: HostRuntime) -> Result<(), Fail> {
-    let alloc = rt.alloc();
-    for row in PLACES.lines() {
-        let Some((wanted, text)) = row.split_once(" | ") else {
-            continue;
-        };
-        let found = places(alloc, unmarked(alloc, text)?.as_bytes())?;
-        assert_eq!(rt; found.as_str(), wanted, "at {text}");
-    }
-    assert_eq!(rt; PLACES.lines().count(), 50);
-    assert_eq!(rt; places(alloc, b"\xff")?.as_str(), "P1");
-    assert_eq!(rt; places(alloc, b"a\xed\xa0\x80")?.as_str(), "P1");
-    Ok(())
+// Whether the tokens of a row's text are as the row says.
+fn has_places(alloc: Global, row: &str) -> Result<bool, AllocError> {
+    let Some((wanted, text)) = row.split_once(" | ") else {
+        return Ok(false);
+    };
+    let text = unmarked(alloc, text)?;
+    Ok(places(alloc, text.as_bytes())?.as_str() == wanted)
 }
 
-#[test]
-fn tokens_spell_their_texts(rt: HostRuntime) -> Result<(), Fail> {
-    let alloc = rt.alloc();
-    for row in SPELLED.lines() {
-        let Some((wanted, text)) = row.split_once(" | ") else {
-            continue;
-        };
-        let found = spelled(alloc, unmarked(alloc, text)?.as_bytes())?;
-        let meant = unmarked(alloc, wanted)?;
-        assert_eq!(rt; found.as_str(), meant.as_str(), "at {text}");
-    }
-    assert_eq!(rt; SPELLED.lines().count(), 36);
-    Ok(())
+// Whether they spell what the row says.
+fn is_spelled(alloc: Global, row: &str) -> Result<bool, AllocError> {
+    let Some((wanted, text)) = row.split_once(" | ") else {
+        return Ok(false);
+    };
+    let text = unmarked(alloc, text)?;
+    let meant = unmarked(alloc, wanted)?;
+    Ok(spelled(alloc, text.as_bytes())?.as_str() == meant.as_str())
 }
 
 // The fault of a text made of one that is repeated, and of what stands behind it.
@@ -231,33 +218,89 @@ fn repeated(
     }
 }
 
-#[test]
-fn nesting_is_bounded(rt: HostRuntime) -> Result<(), Fail> {
-    let rows = [
-        ("(", 64, "ok"),
-        ("(", 65, "P4"),
-        ("{", 64, "ok"),
-        ("{", 65, "P4"),
-        ("({", 32, "ok"),
-        ("({", 33, "P4"),
-        ("()", 65, "ok"),
-        (")", 65, "ok"),
-        ("!", 64, "ok"),
-        ("!", 65, "P4"),
-        ("! /*↵*/", 65, "P4"),
-        ("!a", 65, "ok"),
-        ("!==", 65, "ok"),
-    ];
-    for (unit, count, wanted) in rows {
-        assert_eq!(rt;
-            repeated(rt.alloc(), unit, count, b"")?,
-            wanted,
-            "at {unit}"
-        );
+// How often a text is repeated, and behind ` | ` the text.
+const NESTED: &str = "\
+64 ok | (
+65 P4 | (
+64 ok | {
+65 P4 | {
+32 ok | ({
+33 P4 | ({
+65 ok | ()
+65 ok | )
+64 ok | !
+65 P4 | !
+65 P4 | ! /*↵*/
+65 ok | !a
+65 ok | !==";
+
+/// Whether a row is a heading, which begins with `# `.
+pub fn is_heading(row: &str) -> bool {
+    match row.split_once("# ") {
+        Some((before, _words)) => before.is_empty(),
+        None => false,
     }
-    // Which fault comes first.
-    assert_eq!(rt; repeated(rt.alloc(), "(", 65, b"1")?, "P4");
-    assert_eq!(rt; repeated(rt.alloc(), "(", 64, b"1(")?, "P2");
-    assert_eq!(rt; repeated(rt.alloc(), "(", 65, b"\xff")?, "P1");
+}
+
+/// The number that a text begins with.
+pub fn count_of(text: &str) -> usize {
+    let mut count = 0_usize;
+    for c in text.chars() {
+        match c.to_digit(10) {
+            Some(digit) => count = count.saturating_mul(10).saturating_add(digit as usize),
+            None => return count,
+        }
+    }
+    count
+}
+
+// Whether the repeated text of a row has the fault that the row says.
+fn is_nested(alloc: Global, row: &str) -> Result<bool, AllocError> {
+    let Some((wanted, unit)) = row.split_once(" | ") else {
+        return Ok(false);
+    };
+    let Some((count, wanted)) = wanted.split_once(' ') else {
+        return Ok(false);
+    };
+    Ok(repeated(alloc, unit, count_of(count), b"")? == wanted)
+}
+
+// The first row of the three tables that isn't as it says, if there is one.
+fn wrong_row(alloc: Global) -> Result<Option<&'static str>, AllocError> {
+    for row in PLACES.lines() {
+        if !has_places(alloc, row)? {
+            return Ok(Some(row));
+        }
+    }
+    for row in SPELLED.lines() {
+        if !is_spelled(alloc, row)? {
+            return Ok(Some(row));
+        }
+    }
+    for row in NESTED.lines() {
+        if !is_nested(alloc, row)? {
+            return Ok(Some(row));
+        }
+    }
+    Ok(None)
+}
+
+#[test]
+fn texts_have_their_tokens(rt: HostRuntime) -> Result<(), AllocError> {
+    assert_eq!(rt; wrong_row(rt.alloc())?, None);
+    assert!(rt; PLACES.lines().count() == 50);
+    assert!(rt; SPELLED.lines().count() == 36);
+    assert!(rt; NESTED.lines().count() == 13);
+    Ok(())
+}
+
+#[test]
+fn bytes_come_before_nesting_and_nesting_before_signs(rt: HostRuntime) -> Result<(), AllocError> {
+    let alloc = rt.alloc();
+    assert!(rt; places(alloc, b"\xff")?.as_str() == "P1");
+    assert!(rt; places(alloc, b"a\xed\xa0\x80")?.as_str() == "P1");
+    assert!(rt; repeated(alloc, "(", 65, b"1")? == "P4");
+    assert!(rt; repeated(alloc, "(", 64, b"1(")? == "P2");
+    assert!(rt; repeated(alloc, "(", 65, b"\xff")? == "P1");
     Ok(())
 }

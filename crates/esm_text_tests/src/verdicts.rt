@@ -1,10 +1,10 @@
 // Module texts and their verdicts, worked out from the rules of the language: those of the grammar stand in
 // `grammar_rows`, those of the early errors, of nesting, and of the order of faults here.
 use crate::grammar_rows::GRAMMAR;
+use crate::tokens::is_heading;
 use esm_base::{ReadEnd, TextFault};
 use esm_parse_mod::parse;
 use std::alloc::{AllocError, Global};
-use std::test::Fail;
 
 // A heading begins with `# `. A row is the number of the text's items, or its fault; `|`; and the text. In a text
 // ⏎ is U+000A, ␍ U+000D, ␉ U+0009, ␌ U+000C, ␠ U+00A0, ␅ U+0085, ⇩ U+2028, ⇟ U+2029, ◆ the bytes EF BB BF, ☒ the byte FF;
@@ -289,34 +289,50 @@ fn written(alloc: Global, row: &str) -> Result<Vec<u8>, AllocError> {
     Ok(bytes)
 }
 
+fn fault(end: ReadEnd) -> &'static str {
+    match end {
+        ReadEnd::Fault(TextFault::P1) => "P1",
+        ReadEnd::Fault(TextFault::P2) => "P2",
+        ReadEnd::Fault(TextFault::P3) => "P3",
+        ReadEnd::Fault(TextFault::P4) => "P4",
+        ReadEnd::Fault(TextFault::P6) => "P6",
+        ReadEnd::Memory => "out of memory",
+    }
+}
+
 fn verdict(alloc: Global, bytes: &[u8]) -> Result<String, AllocError> {
     match parse(alloc, bytes) {
         Ok(tree) => {
             let count = tree.items().len();
             format!(in alloc; "{count}")
         }
-        Err(ReadEnd::Fault(TextFault::P1)) => String::from_str(alloc, "P1"),
-        Err(ReadEnd::Fault(TextFault::P2)) => String::from_str(alloc, "P2"),
-        Err(ReadEnd::Fault(TextFault::P3)) => String::from_str(alloc, "P3"),
-        Err(ReadEnd::Fault(TextFault::P4)) => String::from_str(alloc, "P4"),
-        Err(ReadEnd::Fault(TextFault::P6)) => String::from_str(alloc, "P6"),
-        Err(ReadEnd::Memory) => String::from_str(alloc, "out of memory"),
+        Err(end) => String::from_str(alloc, fault(end)),
     }
 }
 
-#[test]
-fn texts_have_their_verdicts(rt: HostRuntime) -> Result<(), Fail> {
-    let alloc = rt.alloc();
-    let mut count = 0_usize;
+// Whether the text of a row has the verdict of the row; a heading says nothing.
+fn is_judged(alloc: Global, row: &str) -> Result<bool, AllocError> {
+    let Some((expected, text)) = row.split_once("|") else {
+        return Ok(is_heading(row));
+    };
+    let bytes = written(alloc, text)?;
+    Ok(verdict(alloc, &bytes)?.as_str() == expected)
+}
+
+// The first row of both tables whose text has another verdict, if there is one.
+fn wrong_row(alloc: Global) -> Result<Option<&'static str>, AllocError> {
     for row in GRAMMAR.lines().chain(ERRORS.lines()) {
-        let Some((expected, text)) = row.split_once("|") else {
-            continue;
-        };
-        let bytes = written(alloc, text)?;
-        let found = verdict(alloc, &bytes)?;
-        assert_eq!(rt; found.as_str(), expected, "{text}");
-        count = count.saturating_add(1);
+        if !is_judged(alloc, row)? {
+            return Ok(Some(row));
+        }
     }
-    assert_eq!(rt; count, 728);
+    Ok(None)
+}
+
+// 527 texts below 11 headings, and 201 below 9.
+#[test]
+fn texts_have_their_verdicts(rt: HostRuntime) -> Result<(), AllocError> {
+    assert_eq!(rt; wrong_row(rt.alloc())?, None);
+    assert!(rt; GRAMMAR.lines().count() == 538 && ERRORS.lines().count() == 210);
     Ok(())
 }
