@@ -168,28 +168,58 @@ fn absent_turns<R: Wait, S: Source>(
     })
 }
 
+// What comes of the two turns, and of a worker that comes to the map when it is shut.
+#[derive(Clone, Copy)]
+struct AbsentEnd {
+    turns: AbsentTurns,
+    short: bool,
+    asks: usize,
+}
+
+// The turns, and then the worker, over this caller and source.
+fn absent_end<R: Wait>(
+    rt: &R,
+    alloc: Global,
+    modules: &ModuleMap<Posted>,
+    main: &mut Caller<Posted>,
+    caller: Caller<Posted>,
+    source: MemSource,
+) -> Result<AbsentEnd, Fail>
+    requires main { table_of modules.now.lock.table.shared.table_id main.old.pass
+        ≡ modules.now.lock.table.shared.table_id }
+    requires own { table_of modules.now.lock.table.shared.table_id caller.pass
+        ≡ modules.now.lock.table.shared.table_id }
+    requires fresh { SaysNothing weight caller.number (view_in caller.pass).seen }
+    requires unasked { source.asked ≡ [] }
+{
+    let bell = Bell::new();
+    let mut caller = caller;
+    let mut source = source;
+    match absent_turns(rt, alloc, modules, &bell, main, &mut caller, &mut source) {
+        Ok(turns) => {
+            let end = worker(rt, alloc, modules, &bell, caller, source);
+            Ok(AbsentEnd {
+                turns,
+                short: end.short,
+                asks: end.source.asked().len(),
+            })
+        }
+        Err(fail) => Err(fail),
+    }
+}
+
 #[test]
 fn an_absent_url_and_a_shut_map(rt: HostRuntime) -> Result<(), Fail> {
     let alloc = rt.alloc();
-    let bell = Bell::new();
-    let mut source = source_of(alloc, &[])?;
+    let source = source_of(alloc, &[])?;
     let (modules, mut main) = opened(&rt, alloc)?;
-    let mut caller = another(&rt, &modules, &mut main)?;
-    let turns = absent_turns(
-        &rt,
-        alloc,
-        &modules,
-        &bell,
-        &mut main,
-        &mut caller,
-        &mut source,
-    )?;
-    assert_eq!(rt; turns.first, Turned::Posted(0));
-    assert!(rt; turns.absent);
-    assert_eq!(rt; turns.second, Turned::NotYet);
-    let end = worker(&rt, alloc, &modules, &bell, caller, source);
+    let caller = another(&rt, &modules, &mut main)?;
+    let end = absent_end(&rt, alloc, &modules, &mut main, caller, source)?;
+    assert!(rt; end.turns.first == Turned::Posted(0));
+    assert!(rt; end.turns.absent);
+    assert!(rt; end.turns.second == Turned::NotYet);
     assert!(rt; !end.short);
-    assert_eq!(rt; end.source.asked().len(), 1);
+    assert!(rt; end.asks == 1);
     Ok(())
 }
 
