@@ -15,3 +15,5 @@ mod running;
 mod steps;
 #[cfg(test)]
 mod values;
+#[cfg(test)]
+mod wrong_rows;

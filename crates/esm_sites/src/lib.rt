@@ -8,6 +8,3 @@ mod sites;
 pub use running::{first_wrong, run_over};
 pub use setup::{COMMAND, ENTRY, add_named, failing, files, site, sure, words};
 pub use sites::{Row, SITES};
-
-#[cfg(test)]
-mod tests;

@@ -1,6 +1,6 @@
 // Rows that don't run as they say are found.
-use crate::{Row, first_wrong};
 use esm_base::{Memory, Status};
+use esm_sites::{Row, first_wrong};
 
 const RIGHT: &[Row] = &[Row {
     name: "one print",
