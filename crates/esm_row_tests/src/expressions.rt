@@ -1,11 +1,12 @@
 // Expressions over a world in which every name is a function: no clause says that memory doesn't run out.
-ghost use Rattle.std.specs.Prelude.{◌≡◌, length, IfOk, None};
+ghost use Rattle.std.specs.Prelude.{◌≡◌, length, IfOk, IsTrue, None};
 ghost use Rattle.std.specs.Arc.{arc_value};
 ghost use Rattle.esm_expr_eval.specs.Machine.{IsSound, IsGiven};
 
+use crate::rows::read;
 use esm_base::{Memory, ModuleId};
 use esm_expr_eval::{ExprEnd, ExprFrame, Move, Out, World};
-use esm_tree::{ExprId, ExprIds, ExprNode, Link, NodeText, Tree};
+use esm_tree::{ExprId, Tree};
 use esm_values::{ErrorId, FaultKind, FuncId, RcText, Value};
 use std::alloc::Global;
 use std::sync::Arc;
@@ -60,35 +61,24 @@ impl World for Functions {
     }
 }
 
-// The tree of `"a" + true`.
-fn sum_tree(alloc: Global) -> Result<Arc<Tree>, Memory>
-    ensures { IfOk result (λ t. length (arc_value t).exprs ≡ 3) }
+// Whether a tree has three expressions: the last has the others.
+fn has_three(tree: &Tree) -> bool
+    ensures { IsTrue result → length tree.now.exprs ≡ 3 }
 {
-    let mut tree = Tree::new(alloc);
-    let text = NodeText::copy(alloc, "a")?;
-    let left = tree.add_expr(ExprNode::Text(text))?;
-    let right = tree.add_expr(ExprNode::Truth(true))?;
-    let mut others = Vec::new(alloc);
-    others.push(right)?;
-    tree.add_expr(ExprNode::Sum(left, ExprIds::of(others)?))?;
-    Ok(Arc::new(alloc, tree)?)
+    tree.mark().exprs == 3
 }
 
-// The tree of `f("x")`.
-fn call_tree(alloc: Global) -> Result<Arc<Tree>, Memory>
+// The tree of a text with three expressions.
+fn three_of(alloc: Global, text: &str) -> Result<Arc<Tree>, Memory>
     ensures { IfOk result (λ t. length (arc_value t).exprs ≡ 3) }
 {
-    let mut tree = Tree::new(alloc);
-    let name = NodeText::copy(alloc, "f")?;
-    let callee = tree.add_expr(ExprNode::Name(name))?;
-    let text = NodeText::copy(alloc, "x")?;
-    let argument = tree.add_expr(ExprNode::Text(text))?;
-    let mut arguments = Vec::new(alloc);
-    arguments.push(argument)?;
-    let mut links = Vec::new(alloc);
-    links.push(Link::Call(ExprIds::of(arguments)?))?;
-    tree.add_expr(ExprNode::Post(callee, links))?;
-    Ok(Arc::new(alloc, tree)?)
+    let script = read(alloc, text)?;
+    if has_three(script.tree()) {
+        let tree = script.share_tree()?;
+        Ok(tree)
+    } else {
+        Err(Memory)
+    }
 }
 
 fn is_text(value: &Value, text: &str) -> bool {
@@ -107,11 +97,20 @@ fn has_value(moved: Result<Move, ExprEnd<Memory>>, text: &str) -> bool {
 }
 
 // Whether the expression goes on to this value.
-fn gives(frame: &mut ExprFrame, world: &mut Functions, text: &str) -> bool
+fn gives(alloc: Global, frame: &mut ExprFrame, text: &str) -> bool
     requires sound { IsSound frame.old }
     requires ready { IsGiven None frame.old.focus }
 {
-    has_value(frame.advance(world, None), text)
+    let mut world = Functions { alloc };
+    has_value(frame.advance(&mut world, None), text)
+}
+
+// The same of the last of three expressions.
+fn last_gives(alloc: Global, tree: Arc<Tree>, text: &str) -> Result<bool, Memory>
+    requires { length (arc_value tree).exprs ≡ 3 }
+{
+    let mut frame = ExprFrame::new(alloc, tree, ExprId(2))?;
+    Ok(gives(alloc, &mut frame, text))
 }
 
 // Whether the expression stands at a call with this text, and goes on with its value to that value.
@@ -132,12 +131,18 @@ fn goes_on(frame: &mut ExprFrame, world: &mut Functions, text: &str) -> Result<b
     }
 }
 
+// The same of the last of three expressions.
+fn last_goes_on(alloc: Global, tree: Arc<Tree>, text: &str) -> Result<bool, Memory>
+    requires { length (arc_value tree).exprs ≡ 3 }
+{
+    let mut frame = ExprFrame::new(alloc, tree, ExprId(2))?;
+    goes_on(&mut frame, &mut Functions { alloc }, text)
+}
+
 #[test]
 fn expressions_go_on(rt: HostRuntime) -> Result<(), Memory> {
-    let mut world = Functions { alloc: rt.alloc() };
-    let mut sum = ExprFrame::new(rt.alloc(), sum_tree(rt.alloc())?, ExprId(2))?;
-    assert!(rt; gives(&mut sum, &mut world, "atrue"));
-    let mut call = ExprFrame::new(rt.alloc(), call_tree(rt.alloc())?, ExprId(2))?;
-    assert!(rt; goes_on(&mut call, &mut world, "x")?);
+    let alloc = rt.alloc();
+    assert!(rt; last_gives(alloc, three_of(alloc, "\"a\" + true;")?, "atrue")?);
+    assert!(rt; last_goes_on(alloc, three_of(alloc, "f(\"x\");")?, "x")?);
     Ok(())
 }

@@ -43,7 +43,8 @@ const ROWS: &str = r#"# Expressions
 1 print("a"); function f() { } export function g(a) { } let z; => 1 0: end;
 2 print("a"); function f() { } export function g(a) { } let z; => none"#;
 
-fn read(alloc: Global, text: &str) -> Result<Script, Memory> {
+/// The script of a text.
+pub fn read(alloc: Global, text: &str) -> Result<Script, Memory> {
     let text = String::from_str(alloc, text)?;
     match read_script(alloc, text.into_bytes()) {
         Ok(script) => Ok(script),

@@ -1,42 +1,12 @@
 // Each call once, with ample memory: no clause says that it doesn't run out.
-ghost use Rattle.std.specs.Prelude.{◌≡◌, ◌<◌, ◌^◌, length, IfOk};
-ghost use Rattle.std.specs.Arc.{arc_value};
-ghost use Rattle.esm_tree.specs.Flat as flat;
-
-use crate::rows::number_of;
+use crate::rows::{made, number_of, tree_of};
 use esm_base::{Memory, ModuleId, Text};
 use esm_env::{Envs, Read, Target, Wrote};
-use esm_tree::{Initializer, ItemNode, LexicalBinding, StmtNode, Tree};
 use esm_values::{RcText, Value};
 use std::alloc::Global;
-use std::sync::Arc;
 
-// A binding without initializer.
-fn bare(alloc: Global, name: &str) -> Result<Vec<LexicalBinding>, Memory>
-    ensures { IfOk result (λ bs. flat.bindings_need bs.items ≡ 0) }
-{
-    let name = Text::copy(alloc, name)?;
-    let mut bindings = Vec::new(alloc);
-    bindings.push(LexicalBinding {
-        name,
-        value: Initializer::Absent,
-    })?;
-    Ok(bindings)
-}
-
-// The tree of `export let x; const y;`, the initializers aside.
-fn tree_of(alloc: Global) -> Result<Arc<Tree>, Memory>
-    ensures { IfOk result (λ t. length (arc_value t).items < 2 ^ 31) }
-{
-    let mut tree = Tree::new(alloc);
-    let x = bare(alloc, "x")?;
-    let x = tree.add_stmt(StmtNode::Let(x))?;
-    tree.add_item(ItemNode::ExportStatement(x))?;
-    let y = bare(alloc, "y")?;
-    let y = tree.add_stmt(StmtNode::Const(y))?;
-    tree.add_item(ItemNode::Statement(y))?;
-    Ok(Arc::new(alloc, tree)?)
-}
+// Its names are declared, and its initializer doesn't run.
+const MODULE: &str = "export let x; const y = x;";
 
 fn text(alloc: Global, text: &str) -> Result<Value, Memory> {
     Ok(Value::Text(RcText::copy(alloc, text)?))
@@ -44,13 +14,12 @@ fn text(alloc: Global, text: &str) -> Result<Value, Memory> {
 
 // Makes two modules, of which the second has imported `x` of the first as `i`.
 fn make_two(alloc: Global, envs: &mut Envs) -> Result<(), Memory> {
-    let tree = tree_of(alloc)?;
-    envs.make_module(alloc, ModuleId(0), tree, Vec::new(alloc))?;
+    made(alloc, envs, tree_of(alloc, MODULE)?)?;
     let local = Text::copy(alloc, "i")?;
     let of = Text::copy(alloc, "x")?;
     let mut imports = Vec::new(alloc);
     imports.push((local, Target::Cell(ModuleId(0), of)))?;
-    let tree = tree_of(alloc)?;
+    let tree = tree_of(alloc, MODULE)?;
     envs.make_module(alloc, ModuleId(1), tree, imports)
 }
 
