@@ -192,6 +192,10 @@ fn orders_of<R: Threads + Wait + Sync>(
     orders_behind(alloc, wanted, &report, out.written())
 }
 
+/// The name of a site that doesn't run as its text says, if there is one. Each table is read in a function of its own, and one
+/// test goes through those of a file: what a test costs in a proof is the same for one call and for six.
+pub type Wrong = Result<Option<&'static str>, Memory>;
+
 /// The first of these sites that doesn't run as its text says, in each order in which its fetches may end. Together the
 /// sites have so many orders.
 pub fn first_wrong_order<R: Threads + Wait + Sync>(
@@ -199,7 +203,7 @@ pub fn first_wrong_order<R: Threads + Wait + Sync>(
     alloc: Global,
     table: &'static str,
     orders: u64,
-) -> Result<Option<&'static str>, Memory> {
+) -> Wrong {
     let mut counted = 0u64;
     for site in table.split("\n\n== ") {
         match orders_of(rt, alloc, files_of(alloc, site)?, wanted_of(site))? {
