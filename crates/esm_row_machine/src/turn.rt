@@ -107,8 +107,8 @@ fn put_url<W: Outside>(
     }
 }
 
-/// One operation, behind which so many are left. Some are done by the loop over rows itself.
-pub(crate) fn operate<W: Outside>(
+/// A value is put on top: one that the operation tells, the URL of the module, or the value of a name.
+fn put_value<W: Outside>(
     world: &mut W,
     machine: &mut Machine,
     frame: Frame,
@@ -134,16 +134,67 @@ pub(crate) fn operate<W: Outside>(
             left,
         ),
         Op::Name(k) => read_name(world, &mut machine.operands, frame, text_at(row, k), left),
+        _ => Err(Stop::Memory),
+    }
+}
+
+/// Values are taken from the top, and their truth or sameness tells what follows.
+fn decide<W: Outside>(
+    _world: &W,
+    machine: &mut Machine,
+    _frame: Frame,
+    _row: &Row,
+    op: Op,
+    left: usize,
+) -> Result<Turn, Stop>
+    ensures { slice_get _row.now.ops.items left ≡ Some op → TurnsOn W.state W.modules W.linked
+        W.begins W.ready W.keeps W.owns _world.now machine.old _frame (left + 1) _row.now result _world.now machine.new }
+{
+    match op {
         Op::OrElse(skip) => or_else(&mut machine.operands, skip, left),
         Op::AndAlso(skip) => and_also(&mut machine.operands, skip, left),
+        Op::Choose(skip) => choose(&mut machine.operands, skip, left),
         Op::Compare(alike) => compare(&mut machine.operands, alike, left),
-        Op::Add => add(world, &mut machine.operands, left),
         Op::Not => turn_over(&mut machine.operands, left),
+        _ => Err(Stop::Memory),
+    }
+}
+
+/// Values are taken from the top, and what the world makes of them is put there, or thrown.
+fn ask<W: Outside>(
+    world: &mut W,
+    machine: &mut Machine,
+    frame: Frame,
+    row: &Row,
+    op: Op,
+    left: usize,
+) -> Result<Turn, Stop>
+    ensures { slice_get row.now.ops.items left ≡ Some op → TurnsOn W.state W.modules W.linked
+        W.begins W.ready W.keeps W.owns world.old machine.old frame (left + 1) row.now result world.new machine.new }
+{
+    match op {
+        Op::Add => add(world, &mut machine.operands, left),
         Op::Member(k) => member(world, &mut machine.operands, text_at(row, k), left),
-        Op::Call(count) => Ok(Turn::Calls(count, left)),
         Op::Print(count) => print(world, &mut machine.operands, count, left),
         Op::NewError => make_error(world, &mut machine.operands, left),
         Op::Import => import(world, &mut machine.operands, frame, left),
+        _ => Err(Stop::Memory),
+    }
+}
+
+/// The value on top is taken for a name.
+fn write<W: Outside>(
+    world: &mut W,
+    machine: &mut Machine,
+    frame: Frame,
+    row: &Row,
+    op: Op,
+    left: usize,
+) -> Result<Turn, Stop>
+    ensures { slice_get row.now.ops.items left ≡ Some op → TurnsOn W.state W.modules W.linked
+        W.begins W.ready W.keeps W.owns world.old machine.old frame (left + 1) row.now result world.new machine.new }
+{
+    match op {
         Op::SetLocal(place) => set_local(
             &mut machine.operands,
             &mut machine.names,
@@ -174,9 +225,23 @@ pub(crate) fn operate<W: Outside>(
         Op::WriteName(k) => {
             write_name(world, &mut machine.operands, frame, text_at(row, k), left)
         }
-        Op::Throw => throw_value(&mut machine.operands),
-        Op::Return => give(&mut machine.operands),
-        Op::Choose(skip) => choose(&mut machine.operands, skip, left),
+        _ => Err(Stop::Memory),
+    }
+}
+
+/// A block, a `try` or a handler begins or ends.
+fn change_block<W: Outside>(
+    _world: &W,
+    machine: &mut Machine,
+    _frame: Frame,
+    _row: &Row,
+    op: Op,
+    left: usize,
+) -> Result<Turn, Stop>
+    ensures { slice_get _row.now.ops.items left ≡ Some op → TurnsOn W.state W.modules W.linked
+        W.begins W.ready W.keeps W.owns _world.now machine.old _frame (left + 1) _row.now result _world.now machine.new }
+{
+    match op {
         Op::Enter(count) => enter(&mut machine.names, count, left),
         Op::Leave(count, skip) => leave(&mut machine.names, count, skip),
         Op::Try(count, handler) => enter_try(
@@ -206,14 +271,48 @@ pub(crate) fn operate<W: Outside>(
             count,
             left,
         ),
+        _ => Err(Stop::Memory),
+    }
+}
+
+/// One operation, behind which so many are left. Some are done by the loop over rows itself.
+pub(crate) fn operate<W: Outside>(
+    world: &mut W,
+    machine: &mut Machine,
+    frame: Frame,
+    row: &Row,
+    op: Op,
+    left: usize,
+) -> Result<Turn, Stop>
+    ensures { slice_get row.now.ops.items left ≡ Some op → TurnsOn W.state W.modules W.linked
+        W.begins W.ready W.keeps W.owns world.old machine.old frame (left + 1) row.now result world.new machine.new }
+{
+    match op {
+        Op::Text(_) | Op::Truth(_) | Op::Undefined | Op::Url | Op::Local(_, _) | Op::Name(_) => {
+            put_value(world, machine, frame, row, op, left)
+        }
+        Op::OrElse(_) | Op::AndAlso(_) | Op::Choose(_) | Op::Compare(_) | Op::Not => {
+            decide(world, machine, frame, row, op, left)
+        }
+        Op::Add | Op::Member(_) | Op::Print(_) | Op::NewError | Op::Import => {
+            ask(world, machine, frame, row, op, left)
+        }
+        Op::SetLocal(_) | Op::WriteLocal(_, _) | Op::WriteConstant(_, _) | Op::WriteName(_) => {
+            write(world, machine, frame, row, op, left)
+        }
+        Op::Enter(_)
+        | Op::Leave(_, _)
+        | Op::Try(_, _)
+        | Op::EndTry(_, _)
+        | Op::Caught(_)
+        | Op::CaughtUnnamed(_) => change_block(world, machine, frame, row, op, left),
+        Op::Call(count) => Ok(Turn::Calls(count, left)),
+        Op::Throw => throw_value(&mut machine.operands),
+        Op::Return => give(&mut machine.operands),
         Op::End => Ok(Turn::Returns(Value::Undefined)),
         // What the loop over rows does itself.
-        Op::Step => Err(Stop::Memory),
-        Op::Own(_) => Err(Stop::Memory),
-        Op::Drop => Err(Stop::Memory),
+        Op::Step | Op::Own(_) | Op::Drop => Err(Stop::Memory),
         // What no function does.
-        Op::SetName(_) => Err(Stop::Memory),
-        Op::PrintAwaited => Err(Stop::Memory),
-        Op::Await => Err(Stop::Memory),
+        Op::SetName(_) | Op::PrintAwaited | Op::Await => Err(Stop::Memory),
     }
 }
