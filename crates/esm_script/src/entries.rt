@@ -8,20 +8,11 @@ use crate::imports::imports_of;
 use crate::requests::requests_of;
 use crate::stars::stars_of;
 use esm_ast::{Entries, Tree};
-use esm_base::{Memory, Text};
-use indexmap::IndexSet;
+use esm_base::Memory;
 use std::alloc::Global;
 
-// The requests in order.
-fn list_of(alloc: Global, requests: IndexSet<Text>) -> Result<Vec<Text>, Memory>
-    ensures { IfOk result (λ v. v.items ≡ requests.keys) }
-{
-    let listed = requests.into_iter().collect(alloc)?;
-    Ok(listed)
-}
-
 /// What a module with this tree requests, imports and exports, and whether it has top-level await. In time linear
-/// in the size of the tree, names being found by hashing.
+/// in the size of the tree, but for names, which are found by comparisons in balanced trees.
 ///
 /// ECMA-262, ParseModule: its steps from requestedModules on.
 pub fn entries_of(alloc: Global, tree: &Tree) -> Result<Entries, Memory>
@@ -31,7 +22,7 @@ pub fn entries_of(alloc: Global, tree: &Tree) -> Result<Entries, Memory>
     let imports = imports_of(alloc, &requests, tree)?;
     let exports = exports_of(alloc, &requests, &imports, tree)?;
     let stars = stars_of(alloc, &requests, tree)?;
-    let requests = list_of(alloc, requests)?;
+    let requests = requests.into_texts();
     Ok(Entries::new(
         requests,
         imports,

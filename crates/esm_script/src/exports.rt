@@ -14,7 +14,7 @@ use crate::listing::Exports;
 use crate::requests::place_of;
 use esm_ast::{ImportEntry, ItemNode, LexicalBinding, StmtId, StmtNode, Tree};
 use esm_base::{Memory, Text};
-use indexmap::IndexSet;
+use esm_text_table::TextTable;
 use std::alloc::Global;
 
 // Adds declared names.
@@ -76,7 +76,7 @@ fn add_function(alloc: Global, exports: &mut Exports, name: &Option<Text>) -> Re
 fn add_exports(
     alloc: Global,
     exports: &mut Exports,
-    requests: &IndexSet<Text>,
+    requests: &TextTable,
     index: &ImportIndex,
     tree: &Tree,
     item: &ItemNode,
@@ -84,7 +84,7 @@ fn add_exports(
     requires { item_need item.now ≤ length tree.now.stmts }
     ensures { (imports : List Entry)
         → IsIndexOf imports index.now
-        → OnOk result (Adds exports.old exports.new (entries.exports_of requests.now.keys imports
+        → OnOk result (Adds exports.old exports.new (entries.exports_of requests.now imports
         (item_of tree.now.stmts item.now))) }
 {
     match item {
@@ -107,14 +107,14 @@ fn add_exports(
 // The exported bindings of a tree, in order.
 pub(crate) fn exports_of(
     alloc: Global,
-    requests: &IndexSet<Text>,
+    requests: &TextTable,
     imports: &[ImportEntry],
     tree: &Tree,
 ) -> Result<Exports, Memory>
     ensures locals { IfOk result (λ e. e.locals.items
-        ≡ locals_of (all_exports requests.now.keys imports.now tree.now.items)) }
+        ≡ locals_of (all_exports requests.now imports.now tree.now.items)) }
     ensures indirects { IfOk result (λ e. e.indirects.items
-        ≡ indirects_of (all_exports requests.now.keys imports.now tree.now.items)) }
+        ≡ indirects_of (all_exports requests.now imports.now tree.now.items)) }
 {
     let index = ImportIndex::new(alloc, imports)?;
     let mut exports = Exports::new(alloc);

@@ -7,8 +7,8 @@ ghost use Rattle.esm_ast.specs.Entries.{import_entry, all_imports};
 
 use crate::requests::place_of;
 use esm_ast::{ImportBinding, ImportEntry, ItemNode, Tree, Wanted};
-use esm_base::{Memory, Text};
-use indexmap::IndexSet;
+use esm_base::Memory;
+use esm_text_table::TextTable;
 use std::alloc::Global;
 
 // The same, owned.
@@ -53,12 +53,12 @@ fn add_bindings(
 // Adds what an item imports.
 fn add_imports(
     imports: &mut Vec<ImportEntry>,
-    requests: &IndexSet<Text>,
+    requests: &TextTable,
     item: &ItemNode,
 ) -> Result<(), Memory>
     ensures { (stmts : List Stmt)
         → OnOk result (imports.new.items
-        ≡ imports.old.items ++ entries.imports_of requests.now.keys (item_of stmts item.now)) }
+        ≡ imports.old.items ++ entries.imports_of requests.now (item_of stmts item.now)) }
 {
     match item {
         ItemNode::Import(node) => {
@@ -72,10 +72,10 @@ fn add_imports(
 // The imported bindings of a tree, in order.
 pub(crate) fn imports_of(
     alloc: Global,
-    requests: &IndexSet<Text>,
+    requests: &TextTable,
     tree: &Tree,
 ) -> Result<Vec<ImportEntry>, Memory>
-    ensures { IfOk result (λ v. v.items ≡ all_imports requests.now.keys tree.now.items) }
+    ensures { IfOk result (λ v. v.items ≡ all_imports requests.now tree.now.items) }
 {
     let mut imports = Vec::new(alloc);
     for item in tree.items() {

@@ -7,7 +7,7 @@ ghost use Rattle.esm_ast.specs.Entries.{request_of};
 
 use esm_ast::{ItemNode, Tree};
 use esm_base::{Memory, Text};
-use indexmap::IndexSet;
+use esm_text_table::TextTable;
 use std::alloc::Global;
 
 // The specifier that an item requests.
@@ -25,10 +25,10 @@ fn specifier_of(item: &ItemNode) -> Option<&Text>
 }
 
 // Adds what an item requests, unless it is there.
-fn add_request(found: &mut IndexSet<Text>, item: &ItemNode) -> Result<(), Memory>
+fn add_request(found: &mut TextTable, item: &ItemNode) -> Result<(), Memory>
     ensures { (stmts : List Stmt)
-        → OnOk result (found.new.keys
-        ≡ entries.add_request found.old.keys (request_of (item_of stmts item.now))) }
+        → OnOk result (found.new
+        ≡ entries.add_request found.old (request_of (item_of stmts item.now))) }
 {
     match specifier_of(item) {
         Some(specifier) => {
@@ -40,10 +40,10 @@ fn add_request(found: &mut IndexSet<Text>, item: &ItemNode) -> Result<(), Memory
 }
 
 // The specifiers that a tree requests, each once, in order of first appearance.
-pub(crate) fn requests_of(alloc: Global, tree: &Tree) -> Result<IndexSet<Text>, Memory>
-    ensures { IfOk result (λ s. s.keys ≡ entries.requests_of tree.now.items) }
+pub(crate) fn requests_of(alloc: Global, tree: &Tree) -> Result<TextTable, Memory>
+    ensures { IfOk result (λ s. s ≡ entries.requests_of tree.now.items) }
 {
-    let mut found = IndexSet::new(alloc);
+    let mut found = TextTable::new(alloc);
     for item in tree.items() {
         add_request(&mut found, item)?;
     }
@@ -51,10 +51,10 @@ pub(crate) fn requests_of(alloc: Global, tree: &Tree) -> Result<IndexSet<Text>, 
 }
 
 // The place of a request.
-pub(crate) fn place_of(requests: &IndexSet<Text>, specifier: &Text) -> usize
-    ensures { result ≡ entries.place_of requests.now.keys specifier.now }
+pub(crate) fn place_of(requests: &TextTable, specifier: &Text) -> usize
+    ensures { result ≡ entries.place_of requests.now specifier.now }
 {
-    match requests.get_index_of(specifier) {
+    match requests.find(specifier) {
         Some(place) => place,
         None => requests.len(),
     }

@@ -6,19 +6,15 @@ ghost use Rattle.esm_ast.specs.Entries as entries;
 
 use crate::requests::place_of;
 use esm_ast::{ItemNode, Tree};
-use esm_base::{Memory, Text};
-use indexmap::IndexSet;
+use esm_base::Memory;
+use esm_text_table::TextTable;
 use std::alloc::Global;
 
 // Adds the request of an item `export *`.
-fn add_star(
-    stars: &mut Vec<usize>,
-    requests: &IndexSet<Text>,
-    item: &ItemNode,
-) -> Result<(), Memory>
+fn add_star(stars: &mut Vec<usize>, requests: &TextTable, item: &ItemNode) -> Result<(), Memory>
     ensures { (stmts : List Stmt)
         → OnOk result (stars.new.items
-        ≡ stars.old.items ++ entries.stars_of requests.now.keys (item_of stmts item.now ∷ [])) }
+        ≡ stars.old.items ++ entries.stars_of requests.now (item_of stmts item.now ∷ [])) }
 {
     match item {
         ItemNode::ExportAll(specifier) => {
@@ -32,10 +28,10 @@ fn add_star(
 // The requests of which everything but `default` is exported, in order.
 pub(crate) fn stars_of(
     alloc: Global,
-    requests: &IndexSet<Text>,
+    requests: &TextTable,
     tree: &Tree,
 ) -> Result<Vec<usize>, Memory>
-    ensures { IfOk result (λ v. v.items ≡ entries.stars_of requests.now.keys tree.now.items) }
+    ensures { IfOk result (λ v. v.items ≡ entries.stars_of requests.now tree.now.items) }
 {
     let mut stars = Vec::new(alloc);
     for item in tree.items() {

@@ -33,4 +33,4 @@ returns-in-ExportDefaultFunction c = λ imports is. rw c.in-ExportDefaultFunctio
 pub returns-in_default : goal.returns-in_default
 returns-in_default c = λ imports is.
     let d = c.in_default in
-    adds_none _ _ (other_exports c.args.requests.now.keys imports c.args.tree.now.stmts _ d.not-ExportAllAs d.not-ExportFrom d.not-ExportList d.not-ExportStatement d.not-ExportFunction d.not-ExportDefaultFunction)
+    adds_none _ _ (other_exports c.args.requests.now imports c.args.tree.now.stmts _ d.not-ExportAllAs d.not-ExportFrom d.not-ExportList d.not-ExportStatement d.not-ExportFunction d.not-ExportDefaultFunction)

@@ -6,4 +6,4 @@ use Rattle.esm_script.proofs.exports.exports_of.Given as goal
 
 abbrev pub invariant-loop-item : goal.invariant-loop-item
 invariant-loop-item l =
-    Leads l.initial.exports l.exports (all_exports l.requests.keys l.imports (items_of l.tree.stmts (drop l.item-index l.item-items))) (all_exports l.requests.keys l.imports l.tree.items)
+    Leads l.initial.exports l.exports (all_exports l.requests l.imports (items_of l.tree.stmts (drop l.item-index l.item-items))) (all_exports l.requests l.imports l.tree.items)

@@ -8,4 +8,4 @@ unfolding stars_of
 returns-in_ok-push-in-ExportAll c = λ stmts. rw c.in-ExportAll.is (c.in_ok-push-in-ExportAll.ensures.items ∙ ap (λ k. c.args.stars.now.items ++ k ∷ []) (rw c.deref.ensures at c.place_of.ensures))
 
 pub returns-in_default : goal.returns-in_default
-returns-in_default c = λ stmts. sym (ap (λ xs. c.args.stars.now.items ++ xs) (other_stars stmts c.args.requests.now.keys _ c.in_default.not-ExportAll) ∙ append-nil c.args.stars.now.items)
+returns-in_default c = λ stmts. sym (ap (λ xs. c.args.stars.now.items ++ xs) (other_stars stmts c.args.requests.now _ c.in_default.not-ExportAll) ∙ append-nil c.args.stars.now.items)
