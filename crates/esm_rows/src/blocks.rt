@@ -116,8 +116,7 @@ pub(crate) fn block_of(alloc: Global, tree: &Tree, ids: &[StmtId]) -> Result<Loc
 {
     let mut list = Vec::new(alloc);
     add_names(alloc, &mut list, tree, ids)?;
-    let names = Locals::of(alloc, list)?;
-    Ok(names)
+    Locals::of(alloc, list)
 }
 
 /// The block of these statements behind the name of what was thrown.
@@ -133,8 +132,7 @@ pub(crate) fn catch_block(
     let mut list = Vec::new(alloc);
     add_name(alloc, &mut list, name, false)?;
     add_names(alloc, &mut list, tree, ids)?;
-    let names = Locals::of(alloc, list)?;
-    Ok(names)
+    Locals::of(alloc, list)
 }
 
 /// How many names a block has.
