@@ -146,6 +146,9 @@ fn lesser(low: usize, found: usize) -> usize
 /// Makes the scope of a module, unless it has a fault.
 ///
 /// ECMA-262, InitializeEnvironment.
+///
+/// It isn't inlined, so that a frame of the walk is small: there is one for each open module.
+#[inline(never)]
 fn leave(
     alloc: Global,
     realm: &Realm,
