@@ -1,20 +1,20 @@
 // The open modules of a walk.
-ghost use Rattle.std.specs.Prelude.{◌≡◌, ◌++◌, [], ◌∷◌, false, nat_eq, length, take, slice_get, Some, OnOk};
+ghost use Rattle.std.specs.Prelude.{◌≡◌, ◌<◌, ◌^◌, ◌++◌, [], ◌∷◌, ℕ, List, false, nat_eq, length, take, slice_get, Some, OnOk};
 ghost use Rattle.esm_base.specs.Lists.{is_in};
 ghost use Rattle.esm_eval.specs.EndSteps.{Says};
+ghost use Rattle.esm_eval.specs.Inner.Stack.{HavePlaces};
 ghost use Rattle.esm_eval.specs.Inner.Visit.{IsPlace};
 
 use esm_base::Memory;
 use std::alloc::Global;
-use std::collections::HashMap;
 use std::marker::Model;
 
 /// The open modules of a walk, from the first to the last that was entered. Contracts see them as a list.
 #[derive(Drop)]
 pub(crate) struct Stack {
     opened: Vec<u32>,
-    /// Where each module stands, or stood last.
-    places: HashMap<u32, usize>,
+    /// For each id up to the greatest that was open, where its module stands, or stood last.
+    places: Vec<usize>,
 }
 
 impl Model for Stack {
@@ -25,7 +25,28 @@ impl Model for Stack {
 
     ghost view = { λ s. s.opened.items };
 
-    ghost invariant = { λ s. HavePlaces s.opened.items s.places };
+    ghost invariant = { λ s. HavePlaces s.opened.items s.places.items };
+}
+
+// Makes room for the place of an id.
+fn grow(places: &mut Vec<usize>, id: usize) -> Result<(), Memory>
+    requires { id < 2 ^ 32 }
+    ensures kept { (opened : List ℕ)
+        → HavePlaces opened places.old.items → HavePlaces opened places.new.items }
+    ensures room { OnOk result (id < length places.new.items) }
+{
+    if id < places.len() {
+        return Ok(());
+    }
+    places.resize(id + 1, 0)?;
+    Ok(())
+}
+
+// The place that an id has, if there is one.
+fn place_at(places: &[usize], id: usize) -> Option<usize>
+    ensures { result ≡ slice_get places.now id }
+{
+    places.get(id).copied()
 }
 
 impl Stack {
@@ -36,7 +57,7 @@ impl Stack {
     {
         Stack {
             opened: Vec::new(alloc),
-            places: HashMap::new(alloc),
+            places: Vec::new(alloc),
         }
     }
 
@@ -58,10 +79,10 @@ impl Stack {
     pub(crate) fn place_of(&self, x: u32) -> usize
         ensures { IsPlace self.now x result }
     {
-        match self.places.get(&x) {
+        match place_at(self.places.as_slice(), x as usize) {
             Some(place) => {
-                if self.has_at(*place, x) {
-                    *place
+                if self.has_at(place, x) {
+                    place
                 } else {
                     self.len()
                 }
@@ -87,8 +108,10 @@ impl Stack {
         ensures { OnOk result (self.new ≡ self.old ++ x ∷ []) }
     {
         let place = self.opened.len();
-        self.places.insert(x, place)?;
+        let id = x as usize;
+        grow(&mut self.places, id)?;
         self.opened.push(x)?;
+        self.places[id] = place;
         Ok(())
     }
 

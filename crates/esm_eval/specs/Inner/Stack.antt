@@ -1,8 +1,6 @@
 -- The open modules of a walk, with their places.
-use Rattle.std.specs.Prelude.{◌≡◌, ℕ, nat_eq, List, Some, slice_get}
-use Rattle.std.specs.HashMap as map
-use Rattle.std.specs.HashMap.{HashMap}
+use Rattle.std.specs.Prelude.{◌≡◌, ℕ, List, Some, slice_get}
 
--- each of these has its place
-abbrev pub HavePlaces : {S : Type 0} → List ℕ → HashMap ℕ ℕ S → Type 0
-HavePlaces opened places = (k x : ℕ) → slice_get opened k ≡ Some x → map.get nat_eq places x ≡ Some k
+-- each of these has its place, by its id
+abbrev pub HavePlaces : List ℕ → List ℕ → Type 0
+HavePlaces opened places = (k x : ℕ) → slice_get opened k ≡ Some x → slice_get places x ≡ Some k
