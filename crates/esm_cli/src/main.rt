@@ -10,6 +10,7 @@ use esm_run::run;
 use std::alloc::Global;
 use std::env;
 use std::io::ErrorKind;
+use std::mem::forget;
 use std::process::ExitCode;
 use std::rt::{Env, Files};
 
@@ -67,7 +68,10 @@ fn main(rt: HostRuntime) -> ExitCode {
         (Ok(words), Ok(desk), Ok(sources), Ok(out)) => {
             let mut desk = desk;
             let mut out = out;
-            run(&rt, alloc, &words, &mut desk, sources, &mut out).status
+            let report = run(&rt, alloc, &words, &mut desk, sources, &mut out);
+            let status = report.status;
+            forget(report);
+            status
         }
         _ => Status::Memory,
     };

@@ -11,7 +11,7 @@ ghost use Rattle.esm_run.specs.Inner.Generating.{EndsGenerated, HoldsGenerated};
 ghost use Rattle.esm_run.specs.Written.{change_of};
 
 use crate::ending::finish;
-use crate::report::RunReport;
+use crate::report::{Left, RunReport};
 use crate::workers::{GraphEnd, run_graph};
 use esm_arguments::Generation;
 use esm_base::{Memory, Status, Text};
@@ -141,6 +141,7 @@ pub(crate) fn run_generated<R: Threads + Wait + Sync, S, K: Sink>(
             status: Status::Memory,
             taken: Vec::new(alloc),
             sources,
+            left: Left::nothing(),
         };
     };
     let Prepared {
@@ -152,11 +153,13 @@ pub(crate) fn run_generated<R: Threads + Wait + Sync, S, K: Sink>(
         machine,
         taken,
         sources: _generated,
+        modules,
     } = run_graph(rt, alloc, map, &entry, false, generation.workers, generated);
     let status = end_generated(alloc, &machine, generation.count, out);
     RunReport {
         status,
         taken,
         sources,
+        left: Left::of(machine, modules),
     }
 }

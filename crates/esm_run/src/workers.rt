@@ -39,6 +39,8 @@ pub(crate) struct GraphEnd<S> {
     pub taken: Vec<Delivery>,
     /// The sources, in the order given.
     pub sources: Vec<S>,
+    /// The module map that its threads have shared; none where memory ran out before.
+    pub modules: Option<ModuleMap<Posted>>,
 }
 
 // What a run begins with: the map that its threads share, the calling thread's caller, and one for each worker.
@@ -315,6 +317,7 @@ fn unrun<S>(alloc: Global, sources: Vec<S>) -> GraphEnd<S>
         machine: None,
         taken: Vec::new(alloc),
         sources,
+        modules: None,
     }
 }
 
@@ -370,5 +373,6 @@ pub(crate) fn run_graph<R: Threads + Wait + Sync, S: Source + Send>(
         machine,
         taken,
         sources,
+        modules: Some(modules),
     }
 }
