@@ -21,6 +21,7 @@ pub mod Flags
 pub mod Places
 pub mod PlacesOfUrls
 pub mod OpenPlaces
+pub mod OpenUrls
 pub mod Removals
 pub mod UrlIndices
 pub mod OneLoad

@@ -4,6 +4,7 @@ ghost use Rattle.std.specs.List.Sorted.{IsNonDecreasing};
 ghost use Rattle.esm_base.specs.declared.limits.Limit.{Limit};
 ghost use Rattle.esm_base.specs.declared.limits.TheConstants.{MAX_URLS, MAX_DELIVERED_BYTES};
 ghost use Rattle.esm_base.specs.declared.end.End.TheVariants.{Fault};
+ghost use Rattle.esm_base.specs.Urls.{has};
 ghost use Rattle.esm_loads.specs.LoadsView.{urls_of, place_in, is_open};
 ghost use Rattle.esm_loads.specs.Inner.Reading.{module_by};
 ghost use Rattle.esm_loads.specs.Inner.Urls.{no_slots, open_urls, open_slot, Closes, PutsPlace, IsOpenAt};
@@ -104,6 +105,13 @@ fn add(
     Ok(())
 }
 
+// Whether a URL in this state isn't fetched.
+fn is_fetching(state: UrlState) -> bool
+    ensures { result ≡ is_open state }
+{
+    matches!(state, UrlState::Open)
+}
+
 impl AskedUrls {
     /// No URL is asked.
     pub fn new(alloc: Global) -> AskedUrls
@@ -139,6 +147,16 @@ impl AskedUrls {
         ensures { result ≡ place_in (urls_of self.now.slots) url.now }
     {
         self.numbers.get(url).copied()
+    }
+
+    /// Whether a URL is asked and not fetched.
+    pub fn is_open(&self, url: &Text) -> bool
+        ensures { result ≡ has (open_urls self.now.slots) url.now }
+    {
+        match self.find(url) {
+            Some(place) => is_fetching(self.state(place)),
+            None => false,
+        }
     }
 
     /// The state of the URL at a place.

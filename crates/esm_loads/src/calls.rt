@@ -242,4 +242,12 @@ impl Loads {
     {
         self.urls.asks()
     }
+
+    /// Whether a URL is asked and not fetched. It takes no memory.
+    pub fn is_open(&self, url: &Text) -> bool
+        ensures { (maps : Maps) (records : List RecordParts) → FitRecords self.now records
+            → result ≡ has (open_asks (loading_of maps self.now records)) url.now }
+    {
+        self.urls.is_open(url)
+    }
 }

@@ -1,5 +1,5 @@
 -- What the calls of a machine tell of the run that it represents.
-use Rattle.std.proofs.Common.{◌≡◌, ℕ, List, [], ◌∷◌, true, false, length, Option, Some, None, refl, ap, subst, sym, ◌∙◌}
+use Rattle.std.proofs.Common.{◌≡◌, ℕ, Bool, List, [], ◌∷◌, true, false, length, Option, Some, None, refl, ap, subst, sym, ◌∙◌}
 use Rattle.std.specs.Prelude.{Result, Ok, Err, IfOk, IsSome, ◌↔◌, is_some, option_map}
 use Rattle.std.proofs.lemmas.Result.{IfOk-weaker}
 use Rattle.esm_base.specs.declared.end.End.TheVariants as ends
@@ -165,6 +165,9 @@ module _ (parts : Parts) (stopped : Option TurnEnd) (m : MachineParts) (view : v
 
   pub asks_at : (o : Option TurnEnd) (asks : List Url) → stopped ≡ o → asks ≡ asks_by_stop o (seen_in parts).loading → asks ≡ asks_of (state_of m)
   asks_at o asks e h = h ∙ ap (λ o. asks_by_stop o (seen_in parts).loading) (sym e) ∙ ap (λ (m : MachineParts). asks_of (state_of m)) view
+
+  pub open_told : (o : Option TurnEnd) (u : Url) (b : Bool) → stopped ≡ o → b ≡ has (asks_by_stop o (seen_in parts).loading) u → b ≡ has (asks_of (state_of m)) u
+  open_told o u b e h = h ∙ ap (λ o. has (asks_by_stop o (seen_in parts).loading) u) (sym e) ∙ ap (λ (m : MachineParts). has (asks_of (state_of m)) u) view
 
   pub status_at : (o : Option TurnEnd) (status : Option Status) → stopped ≡ o → status ≡ option_map exit_status (ending_by_stop o (held_of parts))
       → status ≡ option_map exit_status (ending_of (state_of m))

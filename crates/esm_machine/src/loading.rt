@@ -153,6 +153,14 @@ impl ModuleStore {
         self.loads.asks()
     }
 
+    /// Whether a URL is asked and not fetched, as long as nothing was refused.
+    pub fn is_open(&self, url: &Text) -> bool
+        ensures { is_whole self.now.condition ≡ true
+            → result ≡ has (open_asks (seen_of self.now).loading) url.now }
+    {
+        self.loads.is_open(url)
+    }
+
     /// What holds of the records and the loads is known behind it. It does nothing.
     pub fn known(&self)
         ensures { IsKept self.now }

@@ -4,7 +4,7 @@ ghost use Rattle.std.specs.Arc.{arc_value};
 ghost use Rattle.esm_ast.specs.Outcome.{outcome_view};
 ghost use Rattle.esm_base.specs.declared.end.End.TheVariants as ends;
 ghost use Rattle.esm_base.specs.Limits.{limit_name};
-ghost use Rattle.esm_base.specs.Urls.{is_usable, IsUsable};
+ghost use Rattle.esm_base.specs.Urls.{has, is_usable, IsUsable};
 ghost use Rattle.esm_values.specs.Code.{value_of};
 ghost use Rattle.esm_rewriting.specs.Keeps.{started as started_in};
 ghost use Rattle.esm_body.specs.Noted.{event_of};
@@ -226,6 +226,17 @@ impl Machine {
         match self.stopped {
             None => asks,
             Some(_) => &asks[..0],
+        }
+    }
+
+    /// Whether a URL is an open ask. It doesn't allocate.
+    pub fn is_open(&self, url: &Text) -> bool
+        ensures { result ≡ has (asks_of (state_of self.now)) url.now }
+    {
+        let is_open = self.parts.host.bodies.imports.is_open(url);
+        match self.stopped {
+            None => is_open,
+            Some(_) => false,
         }
     }
 

@@ -65,13 +65,6 @@ fn has_no_ask(machine: &Machine) -> bool
     }
 }
 
-// Whether the machine has this open ask.
-fn is_open(machine: &Machine, url: &Text) -> bool
-    ensures { result ≡ has (asks_of (state_of machine.now)) url.now }
-{
-    machine.asks().iter().any(|ask| ask == url)
-}
-
 // Delivers what is posted for a ticket. One whose URL isn't an open ask is passed over.
 fn deliver<R: Wait>(
     rt: &R,
@@ -101,7 +94,7 @@ fn deliver<R: Wait>(
     laws::asks_stay();
     laws::has_standard_run();
     let Ticket { url, number } = ticket;
-    if !is_open(machine, &url) {
+    if !machine.is_open(&url) {
         return Ok(());
     }
     let Ok(Some(payload)) = modules.entry(rt, caller, number) else {
