@@ -7,7 +7,6 @@ use Rattle.esm_realm.proofs.Urls.{same_text, both_false, or_false, or_left}
 use Rattle.esm_loads.specs.LoadsView.{urls_of, place_in, place_by, is_open}
 use Rattle.esm_loads.specs.Inner.Urls.{open_urls, open_by}
 use Rattle.esm_loads.specs.declared.data.Slot.{Slot}
-use Rattle.esm_loads.specs.declared.data.UrlState.{UrlState}
 use Rattle.esm_loads.proofs.Places.{get_within}
 use Rattle.esm_loads.proofs.PlacesOfUrls.{place_none, place_some, some_map}
 use Rattle.esm_loads.proofs.UrlIndices.{urls_many}
@@ -50,10 +49,10 @@ open_at (r ∷ ss) u k s d p at = by (same_url u r.url) refl p (is_open r.state)
 pub found_inside : (ss : List Slot) (u : Url) (k : ℕ) → place_in (urls_of ss) u ≡ Some k → k < length ss
 found_inside ss u k p = let w = (place_some (urls_of ss) u k p).within in let m = urls_many ss in omega (arith, w, m)
 
-pub found_open : (ss : List Slot) (u : Url) (k : ℕ) (state : UrlState) → AreDistinct (urls_of ss) → place_in (urls_of ss) u ≡ Some k → ((s : Slot) → slice_get ss k ≡ Some s → state ≡ s.state) → is_open state ≡ has (open_urls ss) u
-found_open ss u k state d p told =
+pub found_open : (ss : List Slot) (u : Url) (k : ℕ) (b : Bool) → AreDistinct (urls_of ss) → place_in (urls_of ss) u ≡ Some k → ((s : Slot) → slice_get ss k ≡ Some s → b ≡ is_open s.state) → b ≡ has (open_urls ss) u
+found_open ss u k b d p told =
     let s = get_within ss k (found_inside ss u k p) in
-    ap is_open (told s.0 s.1) ∙ sym (open_at ss u k s.0 d p s.1)
+    told s.0 s.1 ∙ sym (open_at ss u k s.0 d p s.1)
 
 pub missing_open : (ss : List Slot) (u : Url) → place_in (urls_of ss) u ≡ None → has (open_urls ss) u ≡ false
 missing_open ss u p = not_open ss u (place_none (urls_of ss) u p)

@@ -1,16 +1,15 @@
 -- The index of the asked URLs, as they grow and are fetched.
-use Rattle.std.proofs.Common.{◌≡◌, ℕ, suc, zero, ◌<◌, ◌≤◌, Bool, true, false, cond, List, [], ◌∷◌, ◌++◌, length, Some, None, refl, ap, sym, subst, ◌∙◌, arith, length-append, zero-add}
+use Rattle.std.proofs.Common.{◌≡◌, ℕ, suc, zero, ◌<◌, Bool, true, false, cond, List, [], ◌∷◌, ◌++◌, length, Some, None, refl, ap, sym, subst, ◌∙◌, arith, length-append, zero-add}
 use Rattle.std.specs.Prelude.{◌||◌, slice_get, slice_set}
-use Rattle.std.specs.BTreeMap.{BTreeMap, is_at}
-use Rattle.std.specs.Map.{lookup}
+use Rattle.std.specs.BTreeMap.{BTreeMap}
 use Rattle.std.specs.List.{remove}
 use Rattle.std.proofs.lemmas.List.{map-append, length-set}
-use Rattle.esm_base.specs.Urls.{Url, has, same_url, url_cmp}
+use Rattle.esm_base.specs.Urls.{Url, has, same_url}
 use Rattle.esm_realm.specs.Laws.{AreDistinct}
 use Rattle.esm_realm.proofs.Urls.{same_text, not_both, distinct_append}
 use Rattle.esm_loads.specs.LoadsView.{url_of_slot, urls_of, place_in, is_open}
 use Rattle.esm_loads.specs.Inner.Urls.{open_by, open_urls, open_slot, PutsPlace, Closes}
-use Rattle.esm_loads.specs.Inner.UrlIndex.{AreIndexed, open_places}
+use Rattle.esm_loads.specs.Inner.UrlIndex.{AreIndexed}
 use Rattle.esm_loads.specs.declared.data.Slot.{Slot}
 use Rattle.esm_loads.specs.declared.asked_urls.OpenAsks.{OpenAsks}
 use Rattle.esm_loads.proofs.PlacesOfUrls.{place_none, place_push}
@@ -46,17 +45,6 @@ fresh_apart us u y none there = by (same_url y u) refl
 
 distinct_more : (us : List Url) (u : Url) → AreDistinct us → place_in us u ≡ None → AreDistinct (us ++ u ∷ [])
 distinct_more us u d fresh = distinct_append us (u ∷ []) d (refl, tt) (λ y there. fresh_apart us u y (place_none us u fresh) there)
-
--- a table without URLs
-pub indexed_none : (numbers : BTreeMap Url ℕ) (ss : List Slot) (asks : OpenAsks) (bytes : ℕ) → numbers.entries ≡ [] → ss ≡ [] → asks.urls ≡ [] → asks.places ≡ [] → bytes ≤ 16777216 → AreIndexed numbers ss asks bytes
-indexed_none numbers ss asks bytes tree none urls places few = record {
-  found = λ q. ap (λ es. lookup (is_at (url_cmp q)) es) tree ∙ sym (ap (λ l. place_in (urls_of l) q) none);
-  distinct = subst (λ l. AreDistinct (urls_of l)) (sym none) tt;
-  few = subst (λ (l : List Slot). length l ≤ 4096) (sym none) (omega arith);
-  urls = urls ∙ sym (ap open_urls none);
-  places = places ∙ sym (ap (open_places 0) none);
-  few_bytes = few;
-}
 
 pub indexed_more : (old new : BTreeMap Url ℕ) (ss : List Slot) (asks more : OpenAsks) (bytes : ℕ) (u : Url) → AreIndexed old ss asks bytes → place_in (urls_of ss) u ≡ None → length ss < 4096 → PutsPlace u (length ss) old new
     → more.urls ≡ asks.urls ++ u ∷ [] → more.places ≡ asks.places ++ length ss ∷ [] → AreIndexed new (ss ++ open_slot u ∷ []) more bytes

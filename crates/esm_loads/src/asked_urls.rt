@@ -105,11 +105,12 @@ fn add(
     Ok(())
 }
 
-// Whether a URL in this state isn't fetched.
-fn is_fetching(state: UrlState) -> bool
-    ensures { result ≡ is_open state }
+// Whether the URL of the slot at a place isn't fetched.
+fn is_open_at(slots: &[Slot], place: usize) -> bool
+    requires { place < length slots.now }
+    ensures { (s : Slot) → slice_get slots.now place ≡ Some s → result ≡ is_open s.state }
 {
-    matches!(state, UrlState::Open)
+    matches!(slots[place].state, UrlState::Open)
 }
 
 impl AskedUrls {
@@ -154,7 +155,7 @@ impl AskedUrls {
         ensures { result ≡ has (open_urls self.now.slots) url.now }
     {
         match self.find(url) {
-            Some(place) => is_fetching(self.state(place)),
+            Some(place) => is_open_at(self.slots.as_slice(), place),
             None => false,
         }
     }

@@ -233,9 +233,8 @@ impl Machine {
     pub fn is_open(&self, url: &Text) -> bool
         ensures { result ≡ has (asks_of (state_of self.now)) url.now }
     {
-        let is_open = self.parts.host.bodies.imports.is_open(url);
         match self.stopped {
-            None => is_open,
+            None => self.parts.host.bodies.imports.is_open(url),
             Some(_) => false,
         }
     }

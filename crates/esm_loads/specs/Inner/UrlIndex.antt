@@ -18,7 +18,8 @@ abbrev pub open_places : ℕ → List Slot → List ℕ
 open_places first [] = []
 open_places first (s ∷ ss) = open_place_by (is_open s.state) first (open_places (suc first) ss)
 
--- each URL is found at its place and stands there alone, there are at most MAX_URLS, the open ones are listed, and no more bytes were delivered than may be
+-- each URL is found at its place and stands there alone, there are at most MAX_URLS, the open ones are listed, and no more bytes were
+-- delivered than may be
 pub record AreIndexed (numbers : BTreeMap Url ℕ) (slots : List Slot) (asks : OpenAsks) (bytes : ℕ) : Type 0 where
   pub found : (u : Url) → get url_cmp numbers u ≡ place_in (urls_of slots) u
   pub distinct : AreDistinct (urls_of slots)
