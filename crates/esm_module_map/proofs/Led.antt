@@ -18,7 +18,7 @@ found_cond true a x r s later is = is
 found_cond false a x r s later is = later is
 
 module _ {P G : Type 0} where
-  guide_stays : (xs ys : List (MapEvent P G)) (g : G) → guide_in xs ≡ Some g → guide_in (xs ++ ys) ≡ Some g
+  pub guide_stays : (xs ys : List (MapEvent P G)) (g : G) → guide_in xs ≡ Some g → guide_in (xs ++ ys) ≡ Some g
   guide_stays [] ys g is = cc
   guide_stays (Begin h ∷ es) ys g is = is
   guide_stays (Enrol c ∷ es) ys g is = guide_stays es ys g is

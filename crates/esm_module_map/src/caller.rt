@@ -8,6 +8,7 @@ ghost use Rattle.esm_hlock.specs.Words.{knows, IsPassOf};
 ghost use Rattle.esm_base.specs.Urls.{is_usable};
 ghost use Rattle.esm_module_map.specs.Replay.{replay, is_legal, is_order, is_posted, may_be_ahead, maker_of};
 ghost use Rattle.esm_module_map.specs.Leading.{is_led, leads_to};
+ghost use Rattle.esm_module_map.specs.Fitting.{are_fit, FitsIn};
 ghost use Rattle.esm_module_map.specs.Replies.{AskReply, TakeReply, ShutReply, Called, Found};
 ghost use Rattle.esm_module_map.specs.Histories.{IsPostIn};
 ghost use Rattle.esm_module_map.specs.Counts.{AreTakenOnce};
@@ -41,6 +42,7 @@ pub struct Caller<P: Payload> {
     ghost listed: { 0 < times number (view_in pass).numbers },
     ghost legal: { is_legal P.weight (view_in pass).seen ≡ true },
     ghost led: { is_led P.leads (view_in pass).seen ≡ true },
+    ghost fit: { are_fit P.weight P.fits (view_in pass).seen ≡ true },
     ghost enrolled: { nat_lt number (replay P.weight (view_in pass).seen).callers ≡ true },
 }
 
@@ -233,7 +235,7 @@ impl<P: Payload> ModuleMap<P> {
         reply
     }
 
-    /// Posts what came of an order of this caller, also where the map is shut. It doesn't allocate.
+    /// Posts what came of an order of this caller and fits its URL, also where the map is shut. It doesn't allocate.
     pub fn post<R: Wait>(
         &self,
         rt: &R,
@@ -245,6 +247,7 @@ impl<P: Payload> ModuleMap<P> {
             ≡ self.now.lock.table.shared.table_id }
         requires order { IsOrderIn P.weight (view_in caller.old.pass).seen caller.old.number
             order.number order.url }
+        requires fits { FitsIn P.fits (view_in caller.old.pass).seen (arc_value payload) order.url }
         ensures own { table_of self.now.lock.table.shared.table_id caller.new.pass
             ≡ self.now.lock.table.shared.table_id }
         ensures call { Called P.weight (view_in caller.old.pass).seen (Some caller.old.number)
@@ -418,6 +421,7 @@ impl<P: Payload> ModuleMap<P> {
         ensures found { IfOk result (λ v.
             Found P.weight (view_in caller.pass).seen (Some caller.number) v.items) }
         ensures led { IfOk result (λ v. is_led P.leads v.items ≡ true) }
+        ensures fit { IfOk result (λ v. are_fit P.weight P.fits v.items ≡ true) }
         ensures exact { MatchResult result
             (λ v. (n : ℕ) × ClosedBy caller.pass (λ s. s.events.items) maker_of n n)
             (λ busy. (busy.serving < busy.ticket)

@@ -1,5 +1,5 @@
 //! Laws of histories, as functions without effect.
-ghost use Rattle.esm_module_map.specs.Laws.{OrdersStay, PostedOnce, PostsAreAnswers, PostsStay, TakenOnce, TakenOnceByMakers, TakesWereAsked, UrlsDiffer, UrlsStay};
+ghost use Rattle.esm_module_map.specs.Laws.{GuideStays, OrdersStay, PostedOnce, PostsAreAnswers, PostsFit, PostsStay, TakenOnce, TakenOnceByMakers, TakesWereAsked, UrlsAreUsable, UrlsDiffer, UrlsStay};
 
 use crate::event::Payload;
 
@@ -21,6 +21,21 @@ pub fn urls_differ<P: Payload>()
 /// A number keeps its URL as the history grows.
 pub fn urls_stay<P: Payload>()
     ensures { UrlsStay P P.Guide P.weight }
+{}
+
+/// In a legal history the URLs of numbers are usable.
+pub fn urls_are_usable<P: Payload>()
+    ensures { UrlsAreUsable P P.Guide P.weight }
+{}
+
+/// The guide stays as the history grows.
+pub fn guide_stays<P: Payload>()
+    ensures { GuideStays P P.Guide }
+{}
+
+/// Where each post of a history fits as it is posted, each fits the URL of its number by the guide of the whole.
+pub fn posts_fit<P: Payload>()
+    ensures { PostsFit P P.Guide P.weight P.fits }
 {}
 
 /// What is posted stays so as the history grows.

@@ -11,6 +11,7 @@ ghost use Rattle.esm_module_map.specs.Inner.Outs.{outs_of};
 ghost use Rattle.esm_module_map.specs.Inner.Firsts.{has_free};
 ghost use Rattle.esm_module_map.specs.Histories.{Posts, IsPostIn, is_post_of};
 ghost use Rattle.esm_module_map.specs.Leading.{is_led, leads_to};
+ghost use Rattle.esm_module_map.specs.Fitting.{are_fit, may_fit};
 ghost use Rattle.esm_module_map.specs.Replies.{AskReply, TakeReply, ShutReply, answer_by};
 
 use crate::event::{MapEvent, Payload, Why};
@@ -47,6 +48,7 @@ pub struct MapState<P: Payload> {
     free_from: usize,
     ghost legal: { is_legal P.weight events.items ≡ true },
     ghost led: { is_led P.leads events.items ≡ true },
+    ghost fit: { are_fit P.weight P.fits events.items ≡ true },
     ghost replayed: { record { events = vec_len events; callers = callers; urls = urls.keys; numbers = numbers.items; posts = posts.items; wanted = wanted; ahead = ahead; weight = weight; shut = shut } ≡ replay P.weight events.items } by { Coded-set (Prim.hlevel codes) (record { events = vec_len events; callers = callers; urls = urls.keys; numbers = numbers.items; posts = posts.items; wanted = wanted; ahead = ahead; weight = weight; shut = shut }) (replay P.weight events.items) },
     ghost begun: { 0 < vec_len events },
     ghost aligned: { vec_len numbers ≡ length urls.keys },
@@ -68,12 +70,14 @@ impl<P: Payload> Story for MapState<P> {
     ghost use Rattle.std.specs.Prelude.{◌≡◌, true, vec_len};
     ghost use Rattle.esm_module_map.specs.Replay.{maker_of, replay, is_legal};
     ghost use Rattle.esm_module_map.specs.Leading.{is_led};
+    ghost use Rattle.esm_module_map.specs.Fitting.{are_fit};
 
     ghost story = { λ s. s.events.items };
 
     ghost maker = { maker_of };
 
-    ghost legal = { λ es. (is_legal P.weight es ≡ true) × (is_led P.leads es ≡ true) };
+    ghost legal = { λ es. (is_legal P.weight es ≡ true) × (is_led P.leads es ≡ true)
+        × (are_fit P.weight P.fits es ≡ true) };
 
     ghost replays = { λ es s. record { events = vec_len s.events; callers = s.callers; urls = s.urls.keys; numbers = s.numbers.items; posts = s.posts.items; wanted = s.wanted; ahead = s.ahead; weight = s.weight; shut = s.shut } ≡ replay P.weight es };
 
@@ -81,7 +85,7 @@ impl<P: Payload> Story for MapState<P> {
         self.events.as_slice()
     }
 
-    ghost lawful = { λ s. (s.legal, s.led) };
+    ghost lawful = { λ s. (s.legal, s.led, s.fit) };
 
     ghost whole = { λ s. s.replayed };
 }
@@ -325,6 +329,8 @@ impl<P: Payload> MapState<P> {
     pub(crate) fn post(&mut self, caller: u64, number: u32, payload: Arc<P, Global>)
         requires is_in { caller < (replay P.weight self.old.events.items).callers }
         requires order { is_order (replay P.weight self.old.events.items) caller number ≡ true }
+        requires fits { may_fit P.weight P.fits self.old.events.items
+            (MapEvent.Post caller number payload) ≡ true }
         ensures reply { self.new.events.items ≡ self.old.events.items
             ++ MapEvent.Post caller number payload ∷ [] }
         ensures callers { self.new.callers ≡ self.old.callers }

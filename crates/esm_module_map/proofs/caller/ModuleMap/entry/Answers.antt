@@ -7,6 +7,7 @@ use Rattle.esm_module_map.proofs.Calls.{in_found, continues_as, own_after, numbe
 use Rattle.esm_module_map.proofs.Says.{same_says}
 use Rattle.esm_module_map.proofs.caller.ModuleMap.entry.Goals as goal
 use Rattle.esm_module_map.specs.Leading.{is_led}
+use Rattle.esm_module_map.specs.Fitting.{are_fit}
 
 pub invariant_of-caller-clause-own : goal.invariant_of-caller-clause-own
 invariant_of-caller-clause-own g c =
@@ -67,3 +68,6 @@ returns-clause-exact g c =
 
 pub invariant_of-caller-clause-led : goal.invariant_of-caller-clause-led
 invariant_of-caller-clause-led g c = subst (λ l. is_led g.P.Payload.leads l ≡ true) (sym c.leave.ensures.seen) c.state.result.now.led
+
+pub invariant_of-caller-clause-fit : goal.invariant_of-caller-clause-fit
+invariant_of-caller-clause-fit g c = subst (λ l. are_fit g.P.Payload.weight g.P.Payload.fits l ≡ true) (sym c.leave.ensures.seen) c.state.result.now.fit

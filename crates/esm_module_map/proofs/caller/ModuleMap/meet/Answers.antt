@@ -9,7 +9,9 @@ use Rattle.esm_hlock.specs.Words.{knows}
 use Rattle.esm_hlock.specs.Makers.{Continues, times}
 use Rattle.esm_module_map.proofs.caller.ModuleMap.meet.Goals as goal
 use Rattle.esm_module_map.specs.Leading.{is_led}
+use Rattle.esm_module_map.specs.Fitting.{are_fit}
 use Rattle.esm_module_map.proofs.Led.{longer_led}
+use Rattle.esm_module_map.proofs.Fits.{longer_fit}
 
 pub returns-clause-one : goal.returns-clause-one
 returns-clause-one g c = subst (λ w. Continues maker_of c.join.result.seat.me.0.seen w.seen w.numbers) (sym (ap view_in c.in-Some-Some.is-0)) c.join.ensures.one
@@ -45,3 +47,7 @@ returns-clause-says_other g c = listed_says g.P.Payload.weight (view_in c.args.o
 pub invariant_of-result-clause-led : goal.invariant_of-result-clause-led
 invariant_of-result-clause-led g c = subst (λ l. is_led g.P.Payload.leads l ≡ true) (sym c.join.ensures.seen)
     (longer_led g.P.Payload.leads (knows c.in-Some-Some.pass).seen (knows c.in-Some-Some.second).seen (subst (λ w. is_led g.P.Payload.leads w.seen ≡ true) (ap view_in c.in-Some-Some.is-0) c.args.one.led) (subst (λ w. is_led g.P.Payload.leads w.seen ≡ true) (ap view_in c.in-Some-Some.is-1) c.args.other.led))
+
+pub invariant_of-result-clause-fit : goal.invariant_of-result-clause-fit
+invariant_of-result-clause-fit g c = subst (λ l. are_fit g.P.Payload.weight g.P.Payload.fits l ≡ true) (sym c.join.ensures.seen)
+    (longer_fit g.P.Payload.weight g.P.Payload.fits (knows c.in-Some-Some.pass).seen (knows c.in-Some-Some.second).seen (subst (λ w. are_fit g.P.Payload.weight g.P.Payload.fits w.seen ≡ true) (ap view_in c.in-Some-Some.is-0) c.args.one.fit) (subst (λ w. are_fit g.P.Payload.weight g.P.Payload.fits w.seen ≡ true) (ap view_in c.in-Some-Some.is-1) c.args.other.fit))

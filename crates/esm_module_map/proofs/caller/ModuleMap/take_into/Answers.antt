@@ -8,6 +8,7 @@ use Rattle.esm_module_map.proofs.Calls.{in_found, continues_as, own_after, numbe
 use Rattle.esm_module_map.proofs.Says.{take_says}
 use Rattle.esm_module_map.proofs.caller.ModuleMap.take_into.Goals as goal
 use Rattle.esm_module_map.specs.Leading.{is_led}
+use Rattle.esm_module_map.specs.Fitting.{are_fit}
 
 pub take-reply-requires-clause-is_in : goal.take-reply-requires-clause-is_in
 take-reply-requires-clause-is_in g c =
@@ -61,3 +62,6 @@ returns-clause-says g c =
 
 pub invariant_of-caller-clause-led : goal.invariant_of-caller-clause-led
 invariant_of-caller-clause-led g c = subst (λ l. is_led g.P.Payload.leads l ≡ true) (sym c.leave.ensures.seen) c.take-reply.new.self.led
+
+pub invariant_of-caller-clause-fit : goal.invariant_of-caller-clause-fit
+invariant_of-caller-clause-fit g c = subst (λ l. are_fit g.P.Payload.weight g.P.Payload.fits l ≡ true) (sym c.leave.ensures.seen) c.take-reply.new.self.fit

@@ -8,6 +8,8 @@ use Rattle.esm_module_map.specs.Inner.Firsts.{has_free}
 use Rattle.esm_module_map.proofs.Firsts.{asked_firsts}
 use Rattle.esm_module_map.proofs.state.MapState.ask_known.Goals as goal
 use Rattle.esm_module_map.proofs.Led.{led_ask}
+use Rattle.esm_module_map.proofs.Fits.{fit_with}
+use Rattle.esm_module_map.specs.declared.event.MapEvent.TheVariants.{Ask}
 
 pub invariant_of-self-2-clause-legal : goal.invariant_of-self-2-clause-legal
 invariant_of-self-2-clause-legal g c = let it = c.args.self.now in
@@ -29,3 +31,7 @@ invariant_of-self-2-clause-led g c = let it = c.args.self.now in
 pub invariant_of-self-2-clause-none_free : goal.invariant_of-self-2-clause-none_free
 invariant_of-self-2-clause-none_free g c = let it = c.args.self.now in
     subst (λ xs. has_free it.free_from xs ≡ false) (sym c.ask_again.ensures.items) (asked_firsts c.args.why it.numbers.items it.free_from c.args.place it.none_free)
+
+pub invariant_of-self-2-clause-fit : goal.invariant_of-self-2-clause-fit
+invariant_of-self-2-clause-fit g c = let it = c.args.self.now in
+    fit_with g.P.Payload.weight g.P.Payload.fits it.events.items c.reserve.new.self.items c.push_reserved.new.self.items (Ask c.args.caller c.args.place c.args.url c.args.why) c.reserve.ensures.items c.push_reserved.ensures.items it.fit refl

@@ -9,6 +9,8 @@ use Rattle.esm_module_map.specs.Inner.Firsts.{has_free}
 use Rattle.esm_module_map.proofs.Firsts.{appended_firsts}
 use Rattle.esm_module_map.proofs.state.MapState.ask_new.Goals as goal
 use Rattle.esm_module_map.proofs.Led.{led_ask}
+use Rattle.esm_module_map.proofs.Fits.{fit_with}
+use Rattle.esm_module_map.specs.declared.event.MapEvent.TheVariants.{Ask}
 
 pub invariant_of-self-2-clause-legal : goal.invariant_of-self-2-clause-legal
 invariant_of-self-2-clause-legal g c = let it = c.args.self.now in
@@ -32,3 +34,7 @@ pub invariant_of-self-2-clause-none_free : goal.invariant_of-self-2-clause-none_
 invariant_of-self-2-clause-none_free g c = let it = c.args.self.now in let w = it.free_within in let k = it.numbers.ok.0 in
     let e = c.push_reserved.ensures.items ∙ ap (λ l. l ++ c.fresh.result ∷ []) c.reserve-2.ensures.items in
     subst (λ xs. has_free it.free_from xs ≡ false) (sym e) (appended_firsts it.numbers.items (c.fresh.result ∷ []) it.free_from (omega (arith, w, k)) it.none_free)
+
+pub invariant_of-self-2-clause-fit : goal.invariant_of-self-2-clause-fit
+invariant_of-self-2-clause-fit g c = let it = c.args.self.now in
+    fit_with g.P.Payload.weight g.P.Payload.fits it.events.items c.reserve.new.self.items c.push_reserved-2.new.self.items (Ask c.args.caller c.len-number.result c.args.url c.args.why) c.reserve.ensures.items c.push_reserved-2.ensures.items it.fit refl

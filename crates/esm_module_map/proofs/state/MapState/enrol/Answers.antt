@@ -3,6 +3,7 @@ use Rattle.esm_module_map.specs.declared.event.MapEvent.TheVariants.{Enrol}
 use Rattle.esm_module_map.proofs.Replays.{true_both, lt_true, eq_true, replay_as, legal_with}
 use Rattle.esm_module_map.proofs.state.MapState.enrol.Goals as goal
 use Rattle.esm_module_map.proofs.Led.{led_with}
+use Rattle.esm_module_map.proofs.Fits.{fit_with}
 
 pub invariant_of-self-2-clause-legal : goal.invariant_of-self-2-clause-legal
 invariant_of-self-2-clause-legal g c = let it = c.args.self.now in
@@ -15,3 +16,6 @@ invariant_of-self-2-clause-replayed g c = let it = c.args.self.now in
 
 pub invariant_of-self-2-clause-led : goal.invariant_of-self-2-clause-led
 invariant_of-self-2-clause-led g c = let it = c.args.self.now in led_with g.P.Payload.leads it.events.items c.reserve.new.self.items c.push_reserved.new.self.items (Enrol it.callers) c.reserve.ensures.items c.push_reserved.ensures.items it.led refl
+
+pub invariant_of-self-2-clause-fit : goal.invariant_of-self-2-clause-fit
+invariant_of-self-2-clause-fit g c = let it = c.args.self.now in fit_with g.P.Payload.weight g.P.Payload.fits it.events.items c.reserve.new.self.items c.push_reserved.new.self.items (Enrol it.callers) c.reserve.ensures.items c.push_reserved.ensures.items it.fit refl

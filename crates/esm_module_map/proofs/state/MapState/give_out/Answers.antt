@@ -6,6 +6,7 @@ use Rattle.std.proofs.Common.{◌≡◌, sym, subst, false}
 use Rattle.esm_module_map.specs.Inner.Firsts.{has_free}
 use Rattle.esm_module_map.proofs.state.MapState.give_out.Goals as goal
 use Rattle.esm_module_map.proofs.Led.{led_with}
+use Rattle.esm_module_map.proofs.Fits.{fit_with}
 use Rattle.esm_module_map.specs.declared.event.MapEvent.TheVariants.{Take}
 
 pub invariant_of-self-2-clause-legal : goal.invariant_of-self-2-clause-legal
@@ -38,3 +39,6 @@ invariant_of-self-2-clause-none_free g c = let it = c.args.self.now in
 pub invariant_of-self-2-clause-free_within : goal.invariant_of-self-2-clause-free_within
 invariant_of-self-2-clause-free_within g c = let it = c.args.self.now in let t = (asks.taken_outs (record { events = vec_len it.events; callers = it.callers; urls = it.urls.keys; numbers = it.numbers.items; posts = it.posts.items; wanted = it.wanted; ahead = it.ahead; weight = it.weight; shut = it.shut }) c.args.place c.args.caller (ap next_order it.replayed ∙ c.requires.next)).0 in
     let k = it.numbers.ok.0 in let w = it.free_within in let r = c.taken_up_to.ensures.within (vec_len it.numbers) (omega (arith, t, k)) w in let l = c.set_taker.ensures.len in omega (arith, r, l)
+
+pub invariant_of-self-2-clause-fit : goal.invariant_of-self-2-clause-fit
+invariant_of-self-2-clause-fit g c = let it = c.args.self.now in fit_with g.P.Payload.weight g.P.Payload.fits it.events.items c.reserve.new.self.items c.push_reserved.new.self.items (Take c.args.caller c.args.place) c.reserve.ensures.items c.push_reserved.ensures.items it.fit refl

@@ -8,6 +8,7 @@ use Rattle.esm_module_map.specs.Inner.Firsts.{has_free}
 use Rattle.esm_module_map.proofs.Firsts.{posted_firsts}
 use Rattle.esm_module_map.proofs.state.MapState.post.Goals as goal
 use Rattle.esm_module_map.proofs.Led.{led_with}
+use Rattle.esm_module_map.proofs.Fits.{fit_with}
 use Rattle.esm_module_map.specs.declared.event.MapEvent.TheVariants.{Post}
 
 pub invariant_of-self-clause-legal : goal.invariant_of-self-clause-legal
@@ -56,3 +57,6 @@ invariant_of-self-clause-led g c = let it = c.args.self.now in led_with g.P.Payl
 pub invariant_of-self-clause-none_free : goal.invariant_of-self-clause-none_free
 invariant_of-self-clause-none_free g c = let it = c.args.self.now in
     subst (λ xs. has_free it.free_from xs ≡ false) (sym c.set_place.ensures.items) (posted_firsts c.len.result it.numbers.items it.free_from c.args.number it.none_free)
+
+pub invariant_of-self-clause-fit : goal.invariant_of-self-clause-fit
+invariant_of-self-clause-fit g c = let it = c.args.self.now in fit_with g.P.Payload.weight g.P.Payload.fits it.events.items it.events.items c.push_reserved-2.new.self.items (Post c.args.caller c.args.number c.args.payload) refl c.push_reserved-2.ensures.items it.fit c.requires.fits
