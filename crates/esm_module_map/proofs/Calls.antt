@@ -68,7 +68,7 @@ module _ {P G : Type 0} (weight : P → ℕ) where
   callers_grow s [] = omega arith
   callers_grow s (e ∷ es) = omega (arith, callers_step s e, callers_grow (step weight s e) es)
 
-  other_maker : (s : Replay) (e : MapEvent P G) (k : ℕ) → may_come s e ≡ true → (step weight s e).callers ≤ k → is_maker k (maker_of e) ≡ false
+  pub other_maker : (s : Replay) (e : MapEvent P G) (k : ℕ) → may_come s e ≡ true → (step weight s e).callers ≤ k → is_maker k (maker_of e) ≡ false
   other_maker s (Begin g) k ok le = refl
   other_maker s (Enrol c) k ok le = let h = eq_from c s.callers (both_true (c == s.callers) _ ok).0 in other_than k c (omega arith)
   other_maker s (Ask c n u why) k ok le = let h = lt_from c s.callers (both_true (nat_lt c s.callers) _ ok).0 in let e = asked_callers (is_numbered s u) s n u why in other_than k c (omega arith)
@@ -184,7 +184,7 @@ the_is n (Some m) e = ap Some (eq_from m n e)
 same_taker : (c d : ℕ) (t : Option ℕ) → is_the c t ≡ true → is_the d t ≡ true → c ≡ d
 same_taker c d t e f = let a = the_is c t e in let b = the_is d t f in let both : Some c ≡ Some d = sym a ∙ b in cc
 
-at_posted : (s : Replay) (k : ℕ) → is_posted s k ≡ true → At is_done k s
+pub at_posted : (s : Replay) (k : ℕ) → is_posted s k ≡ true → At is_done k s
 at_posted s k e = by_get (slice_get s.numbers k) refl e
   where
     by_get : (o : Option Number) → slice_get s.numbers k ≡ o → has_place o ≡ true → At is_done k s

@@ -57,7 +57,7 @@ again_place : (why : Why) (x : Number) → ((asked_again why x).place ≡ x.plac
 again_place Wanted x = (refl, refl)
 again_place (Ahead k) x = (refl, refl)
 
-the_taken : (c : ℕ) (t : Option ℕ) (b : Bool) → is_the c t && b ≡ true → is_some t ≡ true
+pub the_taken : (c : ℕ) (t : Option ℕ) (b : Bool) → is_the c t && b ≡ true → is_some t ≡ true
 the_taken c None b e = cc
 the_taken c (Some k) b e = refl
 

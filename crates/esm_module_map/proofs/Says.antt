@@ -31,7 +31,7 @@ module _ {P G : Type 0} (weight : P → ℕ) where
   begins_same : (seen found now : List (MapEvent P G)) (n : Option ℕ) → ContinuesFor maker_of found seen n → now ≡ found → Begins seen now
   begins_same seen found now n q is = (q.0, is ∙ q.1)
 
-  stays : (c : ℕ) (seen found now : List (MapEvent P G)) → ContinuesFor maker_of found seen (Some c) → now ≡ found → Stays weight c seen now
+  pub stays : (c : ℕ) (seen found now : List (MapEvent P G)) → ContinuesFor maker_of found seen (Some c) → now ≡ found → Stays weight c seen now
   stays c seen found now q is = (begins_same seen found now (Some c) q is, after_nothing weight c seen found now q is)
 
   pub same_says : (c : ℕ) (seen now : List (MapEvent P G)) → Called weight seen (Some c) (λ found. now ≡ found) → Stays weight c seen now
@@ -73,7 +73,7 @@ module _ {P G : Type 0} (weight : P → ℕ) where
   asks_one : (e : MapEvent P G) (c n : ℕ) (s : Replay) (u : Url) (why : Why) → e ≡ Ask c n u why → asks_in c s e ≡ u ∷ []
   asks_one e c n s u why is = ap (asks_in c s) is ∙ ap (λ t. cond t (u ∷ []) []) (eq_true c c refl)
 
-  asked_one : (c n : ℕ) (url : Url) (why : Why) (asked : Asked) (seen found now : List (MapEvent P G)) → ContinuesFor maker_of found seen (Some c) → now ≡ found ++ Ask c n url why ∷ [] → slice_get (replay weight now).urls (number_in asked) ≡ Some url → AskedOne weight c url asked seen now
+  pub asked_one : (c n : ℕ) (url : Url) (why : Why) (asked : Asked) (seen found now : List (MapEvent P G)) → ContinuesFor maker_of found seen (Some c) → now ≡ found ++ Ask c n url why ∷ [] → slice_get (replay weight now).urls (number_in asked) ≡ Some url → AskedOne weight c url asked seen now
   asked_one c n url why asked seen found now q is has = record {
     begins = begins_more seen found now (Ask c n url why ∷ []) (Some c) q is;
     takes = along_more weight c (takes_in c) (takes_of_one weight c) seen found now (Ask c n url why) q is ∙ append-nil (takes_by weight c seen);

@@ -1,2 +1,3 @@
 pub mod Outs
 pub mod Firsts
+pub mod Wishes

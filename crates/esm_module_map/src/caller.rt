@@ -1,24 +1,28 @@
 //! The map, and who calls it.
-ghost use Rattle.std.specs.Prelude.{◌≡◌, ◌++◌, ◌∷◌, ◌+◌, ◌<◌, [], ℕ, List, true, false, nat_lt, None, Some, IfOk, IfSome, IsOk, MatchResult, slice_get, string_bytes, is_some};
+ghost use Rattle.std.specs.Prelude.{◌≡◌, ◌++◌, ◌∷◌, ◌+◌, ◌<◌, ◌≤◌, [], ℕ, List, true, false, nat_lt, None, Some, map, All, IfOk, IfSome, IsOk, OnOk, MatchResult, slice_get, string_bytes, is_some, vec_len};
+ghost use Rattle.std.specs.Vec.{vec_capacity};
 ghost use Rattle.std.proofs.Props.{props};
 ghost use Rattle.std.specs.Arc.{arc_value};
 ghost use Rattle.esm_hlock.specs.Makers.{Continues, makers_of, times};
 ghost use Rattle.esm_hlock.specs.Views.{HasAllMakers, longer};
 ghost use Rattle.esm_hlock.specs.Words.{knows, IsPassOf};
-ghost use Rattle.esm_base.specs.Urls.{is_usable};
+ghost use Rattle.esm_base.specs.Urls.{is_usable, IsUsable};
 ghost use Rattle.esm_module_map.specs.Replay.{replay, is_legal, is_order, is_posted, may_be_ahead, maker_of};
 ghost use Rattle.esm_module_map.specs.Leading.{is_led, leads_to};
 ghost use Rattle.esm_module_map.specs.Fitting.{are_fit, FitsIn};
 ghost use Rattle.esm_module_map.specs.Replies.{AskReply, TakeReply, ShutReply, Called, Found};
+ghost use Rattle.esm_module_map.specs.Inner.Wishes.{wished, IsWish};
+ghost use Rattle.esm_module_map.specs.Asking.{AskedAll, AskedUntil, AskedThese, AskedFirst};
+ghost use Rattle.esm_module_map.specs.Hearing.{HearsPosts};
 ghost use Rattle.esm_module_map.specs.Histories.{IsPostIn};
 ghost use Rattle.esm_module_map.specs.Counts.{AreTakenOnce};
-ghost use Rattle.esm_module_map.specs.Saying.{SaysNothing, Stays, ShutSays, IsShut, IsOrderIn, PostedOne, TakeSays, AskSays};
+ghost use Rattle.esm_module_map.specs.Saying.{SaysNothing, Stays, ShutSays, IsShut, IsOrderIn, PostedOne, PostTakeSays, TakeSays, AskSays};
 ghost use Rattle.esm_module_map.specs.Closing.{ClosedBy};
 ghost use Rattle.esm_module_map.specs.Views.{is_there, view_in, table_of, Same};
 
 use crate::event::{MapEvent, Payload, Why};
-use crate::reply::{Asked, MapEnd, Order, Taken};
-use crate::state::MapState;
+use crate::reply::{Asked, Heard, MapEnd, Order, Taken};
+use crate::state::{MapState, Wish};
 use esm_base::{MAX_URL_BYTES, Memory, Text};
 use esm_hlock::{Busy, Hlock, Pass};
 use std::alloc::Global;
@@ -179,6 +183,81 @@ impl<P: Payload> ModuleMap<P> {
         reply
     }
 
+    /// Asks for URLs as wanted, one after the other in one turn. `Ok` has an answer for each. The first refusal ends it, and
+    /// what was asked for before it stays so. All copies are made before the lock is taken.
+    pub fn ask_all<R: Wait>(
+        &self,
+        rt: &R,
+        alloc: Global,
+        caller: &mut Caller<P>,
+        urls: &[Text],
+    ) -> Result<Vec<Asked>, MapEnd>
+        requires own { table_of self.now.lock.table.shared.table_id caller.old.pass
+            ≡ self.now.lock.table.shared.table_id }
+        requires usable { All IsUsable urls.now }
+        ensures own { table_of self.now.lock.table.shared.table_id caller.new.pass
+            ≡ self.now.lock.table.shared.table_id }
+        ensures call { Called P.weight (view_in caller.old.pass).seen (Some caller.old.number)
+            (λ found. MatchResult result
+            (λ asked. AskedAll P.weight found caller.old.number urls.now asked.items
+            (view_in caller.new.pass).seen)
+            (λ end. AskedUntil P.weight found caller.old.number urls.now end
+            (view_in caller.new.pass).seen)) }
+        ensures says { MatchResult result
+            (λ asked. AskedThese P.weight caller.old.number urls.now asked.items
+            (view_in caller.old.pass).seen (view_in caller.new.pass).seen)
+            (λ _. AskedFirst P.weight caller.old.number urls.now (view_in caller.old.pass).seen
+            (view_in caller.new.pass).seen) }
+        ensures same { Same (view_in caller.old.pass) (view_in caller.new.pass)
+            × (caller.new.number ≡ caller.old.number) }
+    {
+        let Ok(wishes) = wishes_for(alloc, urls) else {
+            return Err(MapEnd::Memory);
+        };
+        let Ok(asked) = Vec::with_capacity(alloc, urls.len()) else {
+            return Err(MapEnd::Memory);
+        };
+        self.ask_each(rt, caller, wishes, asked)
+    }
+
+    // The same, with copies of the URLs and room for the answers.
+    fn ask_each<R: Wait>(
+        &self,
+        rt: &R,
+        caller: &mut Caller<P>,
+        wishes: Vec<Wish>,
+        asked: Vec<Asked>,
+    ) -> Result<Vec<Asked>, MapEnd>
+        requires own { table_of self.now.lock.table.shared.table_id caller.old.pass
+            ≡ self.now.lock.table.shared.table_id }
+        requires wishes { All IsWish wishes.items }
+        requires none { asked.items ≡ [] }
+        requires room { vec_len asked + vec_len wishes ≤ vec_capacity asked }
+        ensures own { table_of self.now.lock.table.shared.table_id caller.new.pass
+            ≡ self.now.lock.table.shared.table_id }
+        ensures call { Called P.weight (view_in caller.old.pass).seen (Some caller.old.number)
+            (λ found. MatchResult result
+            (λ asked. AskedAll P.weight found caller.old.number (map wished wishes.items) asked.items
+            (view_in caller.new.pass).seen)
+            (λ end. AskedUntil P.weight found caller.old.number (map wished wishes.items) end
+            (view_in caller.new.pass).seen)) }
+        ensures says { MatchResult result
+            (λ asked. AskedThese P.weight caller.old.number (map wished wishes.items) asked.items
+            (view_in caller.old.pass).seen (view_in caller.new.pass).seen)
+            (λ _. AskedFirst P.weight caller.old.number (map wished wishes.items) (view_in caller.old.pass).seen
+            (view_in caller.new.pass).seen) }
+        ensures same { Same (view_in caller.old.pass) (view_in caller.new.pass)
+            × (caller.new.number ≡ caller.old.number) }
+    {
+        let Some(pass) = caller.pass.take() else {
+            unreachable!()
+        };
+        let mut held = self.lock.enter(rt, pass);
+        let reply = held.state().ask_each(caller.number, wishes, asked);
+        caller.pass = Some(self.lock.leave_with_several(held));
+        reply
+    }
+
     /// Takes the least number that is wanted and not taken; where there is none, and what is posted weighs less than
     /// `MAX_DELIVERED_BYTES`, the least that isn't taken. `Closed` comes exactly where the map is shut, `NotYet` exactly
     /// where there is no such number. The room for the post is reserved here. Where memory runs out nothing is taken.
@@ -266,6 +345,44 @@ impl<P: Payload> ModuleMap<P> {
         caller.pass = Some(self.lock.leave(held));
     }
 
+    /// Posts what came of an order of this caller and fits its URL, and takes the next, in one turn: as `post` and `take`,
+    /// with no other event between. The order's text is the room for the next URL. Where memory runs out the post stands,
+    /// and nothing is taken.
+    pub fn post_and_take<R: Wait>(
+        &self,
+        rt: &R,
+        caller: &mut Caller<P>,
+        order: Order,
+        payload: Arc<P, Global>,
+    ) -> Result<Taken, Memory>
+        requires own { table_of self.now.lock.table.shared.table_id caller.old.pass
+            ≡ self.now.lock.table.shared.table_id }
+        requires order { IsOrderIn P.weight (view_in caller.old.pass).seen caller.old.number
+            order.number order.url }
+        requires fits { FitsIn P.fits (view_in caller.old.pass).seen (arc_value payload) order.url }
+        ensures own { table_of self.now.lock.table.shared.table_id caller.new.pass
+            ≡ self.now.lock.table.shared.table_id }
+        ensures call { Called P.weight (view_in caller.old.pass).seen (Some caller.old.number)
+            (λ found. TakeReply P.weight
+            (found ++ MapEvent.Post caller.old.number order.number payload ∷ []) caller.old.number result
+            (view_in caller.new.pass).seen) }
+        ensures says { PostTakeSays P.weight caller.old.number order.number order.url
+            (arc_value payload) (view_in caller.old.pass).seen result (view_in caller.new.pass).seen }
+        ensures same { Same (view_in caller.old.pass) (view_in caller.new.pass)
+            × (caller.new.number ≡ caller.old.number) }
+    {
+        let Order { number, url } = order;
+        let mut room = url.into_string();
+        room.clear();
+        let Some(pass) = caller.pass.take() else {
+            unreachable!()
+        };
+        let mut held = self.lock.enter(rt, pass);
+        let reply = held.state().post_and_take(caller.number, number, payload, room);
+        caller.pass = Some(self.lock.leave_with_several(held));
+        reply
+    }
+
     /// Shuts the map, unless it is shut: nothing is asked or taken from then on. It doesn't allocate.
     pub fn shut<R: Wait>(&self, rt: &R, caller: &mut Caller<P>)
         requires own { table_of self.now.lock.table.shared.table_id caller.old.pass
@@ -309,6 +426,41 @@ impl<P: Payload> ModuleMap<P> {
         };
         let mut held = self.lock.enter(rt, pass);
         let reply = held.state().post_at(from);
+        caller.pass = Some(self.lock.leave(held));
+        reply
+    }
+
+    /// Puts the posts behind the first `known` behind `heard`, in their order, as many as it has room for, and counts them in
+    /// `known`. `Err` comes only where a payload can't be shared once more; what was heard before it stays heard. It doesn't
+    /// allocate.
+    pub fn hear<R: Wait>(
+        &self,
+        rt: &R,
+        caller: &mut Caller<P>,
+        known: &mut usize,
+        heard: &mut Vec<Heard<P>>,
+    ) -> Result<(), Memory>
+        requires own { table_of self.now.lock.table.shared.table_id caller.old.pass
+            ≡ self.now.lock.table.shared.table_id }
+        ensures own { table_of self.now.lock.table.shared.table_id caller.new.pass
+            ≡ self.now.lock.table.shared.table_id }
+        ensures call { Called P.weight (view_in caller.old.pass).seen (Some caller.old.number)
+            (λ found. (view_in caller.new.pass).seen ≡ found) }
+        ensures heard { HearsPosts P.weight (view_in caller.new.pass).seen known.old
+            heard.old.items known.new heard.new.items }
+        ensures all { OnOk result (vec_len heard.new < vec_capacity heard.new
+            → slice_get (replay P.weight (view_in caller.new.pass).seen).posts known.new ≡ None) }
+        ensures room { vec_capacity heard.new ≡ vec_capacity heard.old }
+        ensures says { Stays P.weight caller.old.number (view_in caller.old.pass).seen
+            (view_in caller.new.pass).seen }
+        ensures same { Same (view_in caller.old.pass) (view_in caller.new.pass)
+            × (caller.new.number ≡ caller.old.number) }
+    {
+        let Some(pass) = caller.pass.take() else {
+            unreachable!()
+        };
+        let mut held = self.lock.enter(rt, pass);
+        let reply = held.state().hear(known, heard);
         caller.pass = Some(self.lock.leave(held));
         reply
     }
@@ -436,4 +588,21 @@ impl<P: Payload> ModuleMap<P> {
             Err(busy) => Err(busy),
         }
     }
+}
+
+// URLs that are to be asked for, with copies of them.
+fn wishes_for(alloc: Global, urls: &[Text]) -> Result<Vec<Wish>, Memory>
+    requires { All IsUsable urls.now }
+    ensures urls { IfOk result (λ v. map wished v.items ≡ urls.now) }
+    ensures wishes { IfOk result (λ v. All IsWish v.items) }
+{
+    let mut wishes = Vec::with_capacity(alloc, urls.len())?;
+    for url in urls {
+        let wish = Wish {
+            url: url.clone()?,
+            key: url.clone()?,
+        };
+        wishes.push(wish)?;
+    }
+    Ok(wishes)
 }

@@ -1,5 +1,5 @@
 // The state under the lock.
-ghost use Rattle.std.specs.Prelude.{◌≡◌, ◌≤◌, ◌<◌, ◌+◌, ◌++◌, ◌∷◌, List, ℕ, [], true, false, if◌then◌else◌, length, vec_len, slice_get, string_bytes, nat_lt, min, bytes_eq, position, IfOk, OnErr, IfSome, MatchResult, MatchOption, Some, None, option_map, is_some};
+ghost use Rattle.std.specs.Prelude.{◌≡◌, ◌≤◌, ◌<◌, ◌+◌, ◌++◌, ◌∷◌, List, ℕ, [], true, false, if◌then◌else◌, length, vec_len, slice_get, string_bytes, nat_lt, min, map, bytes_eq, position, All, IfOk, OnOk, OnErr, IfSome, MatchResult, MatchOption, Some, None, option_map, is_some};
 ghost use Rattle.std.specs.Arc.{arc_value};
 ghost use Rattle.std.specs.Vec.{vec_capacity};
 ghost use Rattle.std.specs.List.{position_or_len};
@@ -9,16 +9,19 @@ ghost use Rattle.esm_base.specs.declared.limits.TheConstants.{MAX_URLS, MAX_DELI
 ghost use Rattle.esm_module_map.specs.Replay.{Replay, replay, is_legal, is_order, next_order, has_room, room_by, fresh_number, made_wanted, made_ahead, next_by, is_free, has_place, may_be_ahead, number_for, is_numbered, is_posted};
 ghost use Rattle.esm_module_map.specs.Inner.Outs.{outs_of};
 ghost use Rattle.esm_module_map.specs.Inner.Firsts.{has_free};
+ghost use Rattle.esm_module_map.specs.Inner.Wishes.{wished, IsWish};
 ghost use Rattle.esm_module_map.specs.Histories.{Posts, IsPostIn, is_post_of};
 ghost use Rattle.esm_module_map.specs.Leading.{is_led, leads_to};
 ghost use Rattle.esm_module_map.specs.Fitting.{are_fit, may_fit};
 ghost use Rattle.esm_module_map.specs.Replies.{AskReply, TakeReply, ShutReply, answer_by};
+ghost use Rattle.esm_module_map.specs.Asking.{AskedAll, AskedUntil};
+ghost use Rattle.esm_module_map.specs.Hearing.{HearsPosts, number_heard};
 
 use crate::event::{MapEvent, Payload, Why};
 use crate::number::{
     Number, ask_again, free_from, set_place, set_taker, taken_up_to, wanted_and_free_from,
 };
-use crate::reply::{Asked, MapEnd, Order, Taken};
+use crate::reply::{Asked, Heard, MapEnd, Order, Taken};
 use esm_base::{MAX_DELIVERED_BYTES, MAX_URLS, Memory, Text};
 use esm_hlock::Story;
 use indexmap::IndexSet;
@@ -31,6 +34,13 @@ const HEAVY: usize = MAX_DELIVERED_BYTES as usize;
 // For so many events there is room from the beginning: an ask, a take and a post for each of `MAX_URLS` URLs, and for
 // callers. A map that needs no more reserves nothing under the lock.
 const EVENTS: usize = 4 * MAX_URLS;
+
+/// A URL that is to be asked for, with a copy of it.
+#[derive(Drop)]
+pub(crate) struct Wish {
+    pub url: Text,
+    pub key: Text,
+}
 
 /// The events so far, and what they come to.
 #[derive(Drop)]
@@ -246,6 +256,36 @@ impl<P: Payload> MapState<P> {
         }
     }
 
+    // The caller asks for these URLs as wanted, one after the other, until one is refused. `asked` is empty, and has room for
+    // the answers.
+    pub(crate) fn ask_each(
+        &mut self,
+        caller: u64,
+        wishes: Vec<Wish>,
+        asked: Vec<Asked>,
+    ) -> Result<Vec<Asked>, MapEnd>
+        requires is_in { caller < (replay P.weight self.old.events.items).callers }
+        requires wishes { All IsWish wishes.items }
+        requires none { asked.items ≡ [] }
+        requires room { vec_len asked + vec_len wishes ≤ vec_capacity asked }
+        ensures reply { MatchResult result
+            (λ asked. AskedAll P.weight self.old.events.items caller (map wished wishes.items) asked.items
+            self.new.events.items)
+            (λ end. AskedUntil P.weight self.old.events.items caller (map wished wishes.items) end
+            self.new.events.items) }
+        ensures callers { self.new.callers ≡ self.old.callers }
+    {
+        let mut asked = asked;
+        for wish in wishes {
+            let Wish { url, key } = wish;
+            match self.ask(caller, url, key, Why::Wanted) {
+                Ok(answer) => asked.push_reserved(answer),
+                Err(end) => return Err(end),
+            }
+        }
+        Ok(asked)
+    }
+
     // The number that is to be taken next.
     fn next(&self) -> Option<usize>
         ensures { result ≡ next_order (replay P.weight self.now.events.items) }
@@ -351,6 +391,28 @@ impl<P: Payload> MapState<P> {
         events.push_reserved(MapEvent::Post(caller, number, payload));
     }
 
+    // The caller posts what it has taken, and takes what is to be taken next.
+    pub(crate) fn post_and_take(
+        &mut self,
+        caller: u64,
+        number: u32,
+        payload: Arc<P, Global>,
+        room: String,
+    ) -> Result<Taken, Memory>
+        requires is_in { caller < (replay P.weight self.old.events.items).callers }
+        requires order { is_order (replay P.weight self.old.events.items) caller number ≡ true }
+        requires fits { may_fit P.weight P.fits self.old.events.items
+            (MapEvent.Post caller number payload) ≡ true }
+        requires room { string_bytes room ≡ [] }
+        ensures reply { TakeReply P.weight
+            (self.old.events.items ++ MapEvent.Post caller number payload ∷ []) caller result
+            (self.new.events.items) }
+        ensures callers { self.new.callers ≡ self.old.callers }
+    {
+        self.post(caller, number, payload);
+        self.take(caller, room)
+    }
+
     // The number of the post behind the first so many.
     pub(crate) fn post_at(&self, from: usize) -> Option<u32>
         ensures { result ≡ slice_get (replay P.weight self.now.events.items).posts from }
@@ -378,6 +440,46 @@ impl<P: Payload> MapState<P> {
             Some(event) => posted_by(event, number),
             None => Ok(None),
         }
+    }
+
+    // The post behind the first so many, with what was posted.
+    fn heard_at(&self, place: usize) -> Result<Option<Heard<P>>, Memory>
+        ensures exact { IfOk result (λ found. option_map number_heard found
+            ≡ slice_get (replay P.weight self.now.events.items).posts place) }
+        ensures posted { IfOk result (λ found. IfSome found (λ x.
+            IsPostIn self.now.events.items x.number (arc_value x.payload))) }
+    {
+        let Some(number) = self.post_at(place) else {
+            return Ok(None);
+        };
+        let Ok(entry) = self.entry(number) else {
+            return Err(Memory);
+        };
+        let Some(payload) = entry else {
+            unreachable!()
+        };
+        Ok(Some(Heard { number, payload }))
+    }
+
+    // The posts behind the first `known`, as many as there is room for.
+    pub(crate) fn hear(&self, known: &mut usize, heard: &mut Vec<Heard<P>>) -> Result<(), Memory>
+        ensures heard { HearsPosts P.weight self.now.events.items known.old heard.old.items
+            known.new heard.new.items }
+        ensures all { OnOk result (vec_len heard.new < vec_capacity heard.new
+            → slice_get (replay P.weight self.now.events.items).posts known.new ≡ None) }
+        ensures room { vec_capacity heard.new ≡ vec_capacity heard.old }
+    {
+        while heard.len() < heard.capacity() {
+            let Ok(found) = self.heard_at(*known) else {
+                return Err(Memory);
+            };
+            let Some(post) = found else {
+                return Ok(());
+            };
+            heard.push_reserved(post);
+            *known += 1;
+        }
+        Ok(())
     }
 
     // The history.
