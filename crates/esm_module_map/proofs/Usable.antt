@@ -1,5 +1,5 @@
 -- That the URLs of numbers may name modules.
-use Rattle.std.proofs.Common.{◌≡◌, ◌⊎◌, inl, inr, ℕ, zero, suc, ◌&&◌, Bool, true, false, nat_lt, not, List, [], ◌∷◌, ◌++◌, subst, Some, slice_get}
+use Rattle.std.proofs.Common.{◌≡◌, ◌⊎◌, inl, inr, ℕ, zero, suc, Bool, true, false, nat_lt, not, List, [], ◌∷◌, ◌++◌, subst, Some, slice_get}
 use Rattle.esm_base.specs.Urls.{Url, is_usable}
 use Rattle.esm_module_map.specs.declared.event.MapEvent.{MapEvent}
 use Rattle.esm_module_map.specs.declared.event.MapEvent.TheVariants.{Begin, Enrol, Ask, Take, Post, Shut}
