@@ -1,5 +1,5 @@
 -- That the numbers of posts are posted, and how posts are heard.
-use Rattle.std.proofs.Common.{◌≡◌, ◌⊎◌, inl, inr, ℕ, zero, suc, ◌+◌, ◌<◌, ◌&&◌, Bool, true, false, nat_lt, not, List, [], ◌∷◌, ◌++◌, length, sym, refl, ap, ◌∙◌, subst, arith, append_assoc, append-nil, Option, Some, None, is_some, slice_get}
+use Rattle.std.proofs.Common.{◌≡◌, ◌⊎◌, inl, inr, ℕ, zero, suc, ◌+◌, ◌<◌, Bool, true, false, nat_lt, not, List, [], ◌∷◌, ◌++◌, length, sym, refl, ap, ◌∙◌, subst, arith, append_assoc, append-nil, Option, Some, None, is_some, option_map, IfSome, slice_get}
 use Rattle.std.specs.Arc.{arc_value}
 use Rattle.esm_base.specs.Urls.{Url}
 use Rattle.esm_module_map.specs.declared.event.Why.{Why}
@@ -8,7 +8,7 @@ use Rattle.esm_module_map.specs.declared.event.MapEvent.TheVariants.{Begin, Enro
 use Rattle.esm_module_map.specs.declared.reply.Heard.{Heard}
 use Rattle.esm_module_map.specs.Replay.{Replay, opening, asked_by, posted_at, is_numbered, is_posted, has_place, step, replay, replay_from, is_legal, is_legal_from, may_come}
 use Rattle.esm_module_map.specs.Histories.{IsPostIn}
-use Rattle.esm_module_map.specs.Hearing.{IsPostAt, HearsPosts}
+use Rattle.esm_module_map.specs.Hearing.{number_heard, IsPostAt, HearsPosts}
 use Rattle.esm_module_map.proofs.Replays.{both_true, true_both}
 use Rattle.esm_module_map.proofs.Calls.{other_maker, at_posted, posted_step, at_order, get_changed}
 use Rattle.esm_module_map.proofs.Entries.{the_taken}
@@ -49,7 +49,6 @@ module _ {P G : Type 0} (weight : P → ℕ) where
   still_posted s e n ok h = let other = other_maker weight s e (step weight s e).callers ok (omega arith) in
       let r = posted_step weight n (step weight s e).callers s e ok other (at_posted s n h) in ap has_place r.1 ∙ r.2
 
-
   posted_more : (s : Replay) (e : MapEvent P G) → may_come s e ≡ true → ArePosted s → ArePosted (step weight s e)
   posted_more s (Begin g) ok all = λ k n at. still_posted s (Begin g) n ok (all k n at)
   posted_more s (Enrol c) ok all = λ k n at. still_posted s (Enrol c) n ok (all k n at)
@@ -57,13 +56,13 @@ module _ {P G : Type 0} (weight : P → ℕ) where
   posted_more s (Take c m) ok all = λ k n at. still_posted s (Take c m) n ok (all k n at)
   posted_more s (Post c m p) ok all = λ k n at. either k n (got_last s.posts m k n at)
     where
-      here : is_posted (step weight s (Post c m p)) m ≡ true
+      here : is_posted (step {P = P} {G = G} weight s (Post c m p)) m ≡ true
       here = let o = at_order s c m (both_true (nat_lt c s.callers) _ ok).1 in
           ap has_place (get_changed s.numbers m (posted_at s.events) o.0 o.1) ∙ true_both (is_some o.0.taker) true (the_taken c o.0.taker (not (is_some o.0.place)) o.2) refl
 
-      either : (k n : ℕ) → (slice_get s.posts k ≡ Some n) ⊎ ((k ≡ length s.posts) × (m ≡ n)) → is_posted (step weight s (Post c m p)) n ≡ true
+      either : (k n : ℕ) → (slice_get s.posts k ≡ Some n) ⊎ ((k ≡ length s.posts) × (m ≡ n)) → is_posted (step {P = P} {G = G} weight s (Post c m p)) n ≡ true
       either k n (inl there) = still_posted s (Post c m p) n ok (all k n there)
-      either k n (inr last) = subst (λ (j : ℕ). is_posted (step weight s (Post c m p)) j ≡ true) last.1 here
+      either k n (inr last) = subst (λ (j : ℕ). is_posted (step {P = P} {G = G} weight s (Post c m p)) j ≡ true) last.1 here
   posted_more s (Shut c) ok all = λ k n at. still_posted s (Shut c) n ok (all k n at)
 
   posted_from : (s : Replay) (es : List (MapEvent P G)) → is_legal_from weight s es ≡ true → ArePosted s → ArePosted (replay_from weight s es)
@@ -92,3 +91,16 @@ module _ {P G : Type 0} (weight : P → ℕ) where
       last i x (inl there) = r.in_order i x there
       last i x (inr (place, is)) = subst (λ y. IsPostAt weight h (start + i) y) is
           (ap (λ (m : ℕ). slice_get (replay weight h).posts m) (ap (λ (m : ℕ). start + m) place ∙ sym r.counted) ∙ sym here, posted)
+
+  -- the next of them, by what was found
+  pub hears_next : (h : List (MapEvent P G)) (start : ℕ) (before : List (Heard P)) (k : ℕ) (xs : List (Heard P)) (k2 : ℕ) (ys : List (Heard P)) (found : Option (Heard P)) (v : Heard P)
+      → HearsPosts weight h start before k xs → found ≡ Some v → option_map number_heard found ≡ slice_get (replay weight h).posts k → IfSome found (λ x. IsPostIn h x.number (arc_value x.payload)) → k2 ≡ k + 1 → ys ≡ xs ++ v ∷ [] → HearsPosts weight h start before k2 ys
+  hears_next h start before k xs k2 ys found v r is exact posted next grew =
+      hears_one h start before k xs k2 ys v r (ap (option_map number_heard) (sym is) ∙ exact) (subst (λ o. IfSome o (λ x. IsPostIn h x.number (arc_value x.payload))) is posted) next grew
+
+  pub heard_less : (h : List (MapEvent P G)) (k : ℕ) (found : Option (Heard P)) (v : Heard P) → found ≡ Some v → option_map number_heard found ≡ slice_get (replay weight h).posts k → k < length (replay weight h).posts
+  heard_less h k found v is exact = got_less (replay weight h).posts k v.number (sym (ap (option_map number_heard) (sym is) ∙ exact))
+
+  -- a number of a post has an entry
+  pub no_gap : {X : Type 0} (h : List (MapEvent P G)) (k n : ℕ) (found : Option X) → is_legal weight h ≡ true → Some n ≡ slice_get (replay weight h).posts k → is_some found ≡ is_posted (replay weight h) n → found ≡ None → ⊥
+  no_gap h k n found legal at exact none = let no : false ≡ true = ap is_some (sym none) ∙ exact ∙ posts_posted h k n legal (sym at) in cc

@@ -1,5 +1,5 @@
 -- Several events in one turn.
-use Rattle.std.proofs.Common.{◌≡◌, ◌⊎◌, inl, inr, ℕ, zero, suc, ◌<◌, true, List, [], ◌∷◌, ◌++◌, length, map, take, sym, refl, ap, ◌∙◌, subst, arith, append_assoc, append-nil, Option, Some, slice_get, Result, Ok, Err, MatchResult, Vec, Global}
+use Rattle.std.proofs.Common.{◌≡◌, inl, inr, ℕ, zero, suc, true, List, [], ◌∷◌, ◌++◌, length, map, take, sym, refl, ap, ◌∙◌, subst, arith, append_assoc, append-nil, Option, Some, slice_get, Result, Ok, Err, MatchResult, Vec, Global}
 use Rattle.std.specs.Prelude.{All}
 use Rattle.std.proofs.lemmas.List.Elements.{All-head, All-tail}
 use Rattle.std.specs.Arc.{arc_value}
@@ -18,7 +18,7 @@ use Rattle.esm_module_map.specs.declared.reply.Taken.TheVariants as taken
 use Rattle.esm_module_map.specs.declared.state.Wish.{Wish}
 use Rattle.esm_module_map.specs.Replay.{opening, replay, is_legal, maker_of, number_for}
 use Rattle.esm_module_map.specs.Replies.{ContinuesFor, number_in, Called, AskReply, TakeReply}
-use Rattle.esm_module_map.specs.Histories.{asks_by, takes_by, answers_by, shuts_by}
+use Rattle.esm_module_map.specs.Histories.{asks_by}
 use Rattle.esm_module_map.specs.Saying.{Begins, Stays, AskedOne, IsOrderIn, PostTakeSays}
 use Rattle.esm_module_map.specs.Asking.{AskedAll, AskedUntil, AskedThese, AskedFirst}
 use Rattle.esm_module_map.specs.Inner.Wishes.{wished, IsWish}
@@ -54,11 +54,11 @@ module _ {P G : Type 0} where
   grown_more c n u found mid now one g = (Ask c n u Wanted ∷ g.0, g.1 ∙ ap (λ l. l ++ g.0) one ∙ append_assoc found (Ask c n u Wanted ∷ []) g.0, (inr refl, g.2))
 
   module _ (weight : P → ℕ) where
-    pub all_grown : (c : ℕ) (found : List (MapEvent P G)) (us : List Url) (as : List Asked) (now : List (MapEvent P G)) → AskedAll weight found c us as now → Grown c found now
+    pub all_grown : (c : ℕ) (found : List (MapEvent P G)) (us : List Url) (bs : List Asked) (now : List (MapEvent P G)) → AskedAll weight found c us bs now → Grown c found now
     all_grown c found [] [] now is = grown_none c found now is
-    all_grown c found [] (a ∷ as) now is = cc
-    all_grown c found (u ∷ us) [] now is = cc
-    all_grown c found (u ∷ us) (a ∷ as) now (mid, reply, rest) = grown_more c (number_for (replay weight found) u) u found mid now reply.0 (all_grown c mid us as now rest)
+    all_grown c found [] (a ∷ bs) now is = absurd is
+    all_grown c found (u ∷ us) [] now is = absurd is
+    all_grown c found (u ∷ us) (a ∷ bs) now (mid, reply, rest) = grown_more c (number_for (replay weight found) u) u found mid now reply.0 (all_grown c mid us bs now rest)
 
     refused : (c : ℕ) (found : List (MapEvent P G)) (u : Url) (e : MapEnd) (now : List (MapEvent P G)) → AskReply weight found c u Wanted (Err e) now → now ≡ found
     refused c found u end.Full now r = r.0
@@ -80,17 +80,17 @@ module _ {P G : Type 0} where
 
     -- ---- what a caller's asks say
 
-    joined : (c : ℕ) (u : Url) (us : List Url) (a : Asked) (as : List Asked) (seen mid now : List (MapEvent P G)) → AskedOne weight c u a seen mid → AskedThese weight c us as mid now → AskedThese weight c (u ∷ us) (a ∷ as) seen now
-    joined c u us a as seen mid now one these = record {
+    joined : (c : ℕ) (u : Url) (us : List Url) (a : Asked) (bs : List Asked) (seen mid now : List (MapEvent P G)) → AskedOne weight c u a seen mid → AskedThese weight c us bs mid now → AskedThese weight c (u ∷ us) (a ∷ bs) seen now
+    joined c u us a bs seen mid now one these = record {
       begins = begins_on seen mid now one.begins these.begins;
       takes = these.takes ∙ one.takes;
       answers = these.answers ∙ one.answers;
       asks = these.asks ∙ ap (λ l. l ++ us) one.asks ∙ append_assoc (asks_by weight c seen) (u ∷ []) us;
       shuts = these.shuts ∙ one.shuts;
-      have_urls = ap (λ o. o ∷ map (λ b. slice_get (replay weight now).urls (number_in b)) as) (url_stays weight (number_in a) u mid now these.begins one.has_url) ∙ ap (λ l. Some u ∷ l) these.have_urls;
+      have_urls = ap (λ o. o ∷ map (λ b. slice_get (replay weight now).urls (number_in b)) bs) (url_stays weight (number_in a) u mid now these.begins one.has_url) ∙ ap (λ l. Some u ∷ l) these.have_urls;
     }
 
-    pub all_says : (c : ℕ) (seen found : List (MapEvent P G)) (us : List Url) (as : List Asked) (now : List (MapEvent P G)) → ContinuesFor maker_of found seen (Some c) → AskedAll weight found c us as now → AskedThese weight c us as seen now
+    pub all_says : (c : ℕ) (seen found : List (MapEvent P G)) (us : List Url) (bs : List Asked) (now : List (MapEvent P G)) → ContinuesFor maker_of found seen (Some c) → AskedAll weight found c us bs now → AskedThese weight c us bs seen now
     all_says c seen found [] [] now q is = let s = stays weight c seen found now q is in record {
       begins = s.0;
       takes = s.1.0;
@@ -99,11 +99,11 @@ module _ {P G : Type 0} where
       shuts = s.1.3;
       have_urls = refl;
     }
-    all_says c seen found [] (a ∷ as) now q is = cc
-    all_says c seen found (u ∷ us) [] now q is = cc
-    all_says c seen found (u ∷ us) (a ∷ as) now q (mid, reply, rest) =
-        joined c u us a as seen mid now (asked_one weight c (number_for (replay weight found) u) u Wanted a seen found mid q reply.0 (ask_numbers weight c u Wanted found mid a reply))
-        (all_says c mid mid us as now (continues_itself mid (Some c)) rest)
+    all_says c seen found [] (a ∷ bs) now q is = absurd is
+    all_says c seen found (u ∷ us) [] now q is = absurd is
+    all_says c seen found (u ∷ us) (a ∷ bs) now q (mid, reply, rest) =
+        joined c u us a bs seen mid now (asked_one weight c (number_for (replay weight found) u) u Wanted a seen found mid q reply.0 (ask_numbers weight c u Wanted found mid a reply))
+        (all_says c mid mid us bs now (continues_itself mid (Some c)) rest)
 
     nothing_asked : (c : ℕ) (us : List Url) (seen now : List (MapEvent P G)) → Stays weight c seen now → AskedFirst weight c us seen now
     nothing_asked c us seen now s = record {
@@ -184,32 +184,32 @@ module _ {P G : Type 0} (weight : P → ℕ) where
   -- where what is left leads to an end, the whole leads to it
   pub record IsMidway (c : ℕ) (found : List (MapEvent P G)) (whole : List Wish) (asked : List Asked) (now : List (MapEvent P G)) (left : List Wish) : Type 0 where
     pub wishes : All IsWish left
-    pub to_all : (more : List Asked) (then : List (MapEvent P G)) → AskedAll weight now c (map wished left) more then → AskedAll weight found c (map wished whole) (asked ++ more) then
-    pub to_end : (e : MapEnd) (then : List (MapEvent P G)) → AskedUntil weight now c (map wished left) e then → AskedUntil weight found c (map wished whole) e then
+    pub to_all : (more : List Asked) (last : List (MapEvent P G)) → AskedAll weight now c (map wished left) more last → AskedAll weight found c (map wished whole) (asked ++ more) last
+    pub to_end : (e : MapEnd) (last : List (MapEvent P G)) → AskedUntil weight now c (map wished left) e last → AskedUntil weight found c (map wished whole) e last
 
   pub midway_begins : (c : ℕ) (found : List (MapEvent P G)) (whole left : List Wish) (none : List Asked) → none ≡ [] → left ≡ whole → All IsWish whole → IsMidway c found whole none found left
   midway_begins c found whole left none is same all = record {
     wishes = subst (All IsWish) (sym same) all;
-    to_all = λ more then h. subst (λ l. AskedAll weight found c (map wished whole) l then) (ap (λ l. l ++ more) (sym is)) (subst (λ ws. AskedAll weight found c (map wished ws) more then) same h);
-    to_end = λ e then h. subst (λ ws. AskedUntil weight found c (map wished ws) e then) same h;
+    to_all = λ more last h. subst (λ l. AskedAll weight found c (map wished whole) l last) (ap (λ l. l ++ more) (sym is)) (subst (λ ws. AskedAll weight found c (map wished ws) more last) same h);
+    to_end = λ e last h. subst (λ ws. AskedUntil weight found c (map wished ws) e last) same h;
   }
 
   pub midway_on : (c : ℕ) (found : List (MapEvent P G)) (whole : List Wish) (asked asked2 : List Asked) (now mid : List (MapEvent P G)) (left rest : List Wish) (w : Wish) (a : Asked)
       → IsMidway c found whole asked now left → left ≡ w ∷ rest → AskReply weight now c w.url Wanted (Ok a) mid → asked2 ≡ asked ++ a ∷ [] → IsMidway c found whole asked2 mid rest
   midway_on c found whole asked asked2 now mid left rest w a m is reply grew = record {
     wishes = All-tail IsWish w rest (subst (All IsWish) is m.wishes);
-    to_all = λ more then h. subst (λ l. AskedAll weight found c (map wished whole) l then) (sym (ap (λ l. l ++ more) grew ∙ append_assoc asked (a ∷ []) more))
-        (m.to_all (a ∷ more) then (subst (λ ws. AskedAll weight now c (map wished ws) (a ∷ more) then) (sym is) (mid, reply, h)));
-    to_end = λ e then h. m.to_end e then (subst (λ ws. AskedUntil weight now c (map wished ws) e then) (sym is) (inr (a, mid, reply, h)));
+    to_all = λ more last h. subst (λ l. AskedAll weight found c (map wished whole) l last) (sym (ap (λ l. l ++ more) grew ∙ append_assoc asked (a ∷ []) more))
+        (m.to_all (a ∷ more) last (subst (λ ws. AskedAll weight now c (map wished ws) (a ∷ more) last) (sym is) (mid, reply, h)));
+    to_end = λ e last h. m.to_end e last (subst (λ ws. AskedUntil weight now c (map wished ws) e last) (sym is) (inr (a, mid, reply, h)));
   }
 
   pub midway_all : (c : ℕ) (found : List (MapEvent P G)) (whole : List Wish) (asked : List Asked) (now : List (MapEvent P G)) (left : List Wish) → length left ≡ 0 → IsMidway c found whole asked now left → AskedAll weight found c (map wished whole) asked now
   midway_all c found whole asked now [] none m = subst (λ l. AskedAll weight found c (map wished whole) l now) (append-nil asked) (m.to_all [] now refl)
   midway_all c found whole asked now (w ∷ left) none m = absurd (omega (arith, none))
 
-  pub midway_ends : (c : ℕ) (found : List (MapEvent P G)) (whole : List Wish) (asked : List Asked) (now then : List (MapEvent P G)) (left rest : List Wish) (w : Wish) (e : MapEnd)
-      → IsMidway c found whole asked now left → left ≡ w ∷ rest → AskReply weight now c w.url Wanted (Err e) then → AskedUntil weight found c (map wished whole) e then
-  midway_ends c found whole asked now then left rest w e m is reply = m.to_end e then (subst (λ ws. AskedUntil weight now c (map wished ws) e then) (sym is) (inl reply))
+  pub midway_ends : (c : ℕ) (found : List (MapEvent P G)) (whole : List Wish) (asked : List Asked) (now last : List (MapEvent P G)) (left rest : List Wish) (w : Wish) (e : MapEnd)
+      → IsMidway c found whole asked now left → left ≡ w ∷ rest → AskReply weight now c w.url Wanted (Err e) last → AskedUntil weight found c (map wished whole) e last
+  midway_ends c found whole asked now last left rest w e m is reply = m.to_end e last (subst (λ ws. AskedUntil weight now c (map wished ws) e last) (sym is) (inl reply))
 
   -- the next is a wish
   pub midway_next : (c : ℕ) (found : List (MapEvent P G)) (whole : List Wish) (asked : List Asked) (now : List (MapEvent P G)) (left rest : List Wish) (w : Wish) → IsMidway c found whole asked now left → left ≡ w ∷ rest → IsWish w

@@ -378,7 +378,9 @@ impl<P: Payload> ModuleMap<P> {
             unreachable!()
         };
         let mut held = self.lock.enter(rt, pass);
-        let reply = held.state().post_and_take(caller.number, number, payload, room);
+        let reply = held
+            .state()
+            .post_and_take(caller.number, number, payload, room);
         caller.pass = Some(self.lock.leave_with_several(held));
         reply
     }

@@ -455,9 +455,7 @@ impl<P: Payload> MapState<P> {
         let Ok(entry) = self.entry(number) else {
             return Err(Memory);
         };
-        let Some(payload) = entry else {
-            unreachable!()
-        };
+        let Some(payload) = entry else { unreachable!() };
         Ok(Some(Heard { number, payload }))
     }
 

@@ -1,6 +1,5 @@
 use Rattle.std.proofs.Common.{◌≡◌, ◌++◌, map, drop}
 use Rattle.std.specs.Prelude.{All}
-use Rattle.esm_base.specs.Urls.{IsUsable}
 use Rattle.esm_module_map.specs.Inner.Wishes.{wished, IsWish}
 use Rattle.esm_module_map.proofs.caller.wishes_for.Given as goal
 

@@ -1,4 +1,4 @@
-use Rattle.std.proofs.Common.{arith, ap, ◌∙◌, sym, subst, refl, ◌≡◌, length, map, Some, inl, inr, append-nil, vec_len}
+use Rattle.std.proofs.Common.{arith, ap, length}
 use Rattle.std.proofs.lemmas.List.{length-map}
 use Rattle.esm_module_map.specs.Inner.Wishes.{wished}
 use Rattle.esm_module_map.specs.Views.{view_in}
@@ -6,7 +6,7 @@ use Rattle.esm_module_map.proofs.Turns.{turn_for, says_for, nothing_called, noth
 use Rattle.esm_module_map.proofs.caller.ModuleMap.ask_all.Goals as goal
 
 pub ask_each-requires-clause-room : goal.ask_each-requires-clause-room
-ask_each-requires-clause-room g c = let w = c.in-Ok.wishes in let k = w.ok.0 in let l = length-map wished w.items in let e = ap length c.in-Ok.ensures.urls in omega (arith, k, l, e, c.in-Ok-with_capacity.ensures.capacity, c.in-Ok-with_capacity.ensures.len)
+ask_each-requires-clause-room g c = let w = c.in-Ok.wishes in let k = w.ok.0 in let l = length-map w.items wished in let e = ap length c.in-Ok.ensures.urls in omega (arith, k, l, e, c.in-Ok-with_capacity.ensures.capacity, c.in-Ok-with_capacity.ensures.len)
 
 pub returns-clause-call : goal.returns-clause-call
 returns-clause-call g c = turn_for g.P.Payload.weight c.args.caller.now.number (view_in c.args.caller.now.pass).seen _ _ c.ask_each.result (view_in c.ask_each.new.caller.pass).seen c.in-Ok.ensures.urls c.ask_each.ensures.call

@@ -1,4 +1,4 @@
-use Rattle.std.proofs.Common.{arith, ap, ◌∙◌, sym, subst, refl, ◌≡◌, ◌<◌, ◌++◌, ◌∷◌, [], Some, true, nat_lt, map}
+use Rattle.std.proofs.Common.{arith, ap, ◌∙◌, sym, subst, ◌≡◌, ◌<◌, ◌++◌, ◌∷◌, [], Some, true, nat_lt}
 use Rattle.esm_hlock.specs.Makers.{Continues, times}
 use Rattle.esm_module_map.specs.Views.{view_in}
 use Rattle.esm_module_map.specs.Replay.{replay, is_legal, maker_of}
