@@ -1,23 +1,25 @@
 -- The entry of a fetched URL.
-use Rattle.std.proofs.Common.{◌≡◌, ℕ, suc, ◌+◌, ◌<◌, ◌≤◌, Bool, true, false, refl, inl, inr, List, [], ◌∷◌, ◌++◌, length, Some, ap, subst, sym, ◌∙◌, arith, codes, get_or, drop, append-nil}
-use Rattle.std.specs.Prelude.{◌⊎◌, Ok, Result}
-use Rattle.std.proofs.lemmas.List.{append_assoc, drop_more, drop_all, length-append}
-use Rattle.std.proofs.lemmas.List.Elements.{All-nil, All-cons, All-append}
+use Rattle.std.proofs.Common.{◌≡◌, ℕ, suc, ◌<◌, ◌≤◌, Bool, true, false, refl, inl, inr, List, [], ◌∷◌, ◌++◌, length, Some, ap, subst, sym, ◌∙◌, codes, get_or}
+use Rattle.std.specs.Prelude.{◌⊎◌, Ok, Err, IfOk, Result, slice_index_or}
+use Rattle.std.proofs.lemmas.List.{append_assoc, get_or_default}
 use Rattle.esm_tree.specs.Syntax.{Item}
 use Rattle.esm_ast.specs.Entries.{EntryLists, NamesRequests, entries_of, entries_with, requests_of}
 use Rattle.esm_ast.specs.Script.{SpelledText}
 use Rattle.esm_ast.specs.Outcome as outcomes
+use Rattle.esm_base.specs.declared.memory.Memory.{Memory}
 use Rattle.esm_base.specs.Urls.{Text, Url, IsUsable, has, same_url}
 use Rattle.esm_realm.proofs.Urls.{or_cases, same_text}
 use Rattle.esm_loads.specs.Inner.Urls.{open_urls, open_by}
 use Rattle.esm_realm.specs.Laws.{AreDistinct}
 use Rattle.esm_realm.specs.Sound.{IsSoundRecord}
 use Rattle.esm_import_map.specs.ImportMap.{Maps}
-use Rattle.esm_specifier.specs.Resolution.{resolution_of_specifier}
+use Rattle.esm_specifier.specs.Targets.{AreTargets, AreUsable}
+use Rattle.esm_specifier.specs.declared.targets.Targets.{Targets}
 use Rattle.esm_values.specs.declared.errors.Fault.{Fault}
-use Rattle.esm_loads.specs.UrlTable.{found, Faulty, script_by, targets_of, targets_by}
+use Rattle.esm_loads.specs.Arrival.{AreResolved}
+use Rattle.esm_loads.specs.UrlTable.{found, Faulty, script_by, targets_of}
 use Rattle.esm_loads.specs.LoadsView.{every_form, urls_of, place_in, is_open}
-use Rattle.esm_loads.specs.Inner.Arriving.{LeadsOn, AreTargets, IsOpenSlot, Stores, Filled}
+use Rattle.esm_loads.specs.Inner.Arriving.{IsOpenSlot, Stores, Filled}
 use Rattle.esm_loads.specs.Inner.Arriving.Filled.{AsBroken}
 use Rattle.esm_loads.specs.declared.data.UrlState.TheVariants as states
 use Rattle.esm_ast.specs.Outcome.{OutcomeView}
@@ -34,44 +36,43 @@ printed url specifier name wanted e = rw e (simp append_assoc)
 pub parse_printed : (url description wanted : Text) → description ≡ wanted → url ++ (codes ": " ++ description) ≡ url ++ codes ": " ++ wanted
 parse_printed url description wanted e = rw e (simp append_assoc)
 
--- one request more is resolved
-pub leads_more : (maps : Maps) (referrer : Url) (all : List Text) (urls : List Url) (i : ℕ) (specifier target : Text) → LeadsOn maps referrer all (drop i all) urls → i < length all → specifier ≡ get_or all i specifier
-    → resolution_of_specifier maps referrer specifier ≡ Ok target → IsUsable target → LeadsOn maps referrer all (drop (i + 1) all) (urls ++ target ∷ [])
-leads_more maps referrer all urls i specifier target leads within is to usable = record {
-  resolved = λ more e. leads.resolved (target ∷ more) (here ∙ ap (λ r. targets_by referrer specifier r (targets_of maps referrer (drop (i + 1) all))) to ∙ ap (targets_by referrer specifier (Ok target)) e) ∙ ap (λ us. Ok us) (sym (append_assoc urls (target ∷ []) more));
-  thrown = λ f e. leads.thrown f (here ∙ ap (λ r. targets_by referrer specifier r (targets_of maps referrer (drop (i + 1) all))) to ∙ ap (targets_by referrer specifier (Ok target)) e);
-  usable = All-append IsUsable urls (target ∷ []) leads.usable (All-cons IsUsable target [] usable (All-nil IsUsable));
-  as_many = omega (arith, leads.as_many, ap length first, length-append urls (target ∷ []));
-}
-  where
-    first : drop i all ≡ specifier ∷ drop (i + 1) all
-    first = drop_more all i specifier within ∙ ap (λ s. s ∷ drop (i + 1) all) (sym is)
+-- ---- what requests resolve to
 
-    here : targets_of maps referrer (drop i all) ≡ targets_by referrer specifier (resolution_of_specifier maps referrer specifier) (targets_of maps referrer (drop (i + 1) all))
-    here = ap (targets_of maps referrer) first
+same_script : (text other : SpelledText) → outcomes.Script text ≡ outcomes.Script other → text ≡ other
+same_script text other e = cc
 
--- all requests are resolved
-pub leads_whole : (maps : Maps) (referrer : Url) (all : List Text) (urls : List Url) (i : ℕ) → LeadsOn maps referrer all (drop i all) urls → length all ≤ i → AreTargets maps referrer all urls
-leads_whole maps referrer all urls i leads past =
-    let none : drop i all ≡ [] = drop_all i all past in
-    (leads.resolved [] (ap (targets_of maps referrer) none) ∙ ap (λ us. Ok us) (append-nil urls), leads.usable, omega (arith, leads.as_many, ap length none))
+-- of a module text it is what its requests resolve to
+pub resolved_script : (maps : Maps) (url : Url) (o : OutcomeView) (text : SpelledText) (requests : List Text) (r : Result Targets Memory) → o ≡ outcomes.Script text → requests ≡ requests_of text.items
+    → IfOk r (AreTargets maps url requests) → IfOk r (AreResolved maps url o)
+resolved_script maps url o text requests (Ok targets) is are h = λ other e.
+    let same : text ≡ other = same_script text other (sym is ∙ e) in
+    subst (λ rs. AreTargets maps url rs targets) (are ∙ ap (λ (t : SpelledText). requests_of t.items) same) h
+resolved_script maps url o text requests (Err want) is are h = tt
+
+-- of anything else nothing is said
+pub resolved_none : (maps : Maps) (url : Url) (o other : OutcomeView) (targets : Targets) → o ≡ other → ((text : SpelledText) → other ≡ outcomes.Script text → ⊥) → AreResolved maps url o targets
+resolved_none maps url o other targets is none = λ text e. absurd (none text (sym is ∙ e))
+
+-- the specifier of a request that is refused
+pub specifier_at : (requests : List Text) (place : ℕ) (specifier : Text) → place < length requests → specifier ≡ get_or requests place specifier → slice_index_or requests place [] ≡ specifier
+specifier_at requests place specifier within is = get_or_default requests place [] specifier within ∙ sym is
 
 -- ---- the record of a module is sound
 
-pub sound_record : (maps : Maps) (url copy : Url) (entries shared : EntryLists) (requests : List Text) (targets : List Url) → copy ≡ url → IsUsable url → entries ≡ shared
-    → length shared.requests ≤ 1048576 → NamesRequests shared (length shared.requests) → requests ≡ shared.requests → AreTargets maps url requests targets → IsSoundRecord copy entries targets
-sound_record maps url copy entries shared requests targets same usable of_script few named are found = rw (same, of_script) (record {
+pub sound_record : (url copy : Url) (entries shared : EntryLists) (requests : List Text) (targets : List Url) → copy ≡ url → IsUsable url → entries ≡ shared
+    → length shared.requests ≤ 1048576 → NamesRequests shared (length shared.requests) → shared.requests ≡ requests → AreUsable requests targets → IsSoundRecord copy entries targets
+sound_record url copy entries shared requests targets same usable of_script few named are found = rw (same, of_script) (record {
   url_is = usable;
-  targets_are = found.1;
-  as_many = found.2 ∙ ap length are;
+  targets_are = found.each;
+  as_many = found.as_many ∙ ap length (sym are);
   few_requests = few;
   names = named;
 })
 
 -- what a body that spells a tree brings
-pub found_script : (maps : Maps) (url : Url) (text : SpelledText) (requests : List Text) (r : Result (List Url) Fault) → requests ≡ requests_of text.items → targets_of maps url requests ≡ r
+pub found_script : (maps : Maps) (url : Url) (text : SpelledText) (r : Result (List Url) Fault) → targets_of maps url (requests_of text.items) ≡ r
     → found maps every_form url (outcomes.Script text) ≡ script_by text.items r
-found_script maps url text requests r are e = ap (script_by text.items) (ap (targets_of maps url) (sym are) ∙ e)
+found_script maps url text r e = ap (script_by text.items) e
 
 -- the requests of the entries are those of the tree
 pub requests_are : (e : EntryLists) (items : List Item) → e ≡ entries_of items → e.requests ≡ requests_of items

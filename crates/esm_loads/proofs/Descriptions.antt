@@ -8,12 +8,14 @@ use Rattle.esm_ast.specs.Outcome as outcomes
 use Rattle.esm_ast.specs.Outcome.{OutcomeView}
 use Rattle.esm_import_map.specs.ImportMap.{Maps}
 use Rattle.esm_specifier.specs.Resolution.{resolution_of_specifier}
+use Rattle.esm_specifier.specs.Targets as requested
+use Rattle.esm_specifier.specs.Targets.{Refusal, targets_by}
 use Rattle.esm_specifier.specs.declared.fault.SpecFault.{SpecFault}
 use Rattle.esm_values.specs.Errors.{fault_text}
 use Rattle.esm_values.specs.declared.errors.Fault.{Fault}
 use Rattle.esm_load.specs.Forms.{is_built}
 use Rattle.esm_load.specs.UrlTable as one_load
-use Rattle.esm_loads.specs.UrlTable.{script_by, built_by, found, targets_of, targets_by, specifier_error, parse_error, not_built_error}
+use Rattle.esm_loads.specs.UrlTable.{script_by, built_by, found, targets_of, told_targets, specifier_error, parse_error, not_built_error}
 use Rattle.esm_loads.specs.Laws.{told, ToldAlike}
 
 -- a result whose fault is told by its text
@@ -36,13 +38,14 @@ not_built_told (c ∷ cs) = refl
 targets_told : (maps : Maps) (referrer : Url) (specifiers : List Text) → text_of (targets_of maps referrer specifiers) ≡ one_load.targets_of maps referrer specifiers
 unfolding text_of
 targets_told maps referrer [] = refl
-targets_told maps referrer (specifier ∷ specifiers) = by (resolution_of_specifier maps referrer specifier) (targets_of maps referrer specifiers) (one_load.targets_of maps referrer specifiers) (targets_told maps referrer specifiers)
+targets_told maps referrer (specifier ∷ specifiers) = by (resolution_of_specifier maps referrer specifier) (requested.targets_of maps referrer specifiers) (one_load.targets_of maps referrer specifiers) (targets_told maps referrer specifiers)
   where
-    by : (r : Result Url SpecFault) (ts : Result (List Url) Fault) (us : Result (List Url) Text) → text_of ts ≡ us → text_of (targets_by referrer specifier r ts) ≡ one_load.targets_by referrer specifier r us
+    by : (r : Result Url SpecFault) (ts : Result (List Url) Refusal) (us : Result (List Url) Text) → text_of (told_targets referrer specifiers ts) ≡ us
+        → text_of (told_targets referrer (specifier ∷ specifiers) (targets_by r ts)) ≡ one_load.targets_by referrer specifier r us
     by (Ok url) (Ok urls) (Ok vs) e = let same : urls ≡ vs = cc in ap (λ ws. Ok (url ∷ ws)) same
     by (Ok url) (Ok urls) (Err t) e = cc
-    by (Ok url) (Err f) (Ok vs) e = cc
-    by (Ok url) (Err f) (Err t) e = e
+    by (Ok url) (Err refusal) (Ok vs) e = cc
+    by (Ok url) (Err refusal) (Err t) e = e
     by (Err f) ts us e = ap Err (specifier_told referrer specifier f)
 
 script_told : (items : List Item) (ts : Result (List Url) Fault) (us : Result (List Url) Text) → text_of ts ≡ us → told (script_by items ts) ≡ one_load.module_table_entry items us

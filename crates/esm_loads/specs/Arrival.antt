@@ -4,12 +4,25 @@ use Rattle.esm_base.specs.declared.limits.Limit.{Limit}
 use Rattle.esm_base.specs.declared.limits.Limit.TheVariants.{L2}
 use Rattle.esm_base.specs.declared.limits.TheConstants.{MAX_DELIVERED_BYTES}
 use Rattle.esm_base.specs.Urls.{Url}
+use Rattle.esm_ast.specs.Entries.{requests_of}
+use Rattle.esm_ast.specs.Outcome as outcomes
 use Rattle.esm_ast.specs.Outcome.{OutcomeView}
+use Rattle.esm_ast.specs.Script.{SpelledText}
+use Rattle.esm_import_map.specs.ImportMap.{Maps}
+use Rattle.esm_specifier.specs.Targets.{AreTargets}
+use Rattle.esm_specifier.specs.declared.targets.Targets.{Targets}
 use Rattle.esm_values.specs.Errors.{make_error, next_error}
 pub use Rattle.esm_load.specs.Arrival.{bytes_of}
 use Rattle.esm_loads.specs.UrlTable.{TableEntry, Entries, Failed, Broken, Module, Found, Nothing, Faulty, Script, found, put_at}
 use Rattle.esm_loads.specs.Loading.{Loading, PendingRequest, is_fetching}
 use Rattle.esm_loads.specs.Host.{Host, with_loading, Answered}
+
+-- ---- the requests are resolved
+
+-- the targets are what the requests of this outcome at this URL resolve to. Of what is no module text nothing is said
+abbrev pub AreResolved : Maps → Url → OutcomeView → Targets → Type 0
+AreResolved maps url outcome targets =
+    (text : SpelledText) → outcome ≡ outcomes.Script text → AreTargets maps url (requests_of text.items) targets
 
 -- ---- the outcome is stored
 

@@ -1,5 +1,5 @@
 -- The table of URLs: the module map of the HTML Standard.
-use Rattle.std.specs.Prelude.{ℕ, Bool, true, false, cond, List, [], ◌∷◌, ◌++◌, Option, Some, None, Result, Ok, Err, codes}
+use Rattle.std.specs.Prelude.{ℕ, Bool, true, false, cond, List, [], ◌∷◌, ◌++◌, slice_index_or, Option, Some, None, Result, Ok, Err, codes}
 use Rattle.esm_base.specs.Faults.{fault_description}
 use Rattle.esm_base.specs.Urls.{Text, Url, same_url}
 use Rattle.esm_base.specs.declared.fault.TextFault.{TextFault}
@@ -10,7 +10,8 @@ use Rattle.esm_ast.specs.Outcome.{OutcomeView}
 use Rattle.esm_realm.specs.Records.{ModuleRecord}
 use Rattle.esm_import_map.specs.ImportMap.{Maps}
 use Rattle.esm_specifier.specs.Faults.{specifier_fault_description}
-use Rattle.esm_specifier.specs.Resolution.{resolution_of_specifier}
+use Rattle.esm_specifier.specs.Targets as requested
+use Rattle.esm_specifier.specs.Targets.{Refusal}
 use Rattle.esm_specifier.specs.declared.fault.SpecFault.{SpecFault}
 use Rattle.esm_values.specs.Errors.{fault}
 use Rattle.esm_values.specs.declared.errors.Fault.{Fault}
@@ -61,16 +62,15 @@ abbrev pub specifier_error : Url → Text → SpecFault → Fault
 specifier_error referrer specifier f =
     fault kinds.TypeError (referrer ++ codes ": specifier " ++ specifier ++ codes ": " ++ specifier_fault_description f)
 
-abbrev pub targets_by : Url → Text → Result Url SpecFault → Result (List Url) Fault → Result (List Url) Fault
-targets_by referrer specifier (Ok url) (Ok urls) = Ok (url ∷ urls)
-targets_by referrer specifier (Ok url) (Err thrown) = Err thrown
-targets_by referrer specifier (Err f) later = Err (specifier_error referrer specifier f)
+-- own: a request that is refused is told by its TypeError
+abbrev pub told_targets : Url → List Text → Result (List Url) Refusal → Result (List Url) Fault
+told_targets referrer requests (Ok urls) = Ok urls
+told_targets referrer requests (Err refusal) =
+    Err (specifier_error referrer (slice_index_or requests refusal.place []) refusal.fault)
 
 -- the URLs of all requests of the module at this URL, or the TypeError of the first that doesn't resolve
 abbrev pub targets_of : Maps → Url → List Text → Result (List Url) Fault
-targets_of maps referrer [] = Ok []
-targets_of maps referrer (specifier ∷ specifiers) =
-    targets_by referrer specifier (resolution_of_specifier maps referrer specifier) (targets_of maps referrer specifiers)
+targets_of maps referrer requests = told_targets referrer requests (requested.targets_of maps referrer requests)
 
 -- own: the SyntaxError of a body that is no module text
 abbrev pub parse_error : Url → TextFault → Fault

@@ -4,18 +4,20 @@ ghost use Rattle.esm_base.specs.declared.limits.Limit.{Limit};
 ghost use Rattle.esm_base.specs.declared.limits.TheConstants.{MAX_DELIVERED_BYTES, MAX_URLS};
 ghost use Rattle.esm_base.specs.declared.end.End.TheVariants.{Fault};
 ghost use Rattle.esm_base.specs.Urls.{Url, has, IsUsable};
+ghost use Rattle.esm_ast.specs.Entries.{requests_of};
 ghost use Rattle.esm_ast.specs.Outcome as outcomes;
 ghost use Rattle.esm_ast.specs.Outcome.{outcome_view};
 ghost use Rattle.esm_ast.specs.Script.{spelled_text};
 ghost use Rattle.esm_realm.specs.Laws.{AreDistinct};
 ghost use Rattle.esm_realm.specs.Sound.{IsSound, records_of, url_of};
+ghost use Rattle.esm_specifier.specs.Targets.{AreTargets, Refusal, targets_view};
 ghost use Rattle.esm_values.specs.Errors as errors_spec;
 ghost use Rattle.esm_values.specs.declared.errors.FaultKind.{FaultKind as Kind};
 ghost use Rattle.esm_promise.specs.Code.{Numbered};
 ghost use Rattle.esm_loads.specs.UrlTable as url_table;
-ghost use Rattle.esm_loads.specs.UrlTable.{found};
+ghost use Rattle.esm_loads.specs.UrlTable.{found, told_targets};
 ghost use Rattle.esm_loads.specs.Arrival as arrival;
-ghost use Rattle.esm_loads.specs.Arrival.{after_fetch, put_found};
+ghost use Rattle.esm_loads.specs.Arrival.{after_fetch, put_found, AreResolved};
 ghost use Rattle.esm_loads.specs.LoadsView.{every_form, is_open, tree_items, urls_of};
 ghost use Rattle.esm_loads.specs.LoadsAsLoading.{loading_of};
 ghost use Rattle.esm_loads.specs.Fits.{FitRecords, HaveTexts, records_with};
@@ -23,16 +25,16 @@ ghost use Rattle.esm_loads.specs.Hosted.{host_of, StopsAt};
 ghost use Rattle.esm_loads.specs.Loaded.{HaveLoaded};
 ghost use Rattle.esm_loads.specs.declared.data.Slot.{Slot};
 ghost use Rattle.esm_loads.specs.Inner.Urls.{open_urls, IsOpenAt};
-ghost use Rattle.esm_loads.specs.Inner.Arriving.{AreTargets, unresolved_message, Filled, IsOpenSlot, NonePending, settled, stores};
+ghost use Rattle.esm_loads.specs.Inner.Arriving.{unresolved_message, Filled, IsOpenSlot, NonePending, settled, stores};
 
 use crate::LoadEnd;
 use crate::data::UrlState;
 use crate::loads::Loads;
 use esm_ast::{Outcome, Script, Tree};
-use esm_base::{Limit, MAX_DELIVERED_BYTES, Memory, Text, TextFault, parse_absolute};
+use esm_base::{Limit, MAX_DELIVERED_BYTES, Memory, Text, TextFault};
 use esm_import_map::ImportMap;
 use esm_realm::Realm;
-use esm_specifier::{SpecEnd, SpecFault, resolve_against};
+use esm_specifier::{SpecFault, Targets, targets_of};
 use esm_values::{ErrorId, Errors, FaultKind};
 use std::alloc::Global;
 use std::sync::Arc;
@@ -63,37 +65,56 @@ pub fn unresolved(
     Ok(Text::from_string(text))
 }
 
-// The URLs of these requests, or the message of the error of the first that doesn't resolve.
-fn targets_of(
+/// What the requests of an outcome at this URL resolve to.
+pub fn resolve_requests(
     alloc: Global,
-    import_map: &ImportMap,
+    map: &ImportMap,
+    url: &Text,
+    outcome: &Outcome,
+) -> Result<Targets, Memory>
+    requires { IsUsable url.now }
+    ensures { IfOk result (AreResolved map.now url.now (outcome_view outcome.now)) }
+{
+    match outcome {
+        Outcome::Script(script) => targets_of(alloc, map, url, script.entries().requests()),
+        Outcome::Broken(_broken) => Ok(Targets::Found(Vec::new(alloc))),
+        Outcome::Absent => Ok(Targets::Found(Vec::new(alloc))),
+        Outcome::Failed => Ok(Targets::Found(Vec::new(alloc))),
+    }
+}
+
+// The same texts once more.
+fn copies_of(alloc: Global, texts: &[Text]) -> Result<Vec<Text>, Memory>
+    ensures { IfOk result (λ copies. copies.items ≡ texts.now) }
+{
+    let mut copies = Vec::with_capacity(alloc, texts.len())?;
+    for text in texts {
+        copies.push(text.clone()?)?;
+    }
+    Ok(copies)
+}
+
+// The URLs that were found, once more, or the message of the error of the request that is refused.
+fn told(
+    alloc: Global,
     url: &Text,
     requests: &[Text],
+    targets: &Targets,
 ) -> Result<Result<Vec<Text>, Text>, Memory>
-    requires { IsUsable url.now }
-    ensures { IfOk result (λ targets. MatchResult targets
-        (λ urls. AreTargets import_map.now url.now requests.now urls.items)
-        (λ message. url_table.targets_of import_map.now url.now requests.now
+    requires place { (refusal : Refusal) → targets_view targets.now ≡ Err refusal
+        → refusal.place < length requests.now }
+    ensures { IfOk result (λ told. MatchResult told
+        (λ urls. targets_view targets.now ≡ Ok urls.items)
+        (λ message. told_targets url.now requests.now (targets_view targets.now)
         ≡ Err (errors_spec.fault Kind.TypeError message))) }
 {
-    let referrer = url.as_str();
-    let Some(base) = parse_absolute(alloc, referrer)? else {
-        unreachable!()
-    };
-    let mut targets = Vec::new(alloc);
-    for specifier in requests {
-        match resolve_against(alloc, import_map, &base, referrer, specifier.as_str()) {
-            Ok(target) => targets.push(target)?,
-            Err(SpecEnd::Fault(fault)) => return Ok(Err(unresolved(
-                alloc,
-                referrer,
-                specifier.as_str(),
-                fault,
-            )?)),
-            Err(SpecEnd::Memory) => return Err(Memory),
+    match targets {
+        Targets::Found(urls) => Ok(Ok(copies_of(alloc, urls.as_slice())?)),
+        Targets::Refused(place, fault) => {
+            let specifier = &requests[*place];
+            Ok(Err(unresolved(alloc, url.as_str(), specifier.as_str(), *fault)?))
         }
     }
-    Ok(Ok(targets))
 }
 
 // Makes the error of a body that is no module text.
@@ -121,11 +142,14 @@ fn fill_script(
     import_map: &ImportMap,
     url: &Text,
     script: &Script,
+    targets: &Targets,
 ) -> Result<UrlState, Memory>
     requires sound { IsSound (records_of realm.old) }
     requires room { length (records_of realm.old) < MAX_URLS }
     requires new { has (map url_of (records_of realm.old)) url.now ≡ false }
     requires usable { IsUsable url.now }
+    requires targets { AreTargets import_map.now url.now
+        (requests_of (spelled_text script.now).items) targets.now }
     ensures filled { IfOk result (
         Filled import_map.now url.now (outcomes.Script (spelled_text script.now))
         (stores (map tree_items trees.old.items) (records_of realm.old) errors.old)
@@ -135,9 +159,11 @@ fn fill_script(
         → OnOk result (HaveTexts (map tree_items trees.new.items)) }
     ensures sound { IsSound (records_of realm.new) }
 {
+    esm_specifier::laws::targets_are_usable();
+    esm_specifier::laws::refusals_are_requests();
     let _spelled = script.tree();
     let entries = script.share_entries()?;
-    let found = targets_of(alloc, import_map, url, script.entries().requests())?;
+    let found = told(alloc, url, script.entries().requests(), targets)?;
     match found {
         Ok(targets) => {
             trees.push(script.share_tree()?)?;
@@ -160,11 +186,13 @@ fn fill(
     import_map: &ImportMap,
     url: &Text,
     outcome: &Outcome,
+    targets: &Targets,
 ) -> Result<UrlState, Memory>
     requires sound { IsSound (records_of realm.old) }
     requires room { length (records_of realm.old) < MAX_URLS }
     requires new { has (map url_of (records_of realm.old)) url.now ≡ false }
     requires usable { IsUsable url.now }
+    requires targets { AreResolved import_map.now url.now (outcome_view outcome.now) targets.now }
     ensures filled { IfOk result (
         Filled import_map.now url.now (outcome_view outcome.now)
         (stores (map tree_items trees.old.items) (records_of realm.old) errors.old)
@@ -176,7 +204,9 @@ fn fill(
 {
     match outcome {
         Outcome::Script(script) => {
-            fill_script(trees, realm, errors, alloc, import_map, url, script)
+            fill_script(
+                trees, realm, errors, alloc, import_map, url, script, targets,
+            )
         }
         Outcome::Broken(broken) => {
             let error = parse_fault(alloc, errors, url.as_str(), broken.fault())?;
@@ -218,11 +248,13 @@ fn store(
     map: &ImportMap,
     url: &Text,
     outcome: &Outcome,
+    targets: &Targets,
 ) -> Result<(), Memory>
     requires fits { FitRecords loads.old (records_of realm.old) }
     requires sound { IsSound (records_of realm.old) }
     requires open { has (open_urls loads.old.urls.slots) url.now ≡ true }
     requires answered { NonePending loads.old }
+    requires targets { AreResolved map.now url.now (outcome_view outcome.now) targets.now }
     ensures stored { (named : ℕ → Url) (promises : Numbered) → OnOk result (
         host_of named promises errors.new
         (loading_of map.now loads.new (records_of realm.new))
@@ -248,6 +280,7 @@ fn store(
         map,
         url,
         outcome,
+        targets,
     )?;
     settle(loads, place, state);
     Ok(())
@@ -267,7 +300,7 @@ fn count(loads: &mut Loads, bytes: usize) -> Result<(), LoadEnd>
     }
 }
 
-/// Takes what the fetch of a URL has come to.
+/// Takes what the fetch of a URL has come to, whose requests these targets are. The map is what they were resolved by.
 pub fn arrive(
     loads: &mut Loads,
     realm: &mut Realm,
@@ -275,11 +308,13 @@ pub fn arrive(
     map: &ImportMap,
     url: &Text,
     outcome: &Outcome,
+    targets: &Targets,
 ) -> Result<(), LoadEnd>
     requires fits { FitRecords loads.old (records_of realm.old) }
     requires sound { IsSound (records_of realm.old) }
     requires open { has (open_urls loads.old.urls.slots) url.now ≡ true }
     requires answered { NonePending loads.old }
+    requires targets { AreResolved map.now url.now (outcome_view outcome.now) targets.now }
     ensures arrives { (named : ℕ → Url) (promises : Numbered) → OnOk result (
         host_of named promises errors.new
         (loading_of map.now loads.new (records_of realm.new))
@@ -303,7 +338,7 @@ pub fn arrive(
         Ok(()) => {}
         Err(end) => return Err(end),
     }
-    match store(loads, realm, errors, map, url, outcome) {
+    match store(loads, realm, errors, map, url, outcome, targets) {
         Ok(()) => Ok(()),
         Err(Memory) => Err(LoadEnd::Memory),
     }

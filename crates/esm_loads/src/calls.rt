@@ -1,5 +1,5 @@
 // The calls of several loads.
-ghost use Rattle.std.specs.Prelude.{◌≡◌, ◌<◌, ℕ, [], List, length, map, None, Some, Ok, Err, IfSome, OnOk, true, false};
+ghost use Rattle.std.specs.Prelude.{◌≡◌, ◌<◌, ℕ, [], List, length, map, None, Some, Ok, Err, IfOk, IfSome, OnOk, true, false};
 ghost use Rattle.esm_base.specs.declared.limits.Limit.{Limit};
 ghost use Rattle.esm_base.specs.declared.end.End.TheVariants.{Fault};
 ghost use Rattle.esm_base.specs.Urls.{Url, has, IsUsable};
@@ -8,7 +8,7 @@ ghost use Rattle.esm_promise.specs.Code.{Numbered};
 ghost use Rattle.esm_import_map.specs.ImportMap.{Maps};
 ghost use Rattle.esm_realm.specs.ById.{url_at};
 ghost use Rattle.esm_realm.specs.Sound.{IsSound, RecordParts, records_of};
-ghost use Rattle.esm_loads.specs.Arrival.{after_fetch, AnswersNext, next, open_asks};
+ghost use Rattle.esm_loads.specs.Arrival.{after_fetch, AnswersNext, AreResolved, next, open_asks};
 ghost use Rattle.esm_loads.specs.UrlTable.{found};
 ghost use Rattle.esm_loads.specs.Loading as loading;
 ghost use Rattle.esm_loads.specs.LoadsView.{before_linking, every_form, is_unlinked, promise_id};
@@ -19,7 +19,7 @@ ghost use Rattle.esm_loads.specs.Loaded.{HaveLoaded, PastNewStay, root_url};
 ghost use Rattle.esm_loads.specs.Whole.{IsWhole};
 
 use crate::LoadEnd;
-use crate::arriving::arrive;
+use crate::arriving::{arrive, resolve_requests};
 use crate::asked_urls::AskedUrls;
 use crate::asking::{add_load, ask_root};
 use crate::data::Purpose;
@@ -33,6 +33,7 @@ use esm_base::{Memory, ModuleId, Text};
 use esm_import_map::ImportMap;
 use esm_promise::Promises;
 use esm_realm::Realm;
+use esm_specifier::Targets;
 use esm_values::{Errors, PromiseId};
 use std::alloc::Global;
 use std::sync::Arc;
@@ -165,7 +166,63 @@ impl Loads {
         ensures fits { OnOk result (FitRecords self.new (records_of realm.new)) }
         ensures sound { IsSound (records_of realm.new) }
     {
-        arrive(self, realm, errors, map, url, outcome)
+        let Ok(targets) = self.resolve(map, url, outcome) else {
+            return Err(LoadEnd::Memory);
+        };
+        arrive(self, realm, errors, map, url, outcome, &targets)
+    }
+
+    /// What the requests of an outcome at this URL, which may name a module, resolve to under this map.
+    pub fn resolve(
+        &self,
+        map: &ImportMap,
+        url: &Text,
+        outcome: &Outcome,
+    ) -> Result<Targets, Memory>
+        requires { IsUsable url.now }
+        ensures { IfOk result (AreResolved map.now url.now (outcome_view outcome.now)) }
+    {
+        resolve_requests(self.alloc, map, url, outcome)
+    }
+
+    /// As `arrive`, where the requests are resolved already: these targets are what they resolve to under the map.
+    pub fn arrive_resolved(
+        &mut self,
+        realm: &mut Realm,
+        errors: &mut Errors,
+        map: &ImportMap,
+        url: &Text,
+        outcome: &Outcome,
+        targets: &Targets,
+    ) -> Result<(), LoadEnd>
+        requires fits { FitRecords self.old (records_of realm.old) }
+        requires sound { IsSound (records_of realm.old) }
+        requires open { has (open_asks (loading_of map.now self.old (records_of realm.old)))
+            url.now ≡ true }
+        requires answered { next (loading_of map.now self.old (records_of realm.old)) ≡ None }
+        requires targets { AreResolved map.now url.now (outcome_view outcome.now) targets.now }
+        ensures arrives { (named : ℕ → Url) (promises : Numbered) → OnOk result (
+            host_of named promises errors.new
+            (loading_of map.now self.new (records_of realm.new))
+            ≡ after_fetch (host_of named promises errors.old
+            (loading_of map.now self.old (records_of realm.old))) url.now
+            (outcome_view outcome.now)
+            ) }
+        ensures limit { (named : ℕ → Url) (promises : Numbered) → StopsAt result (
+            after_fetch (host_of named promises errors.old
+            (loading_of map.now self.old (records_of realm.old))) url.now
+            (outcome_view outcome.now)
+            ) }
+        ensures records { OnOk result (
+            records_of realm.new ≡ records_with (records_of realm.old) url.now
+            (found map.now every_form url.now (outcome_view outcome.now))
+            ) }
+        ensures loaded { HaveLoaded (records_of realm.old)
+            → OnOk result (HaveLoaded (records_of realm.new)) }
+        ensures fits { OnOk result (FitRecords self.new (records_of realm.new)) }
+        ensures sound { IsSound (records_of realm.new) }
+    {
+        arrive(self, realm, errors, map, url, outcome, targets)
     }
 
     /// Begins a call of `import()`, whose specifier stands in the module `referrer` and whose promise is there. It is

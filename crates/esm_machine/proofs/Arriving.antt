@@ -105,7 +105,7 @@ maps_by (conditions.Stopped limit) l = refl
 maps_by conditions.Lost l = refl
 
 -- the import map is the one that is seen
-maps_seen : (i : Imported) → (seen_of i).loading.maps ≡ i.maps
+pub maps_seen : (i : Imported) → (seen_of i).loading.maps ≡ i.maps
 maps_seen i = maps_by i.condition (loading_of i.maps i.loads i.records)
 
 -- ---- the fetch of an open ask that has no record

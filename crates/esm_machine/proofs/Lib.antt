@@ -48,3 +48,4 @@ pub mod Linked
 pub mod LinkedScopes
 pub mod Starts
 pub mod Counted
+pub mod KeptMap

@@ -1,13 +1,15 @@
 -- What is read of the records is what is seen of modules, as long as nothing is lost.
-use Rattle.std.proofs.Common.{◌≡◌, ℕ, zero, suc, ◌<◌, Bool, true, false, List, [], ◌∷◌, map, length, Option, Some, None, refl, ap, subst, sym, ◌∙◌, arith}
-use Rattle.std.specs.Prelude.{◌&&◌, nat_lt, if◌then◌else◌, slice_get, All, IfSome}
+use Rattle.std.proofs.Common.{◌≡◌, ℕ, zero, suc, ◌<◌, Bool, true, false, List, [], ◌∷◌, map, length, Option, Some, None, refl, ap, subst, sym, ◌∙◌, arith, inl, inr}
+use Rattle.std.specs.Prelude.{◌⊎◌, ◌&&◌, nat_lt, if◌then◌else◌, slice_get, All, IfSome}
 use Rattle.std.specs.Option.{option_map}
 use Rattle.std.proofs.lemmas.Bool.Decides.{nat_tests}
-use Rattle.esm_base.specs.Urls.{Url, IsUsable, has}
+use Rattle.std.proofs.lemmas.List.Elements.{All-head, All-tail}
+use Rattle.esm_base.specs.Urls.{Url, IsUsable, has, same_url}
 use Rattle.esm_base.specs.declared.module_id.ModuleId.{ModuleId}
 use Rattle.esm_import_map.specs.ImportMap.{Maps}
 use Rattle.esm_realm.specs.ById.{entries_at, loaded_at, loaded_by, url_at, url_by}
 use Rattle.esm_realm.specs.Sound.{RecordParts, IsSound, AreLoaded, url_of}
+use Rattle.esm_realm.proofs.Urls.{or_cases, same_text}
 use Rattle.esm_env.specs.Modules.{entries}
 use Rattle.esm_loads.specs.Arrival.{open_asks}
 use Rattle.esm_loads.specs.Loading.{Loading, import_promise}
@@ -184,3 +186,12 @@ pub usable_asks : (c : Condition) (R : List RecordParts) (t : Loads) (maps : Map
 usable_asks conditions.Whole R t maps w k = asks_usable R t maps k.sound k.known
 usable_asks (conditions.Stopped limit) R t maps w k = cc
 usable_asks conditions.Lost R t maps w k = cc
+
+-- a usable URL among others
+pub usable_among : (us : List Url) (u : Url) → All IsUsable us → has us u ≡ true → IsUsable u
+usable_among [] u each h = cc
+usable_among (v ∷ us) u each h = by (or_cases (same_url u v) (has us u) h) (usable_among us u (All-tail IsUsable v us each))
+  where
+    by : (same_url u v ≡ true) ⊎ (has us u ≡ true) → (has us u ≡ true → IsUsable u) → IsUsable u
+    by (inl e) rest = subst IsUsable (sym (same_text u v e)) (All-head IsUsable v us each)
+    by (inr e) rest = rest e

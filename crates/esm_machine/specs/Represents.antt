@@ -30,6 +30,10 @@ pub record MachineState : Type 0 where
   pub held : Held
   pub stopped : Option TurnEnd
 
+-- the import map of a machine
+abbrev pub maps_of : MachineState → Maps
+maps_of m = m.held.seen.loading.maps
+
 -- no limit has stopped the world, and it is stood for
 pub record IsLive (h : Held) (w : World) : Type 0 where
   pub live : stopped w ≡ None
@@ -146,6 +150,11 @@ OpeningRepresents = (maps : Maps) (entry : Url) (trace : Bool) → Represents ma
 -- whatever standard run a machine represents, it tells what that run shows
 abbrev pub TellsTheRun : Type 0
 TellsTheRun = (m : MachineState) → ShownBy m (Tells m)
+
+-- the import map of a machine that hasn't stopped is that of the run that it represents
+abbrev pub KeepsItsMap : Type 0
+KeepsItsMap = (maps : Maps) (entry : Url) (trace : Bool) (m : MachineState) (deliveries : List Delivery)
+    → Represents maps entry trace m deliveries → m.stopped ≡ None → maps_of m ≡ maps
 
 -- where each world that the old machine shows allows the delivery and has a turn of it that the new one shows, the new one represents one
 -- delivery more

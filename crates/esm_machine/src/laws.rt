@@ -8,7 +8,7 @@ ghost use Rattle.esm_machine.specs.FitsById.{WorldsFitById};
 ghost use Rattle.esm_machine.specs.Steps.{StepsAreOfTheWorld};
 ghost use Rattle.esm_machine.specs.ModuleStore.{ImportsAreThere};
 ghost use Rattle.esm_machine.specs.Kept.{RecordsShow};
-ghost use Rattle.esm_machine.specs.Represents.{OpeningRepresents, TellsTheRun, TurnsAreTaken};
+ghost use Rattle.esm_machine.specs.Represents.{KeepsItsMap, OpeningRepresents, TellsTheRun, TurnsAreTaken};
 ghost use Rattle.esm_machine.specs.SeenScopes.{ScopesStay};
 ghost use Rattle.esm_machine.specs.Seen.{BeginsById, Fits, linked, modules};
 
@@ -72,6 +72,11 @@ pub fn opening_represents()
 /// Whatever standard run a machine represents, it tells what that run shows.
 pub fn tells_the_run()
     ensures { TellsTheRun }
+{}
+
+/// The import map of a machine that hasn't stopped is that of the run that it represents.
+pub fn keeps_its_map()
+    ensures { KeepsItsMap }
 {}
 
 /// A machine that has taken a turn of each world that it shows represents one delivery more.

@@ -3,10 +3,11 @@ ghost use Rattle.std.specs.Prelude.{◌≡◌, ◌<◌, ℕ, List, Bool, true, f
 ghost use Rattle.std.specs.Arc.{arc_value};
 ghost use Rattle.std.specs.Option.{option_map};
 ghost use Rattle.esm_base.specs.Lists.{EachOnce};
+ghost use Rattle.esm_base.specs.declared.end.End.TheVariants as ends;
 ghost use Rattle.esm_base.specs.Urls.{IsUsable, Url, has, same_url};
 ghost use Rattle.esm_ast.specs.Outcome.{outcome_view};
 ghost use Rattle.esm_promise.specs.Code.{Numbered};
-ghost use Rattle.esm_loads.specs.Arrival.{after_fetch, next, open_asks};
+ghost use Rattle.esm_loads.specs.Arrival.{after_fetch, AreResolved, next, open_asks};
 ghost use Rattle.esm_loads.specs.Hosted.{host_of};
 ghost use Rattle.esm_loads.specs.Loading as loading;
 ghost use Rattle.esm_loads.specs.LoadsView.{every_form, promise_id};
@@ -26,6 +27,7 @@ use esm_import_map::ImportMap;
 use esm_loads::{LoadEnd, Loads};
 use esm_promise::Promises;
 use esm_realm::Realm;
+use esm_specifier::Targets;
 use esm_values::{Errors, PromiseId};
 use std::alloc::Global;
 use std::sync::Arc;
@@ -61,6 +63,26 @@ impl ModuleStore {
         }
     }
 
+    /// What the requests of an outcome resolve to under the import map, where its URL is an open ask.
+    pub(crate) fn resolve(&self, url: &Text, outcome: &Outcome) -> Result<Targets, Memory>
+        requires whole { is_whole self.now.condition ≡ true }
+        requires open { has (open_asks (seen_of self.now).loading) url.now ≡ true }
+        ensures { IfOk result (AreResolved self.now.maps url.now (outcome_view outcome.now)) }
+    {
+        let _asks = self.asks();
+        self.loads.resolve(&self.import_map, url, outcome)
+    }
+
+    /// Memory ran out: nothing is known any more.
+    fn run_out(&mut self) -> LoadEnd
+        ensures end { result ≡ ends.Memory }
+        ensures condition { self.new.condition ≡ conditions.Lost }
+        ensures maps { self.new.maps ≡ self.old.maps }
+    {
+        self.condition = Condition::Lost;
+        LoadEnd::Memory
+    }
+
     /// A fetch has ended: its bytes are counted, and what it came to stands under the URL.
     ///
     /// HTML, fetch a single module script and create a JavaScript module script.
@@ -83,12 +105,45 @@ impl ModuleStore {
         ensures condition { self.new.condition ≡ condition_fetched result }
         ensures maps { self.new.maps ≡ self.old.maps }
     {
+        let Ok(targets) = self.resolve(url, outcome) else {
+            return Err(self.run_out());
+        };
+        self.arrive_resolved(errors, url, outcome, &targets)
+    }
+
+    /// As `arrive`, where the requests are resolved already: these targets are what they resolve to under the import map.
+    pub fn arrive_resolved(
+        &mut self,
+        errors: &mut Errors,
+        url: &Text,
+        outcome: &Outcome,
+        targets: &Targets,
+    ) -> Result<(), LoadEnd>
+        requires whole { is_whole self.old.condition ≡ true }
+        requires open { has (open_asks (seen_of self.old).loading) url.now ≡ true }
+        requires answered { next (seen_of self.old).loading ≡ None }
+        requires targets { AreResolved self.old.maps url.now (outcome_view outcome.now)
+            targets.now }
+        ensures fetches { (named : ℕ → Url) (promises : Numbered) → FetchesBy result
+            (after_fetch (host_of named promises errors.old (seen_of self.old).loading) url.now
+            (outcome_view outcome.now))
+            (host_of named promises errors.new (seen_of self.new).loading) }
+        ensures urls { OnOk result ((seen_of self.new).urls ≡ urls_with (seen_of self.old).urls
+            url.now (found self.old.maps every_form url.now (outcome_view outcome.now))) }
+        ensures linked { OnOk result ((seen_of self.new).linked ≡ (seen_of self.old).linked) }
+        ensures condition { self.new.condition ≡ condition_fetched result }
+        ensures maps { self.new.maps ≡ self.old.maps }
+    {
         esm_loads::laws::stays_orderly();
         esm_loads::laws::stays_whole();
-        match self
-            .loads
-            .arrive(&mut self.realm, errors, &self.import_map, url, outcome)
-        {
+        match self.loads.arrive_resolved(
+            &mut self.realm,
+            errors,
+            &self.import_map,
+            url,
+            outcome,
+            targets,
+        ) {
             Ok(()) => Ok(()),
             Err(end) => {
                 self.condition = Condition::Lost;

@@ -6,11 +6,12 @@ ghost use Rattle.esm_base.specs.declared.end.End.TheVariants as ends;
 ghost use Rattle.esm_base.specs.Limits.{limit_name};
 ghost use Rattle.esm_base.specs.Urls.{has, is_usable, IsUsable};
 ghost use Rattle.esm_values.specs.Code.{value_of};
+ghost use Rattle.esm_loads.specs.Arrival.{AreResolved};
 ghost use Rattle.esm_rewriting.specs.Keeps.{started as started_in};
 ghost use Rattle.esm_body.specs.Noted.{event_of};
 ghost use Rattle.esm_world.specs.LastLine.{exit_status};
 ghost use Rattle.esm_machine.specs.Held.{Failed, Held, opening_held};
-ghost use Rattle.esm_machine.specs.Represents.{IsEnded, IsLineBy, IsLineByStop, IsLineOf, MayTake, Represents, ShownBy, StoppedAs, TakesDelivery, TurnEnd as EndOf, asks_of, ending_by_stop, ending_of};
+ghost use Rattle.esm_machine.specs.Represents.{IsEnded, IsLineBy, IsLineByStop, IsLineOf, MayTake, Represents, ShownBy, StoppedAs, TakesDelivery, TurnEnd as EndOf, asks_of, ending_by_stop, ending_of, maps_of};
 ghost use Rattle.esm_machine.specs.Inner.Parts.{AreSound, KnowsBy};
 ghost use Rattle.esm_machine.specs.Machine.{held_of, state_of};
 
@@ -26,6 +27,7 @@ use esm_env::Envs;
 use esm_eval::{EvalHost, Nodes};
 use esm_import_map::ImportMap;
 use esm_promise::{Promises, Reaction, ReactionKind};
+use esm_specifier::Targets;
 use esm_values::{Errors, Value};
 use std::alloc::Global;
 use std::marker::Model;
@@ -254,9 +256,32 @@ impl Machine {
         ensures goes_on { OnOk result ((state_of self.new).stopped ≡ None) }
         ensures stops { IfErr result (λ end. (state_of self.new).stopped ≡ Some end) }
     {
+        match self.stopped() {
+            Some(end) => Err(end),
+            None => self.resolve_and_deliver(url, outcome),
+        }
+    }
+
+    /// As `deliver`, where the requests are resolved already: these targets are what they resolve to under the import map.
+    pub fn deliver_resolved(
+        &mut self,
+        url: &Text,
+        outcome: &Outcome,
+        targets: &Targets,
+    ) -> Result<(), TurnEnd>
+        requires may { MayTake (state_of self.old) url.now }
+        requires targets { (state_of self.old).stopped ≡ None → AreResolved
+            (maps_of (state_of self.old)) url.now (outcome_view outcome.now) targets.now }
+        ensures turn { (state_of self.old).stopped ≡ None
+            → TakesDelivery (state_of self.old) url.now (outcome_view outcome.now) result (state_of self.new) }
+        ensures again { (end : EndOf) → (state_of self.old).stopped ≡ Some end
+            → (result ≡ Err end) × (self.new ≡ self.old) }
+        ensures goes_on { OnOk result ((state_of self.new).stopped ≡ None) }
+        ensures stops { IfErr result (λ end. (state_of self.new).stopped ≡ Some end) }
+    {
         match self.stopped {
             Some(end) => Err(end),
-            None => match run_turn(&mut self.parts, url, outcome) {
+            None => match run_turn(&mut self.parts, url, outcome, targets) {
                 Ok(()) => Ok(()),
                 Err(end) => {
                     self.stopped = Some(end);
@@ -264,6 +289,40 @@ impl Machine {
                 }
             },
         }
+    }
+
+    /// What the requests of an outcome resolve to under the import map, where its URL is an open ask.
+    fn resolve(&self, url: &Text, outcome: &Outcome) -> Result<Targets, Memory>
+        requires live { (state_of self.now).stopped ≡ None }
+        requires may { MayTake (state_of self.now) url.now }
+        ensures { IfOk result
+            (AreResolved (maps_of (state_of self.now)) url.now (outcome_view outcome.now)) }
+    {
+        self.parts.host.bodies.imports.resolve(url, outcome)
+    }
+
+    /// Memory ran out.
+    fn run_out(&mut self) -> TurnEnd
+        ensures end { result ≡ ends.Memory }
+        ensures stopped { (state_of self.new).stopped ≡ Some ends.Memory }
+    {
+        self.stopped = Some(TurnEnd::Memory);
+        TurnEnd::Memory
+    }
+
+    /// A turn of a machine that hasn't stopped.
+    fn resolve_and_deliver(&mut self, url: &Text, outcome: &Outcome) -> Result<(), TurnEnd>
+        requires live { (state_of self.old).stopped ≡ None }
+        requires may { MayTake (state_of self.old) url.now }
+        ensures turn { TakesDelivery (state_of self.old) url.now (outcome_view outcome.now)
+            result (state_of self.new) }
+        ensures goes_on { OnOk result ((state_of self.new).stopped ≡ None) }
+        ensures stops { IfErr result (λ end. (state_of self.new).stopped ≡ Some end) }
+    {
+        let Ok(targets) = self.resolve(url, outcome) else {
+            return Err(self.run_out());
+        };
+        self.deliver_resolved(url, outcome, &targets)
     }
 
     /// How the machine has stopped, if it has. It doesn't allocate.

@@ -2,7 +2,7 @@
 ghost use Rattle.std.specs.Prelude.{◌≡◌, ◌<◌, true, false, None, Ok, OnOk};
 ghost use Rattle.esm_ast.specs.Outcome.{outcome_view};
 ghost use Rattle.esm_base.specs.Urls.{has};
-ghost use Rattle.esm_loads.specs.Arrival.{next, open_asks, pending_left};
+ghost use Rattle.esm_loads.specs.Arrival.{AreResolved, next, open_asks, pending_left};
 ghost use Rattle.esm_world.specs.World.{World};
 ghost use Rattle.esm_world.specs.Run.{HasModuleTree};
 ghost use Rattle.esm_world.specs.Turn.{Tasks, Turn, fetched};
@@ -16,6 +16,7 @@ use crate::parts::Parts;
 use esm_ast::Outcome;
 use esm_base::{Memory, Text};
 use esm_loads::laws::fewer_left;
+use esm_specifier::Targets;
 use esm_world::fits::worlds_stay_sound;
 
 /// The tree of a script is a module's.
@@ -43,13 +44,20 @@ fn add_node(parts: &mut Parts, had: usize) -> Result<(), Memory>
     Ok(())
 }
 
-/// The bytes of an outcome are counted, and it stands in the table.
+/// The bytes of an outcome are counted, and it stands in the table. The targets are what its requests resolve to.
 ///
 /// HTML, fetch a single module script and create a JavaScript module script.
-fn arrive(parts: &mut Parts, url: &Text, outcome: &Outcome) -> Result<(), TurnEnd>
+fn arrive(
+    parts: &mut Parts,
+    url: &Text,
+    outcome: &Outcome,
+    targets: &Targets,
+) -> Result<(), TurnEnd>
     requires sound { AreSound parts.old }
     requires open { has (open_asks (seen_in parts.old).loading) url.now ≡ true }
     requires answered { next (seen_in parts.old).loading ≡ None }
+    requires targets { AreResolved (seen_in parts.old).loading.maps url.now
+        (outcome_view outcome.now) targets.now }
     requires tree { HasModuleTree (outcome_view outcome.now) }
     ensures fetched { LeadsFrom parts.old
         (IsFetched url.now (outcome_view outcome.now)) result parts.new }
@@ -62,7 +70,10 @@ fn arrive(parts: &mut Parts, url: &Text, outcome: &Outcome) -> Result<(), TurnEn
     parts.host.bodies.imports.known();
     let had = parts.host.bodies.imports.count();
     let bodies = &mut parts.host.bodies;
-    match bodies.imports.arrive(&mut bodies.errors, url, outcome) {
+    match bodies
+        .imports
+        .arrive_resolved(&mut bodies.errors, url, outcome, targets)
+    {
         Ok(()) => match add_node(parts, had) {
             Ok(()) => Ok(()),
             Err(Memory) => Err(TurnEnd::Memory),
@@ -123,13 +134,21 @@ fn run_tasks(parts: &mut Parts) -> Result<(), TurnEnd>
     }
 }
 
-/// The fetch of an open ask has ended so, and all that follows from it is done.
+/// The fetch of an open ask has ended so, and all that follows from it is done. The targets are what its requests resolve
+/// to.
 ///
 /// ECMA-262, FinishLoadingImportedModule, for all pending requests of the URL, with all jobs behind each.
-pub(crate) fn run_turn(parts: &mut Parts, url: &Text, outcome: &Outcome) -> Result<(), TurnEnd>
+pub(crate) fn run_turn(
+    parts: &mut Parts,
+    url: &Text,
+    outcome: &Outcome,
+    targets: &Targets,
+) -> Result<(), TurnEnd>
     requires sound { AreSound parts.old }
     requires open { has (open_asks (seen_in parts.old).loading) url.now ≡ true }
     requires answered { next (seen_in parts.old).loading ≡ None }
+    requires targets { AreResolved (seen_in parts.old).loading.maps url.now
+        (outcome_view outcome.now) targets.now }
     ensures turn { LeadsFrom parts.old
         (λ w. Turn w url.now (outcome_view outcome.now)) result parts.new }
     ensures sound { OnOk result (AreSound parts.new) }
@@ -137,7 +156,7 @@ pub(crate) fn run_turn(parts: &mut Parts, url: &Text, outcome: &Outcome) -> Resu
     ensures tree { HasModuleTree (outcome_view outcome.now) }
 {
     has_module_tree(outcome);
-    match arrive(parts, url, outcome) {
+    match arrive(parts, url, outcome, targets) {
         Ok(()) => run_tasks(parts),
         Err(end) => Err(end),
     }

@@ -12,12 +12,13 @@ use Rattle.esm_ast.specs.Outcome as outcomes
 use Rattle.esm_ast.specs.Outcome.{OutcomeView}
 use Rattle.esm_realm.specs.Records.{ModuleRecord}
 use Rattle.esm_realm.proofs.Urls.{cases, same_text, own_text, or_cases, or_left, or_true}
-use Rattle.esm_specifier.specs.Resolution.{resolution_of_specifier}
-use Rattle.esm_specifier.specs.declared.fault.SpecFault.{SpecFault}
+use Rattle.esm_specifier.specs.Targets as requested
+use Rattle.esm_specifier.specs.Targets.{Refusal}
+use Rattle.esm_specifier.proofs.Requests.{targets_are_usable}
 use Rattle.esm_values.specs.declared.errors.Fault.{Fault}
 use Rattle.esm_resolve.specs.SharedSet.{SharedSetAgrees, SharedSetEnds}
 use Rattle.esm_env.specs.Modules.{Modules, entries}
-use Rattle.esm_loads.specs.UrlTable.{TableEntry, Failed, Broken, Module, Found, Nothing, Faulty, Script, found, built_by, script_by, targets_of, targets_by, targets_in, body_in, put_at}
+use Rattle.esm_loads.specs.UrlTable.{TableEntry, Failed, Broken, Module, Found, Nothing, Faulty, Script, found, built_by, script_by, targets_of, told_targets, targets_in, body_in, put_at}
 use Rattle.esm_loads.specs.Loading.{Loading, is_fetching, targets}
 use Rattle.esm_loads.specs.Host.{Host, with_loading}
 use Rattle.esm_loads.specs.Arrival.{store_by, put_found, count_by, with_entry, bytes_of}
@@ -49,13 +50,11 @@ LengthIs n (Err f) = Unit {0}
 
 targets_length : (maps : Maps) (referrer : Url) (specifiers : List Text) → LengthIs (length specifiers) (targets_of maps referrer specifiers)
 unfolding LengthIs
-targets_length maps referrer [] = refl
-targets_length maps referrer (specifier ∷ specifiers) = by (resolution_of_specifier maps referrer specifier) (targets_of maps referrer specifiers) (targets_length maps referrer specifiers)
+targets_length maps referrer specifiers = by (requested.targets_of maps referrer specifiers) refl
   where
-    by : (r : Result Url SpecFault) (ts : Result (List Url) Fault) → LengthIs (length specifiers) ts → LengthIs (suc (length specifiers)) (targets_by referrer specifier r ts)
-    by (Ok url) (Ok urls) h = ap suc h
-    by (Ok url) (Err f) h = tt
-    by (Err f) ts h = tt
+    by : (r : Result (List Url) Refusal) → requested.targets_of maps referrer specifiers ≡ r → LengthIs (length specifiers) (told_targets referrer specifiers r)
+    by (Ok urls) e = (targets_are_usable maps referrer specifiers urls e).as_many
+    by (Err refusal) e = tt
 
 -- a module that an outcome brings
 Brings : Found → Type 0

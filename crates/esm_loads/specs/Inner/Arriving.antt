@@ -1,14 +1,14 @@
 -- The entry that a fetch that ends makes for its URL.
-use Rattle.std.specs.Prelude.{◌≡◌, ℕ, List, [], ◌∷◌, ◌++◌, ◌+◌, length, Ok, Err, All, true, false, slice_get, slice_set, Some}
+use Rattle.std.specs.Prelude.{◌≡◌, ℕ, List, [], ◌∷◌, ◌++◌, length, true, false, slice_get, slice_set, Some}
 use Rattle.esm_tree.specs.Syntax.{Item}
 use Rattle.esm_ast.specs.Entries.{entries_of}
 use Rattle.esm_ast.specs.Outcome.{OutcomeView}
 use Rattle.esm_import_map.specs.ImportMap.{Maps}
-use Rattle.esm_base.specs.Urls.{Text, Url, IsUsable}
+use Rattle.esm_base.specs.Urls.{Text, Url}
 use Rattle.esm_realm.specs.Sound.{RecordParts, new_record}
 use Rattle.esm_values.specs.Errors.{Errors, make_error, next_error}
 use Rattle.esm_values.specs.declared.errors.Fault.{Fault}
-use Rattle.esm_loads.specs.UrlTable.{Nothing, Faulty, Script, found, targets_of, specifier_error}
+use Rattle.esm_loads.specs.UrlTable.{Nothing, Faulty, Script, found, specifier_error}
 use Rattle.esm_specifier.specs.declared.fault.SpecFault.{SpecFault}
 use Rattle.esm_loads.specs.LoadsView.{every_form, is_open}
 use Rattle.esm_loads.specs.declared.data.Slot.{Slot}
@@ -16,19 +16,6 @@ use Rattle.esm_loads.specs.declared.data.UrlState.{UrlState}
 use Rattle.esm_loads.specs.declared.data.UrlState.TheVariants as states
 use Rattle.esm_loads.specs.declared.data.Waiting.{Waiting}
 use Rattle.esm_loads.specs.declared.loads.Loads.{Loads}
-
--- what the requests that are left resolve to gives what all of them resolve to
-pub record LeadsOn (maps : Maps) (referrer : Url) (all rest : List Text) (urls : List Url) : Type 0 where
-  pub resolved : (more : List Url) → targets_of maps referrer rest ≡ Ok more
-      → targets_of maps referrer all ≡ Ok (urls ++ more)
-  pub thrown : (f : Fault) → targets_of maps referrer rest ≡ Err f → targets_of maps referrer all ≡ Err f
-  pub usable : All IsUsable urls
-  pub as_many : length urls + length rest ≡ length all
-
--- these are the URLs of these requests, each usable
-abbrev pub AreTargets : Maps → Url → List Text → List Url → Type 0
-AreTargets maps referrer requests urls =
-    (targets_of maps referrer requests ≡ Ok urls) × All IsUsable urls × (length urls ≡ length requests)
 
 -- trees, records and errors
 pub record Stores : Type 0 where
