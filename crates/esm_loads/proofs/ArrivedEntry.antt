@@ -4,7 +4,7 @@ use Rattle.std.specs.Prelude.{◌⊎◌, Ok, Err, IfOk, Result, slice_index_or}
 use Rattle.std.proofs.lemmas.List.{append_assoc, get_or_default}
 use Rattle.esm_tree.specs.Syntax.{Item}
 use Rattle.esm_ast.specs.Entries.{EntryLists, NamesRequests, entries_of, entries_with, requests_of}
-use Rattle.esm_ast.specs.Script.{SpelledText}
+use Rattle.esm_ast.specs.Script.{BrokenParts, SpelledText}
 use Rattle.esm_ast.specs.Outcome as outcomes
 use Rattle.esm_base.specs.declared.memory.Memory.{Memory}
 use Rattle.esm_base.specs.Urls.{Text, Url, IsUsable, has, same_url}
@@ -49,9 +49,15 @@ resolved_script maps url o text requests (Ok targets) is are h = λ other e.
     subst (λ rs. AreTargets maps url rs targets) (are ∙ ap (λ (t : SpelledText). requests_of t.items) same) h
 resolved_script maps url o text requests (Err want) is are h = tt
 
--- of anything else nothing is said
-pub resolved_none : (maps : Maps) (url : Url) (o other : OutcomeView) (targets : Targets) → o ≡ other → ((text : SpelledText) → other ≡ outcomes.Script text → ⊥) → AreResolved maps url o targets
-resolved_none maps url o other targets is none = λ text e. absurd (none text (sym is ∙ e))
+-- anything else is no module text
+pub broken_no_script : (broken : BrokenParts) (text : SpelledText) → outcomes.Broken broken ≡ outcomes.Script text → ⊥
+broken_no_script broken text e = cc
+
+pub absent_no_script : (text : SpelledText) → outcomes.Absent ≡ outcomes.Script text → ⊥
+absent_no_script text e = cc
+
+pub failed_no_script : (text : SpelledText) → outcomes.Failed ≡ outcomes.Script text → ⊥
+failed_no_script text e = cc
 
 -- the specifier of a request that is refused
 pub specifier_at : (requests : List Text) (place : ℕ) (specifier : Text) → place < length requests → specifier ≡ get_or requests place specifier → slice_index_or requests place [] ≡ specifier

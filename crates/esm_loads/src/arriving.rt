@@ -1,5 +1,5 @@
 // A fetch ends. HTML, "create a JavaScript module script".
-ghost use Rattle.std.specs.Prelude.{◌≡◌, ◌≤◌, ◌<◌, ◌+◌, ℕ, length, map, false, true, Some, None, Ok, Err, IfOk, OnOk, MatchResult, slice_get};
+ghost use Rattle.std.specs.Prelude.{◌≡◌, ◌≤◌, ◌<◌, ◌+◌, ℕ, [], length, map, false, true, Some, None, Ok, Err, IfOk, OnOk, MatchResult, slice_get, slice_index_or};
 ghost use Rattle.esm_base.specs.declared.limits.Limit.{Limit};
 ghost use Rattle.esm_base.specs.declared.limits.TheConstants.{MAX_DELIVERED_BYTES, MAX_URLS};
 ghost use Rattle.esm_base.specs.declared.end.End.TheVariants.{Fault};
@@ -94,6 +94,14 @@ fn copies_of(alloc: Global, texts: &[Text]) -> Result<Vec<Text>, Memory>
     Ok(copies)
 }
 
+// The specifier of a request.
+fn specifier_at(requests: &[Text], place: usize) -> &Text
+    requires { place < length requests.now }
+    ensures { result.now ≡ slice_index_or requests.now place [] }
+{
+    &requests[place]
+}
+
 // The URLs that were found, once more, or the message of the error of the request that is refused.
 fn told(
     alloc: Global,
@@ -101,7 +109,7 @@ fn told(
     requests: &[Text],
     targets: &Targets,
 ) -> Result<Result<Vec<Text>, Text>, Memory>
-    requires place { (refusal : Refusal) → targets_view targets.now ≡ Err refusal
+    requires { (refusal : Refusal) → targets_view targets.now ≡ Err refusal
         → refusal.place < length requests.now }
     ensures { IfOk result (λ told. MatchResult told
         (λ urls. targets_view targets.now ≡ Ok urls.items)
@@ -111,7 +119,7 @@ fn told(
     match targets {
         Targets::Found(urls) => Ok(Ok(copies_of(alloc, urls.as_slice())?)),
         Targets::Refused(place, fault) => {
-            let specifier = &requests[*place];
+            let specifier = specifier_at(requests, *place);
             Ok(Err(unresolved(alloc, url.as_str(), specifier.as_str(), *fault)?))
         }
     }

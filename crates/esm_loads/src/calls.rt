@@ -173,12 +173,7 @@ impl Loads {
     }
 
     /// What the requests of an outcome at this URL, which may name a module, resolve to under this map.
-    pub fn resolve(
-        &self,
-        map: &ImportMap,
-        url: &Text,
-        outcome: &Outcome,
-    ) -> Result<Targets, Memory>
+    pub fn resolve(&self, map: &ImportMap, url: &Text, outcome: &Outcome) -> Result<Targets, Memory>
         requires { IsUsable url.now }
         ensures { IfOk result (AreResolved map.now url.now (outcome_view outcome.now)) }
     {

@@ -1,8 +1,14 @@
 use Rattle.std.proofs.Common.{ap, sym, refl, ◌∙◌}
+use Rattle.esm_ast.specs.Outcome.{outcome_view, Script}
+use Rattle.esm_ast.specs.Script.{spelled_text}
 use Rattle.esm_loads.specs.UrlTable.{Faulty, parse_error}
 use Rattle.esm_loads.specs.Inner.Arriving.Filled.{AsFailed}
 use Rattle.esm_loads.proofs.ArrivedEntry.{broken}
 use Rattle.esm_loads.proofs.arriving.fill.Goals as goal
+
+pub fill_script-requires-clause-targets : goal.fill_script-requires-clause-targets
+fill_script-requires-clause-targets c =
+    c.requires.targets (spelled_text c.deref.result.now) (ap outcome_view c.in-Script.is ∙ ap (λ s. Script (spelled_text s)) (sym c.deref.ensures))
 
 pub returns-in_ok-error-in-Broken-clause-filled : goal.returns-in_ok-error-in-Broken-clause-filled
 returns-in_ok-error-in-Broken-clause-filled c =

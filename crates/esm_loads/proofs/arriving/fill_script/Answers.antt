@@ -18,13 +18,12 @@ use Rattle.esm_loads.specs.Inner.Arriving.Filled.{AsModule}
 use Rattle.esm_loads.proofs.ArrivedEntry.{broken, sound_record, found_script, requests_are}
 use Rattle.esm_loads.proofs.arriving.fill_script.Goals as goal
 
-pub told-found-requires : goal.told-found-requires
-told-found-requires c =
+pub told-requires : goal.told-requires
+told-requires c =
     let are = c.requests.ensures ∙ requests_are _ _ (c.entries.ensures.entries ∙ c.entries.ensures.of_tree) in
-    record {
-      place = λ refusal e.
-          subst (λ (rs : List Text). refusal.place < length rs) (sym are) (c.refusals_are_requests.ensures c.args.import_map.now c.args.url.now (requests_of (spelled_text c.args.script.now).items) refusal (sym c.requires.targets ∙ e));
-    }
+    λ refusal e.
+    subst (λ (rs : List Text). refusal.place < length rs) (sym are)
+    (c.refusals_are_requests.ensures c.args.import_map.now c.args.url.now (requests_of (spelled_text c.args.script.now).items) refusal (sym c.requires.targets ∙ e))
 
 pub add-requires-clause-record : goal.add-requires-clause-record
 add-requires-clause-record c =
