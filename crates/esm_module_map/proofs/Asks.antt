@@ -2,10 +2,10 @@
 use Rattle.std.proofs.Common.{◌≡◌, ℕ, zero, suc, ◌+◌, ◌<◌, ◌≤◌, ◌&&◌, ◌||◌, Bool, true, false, cond, nat_lt, min, List, [], ◌∷◌, ◌++◌, length, sym, refl, ap, ◌∙◌, subst, arith, Option, Some, None, is_some, slice_get, slice_index_or, not, bytes_eq, position, ◌⊎◌, inl, inr, if◌then◌else◌, ◌==◌}
 use Rattle.std.proofs.lemmas.Option.{slice_get_within}
 use Rattle.std.specs.List.{position_or_len, list_any}
-use Rattle.indexmap.specs.IndexSet.{insert_key}
 use Rattle.std.specs.Arc.{arc_value}
 use Rattle.std.specs.declared.sync.Arc.{Arc}
 use Rattle.std.specs.declared.alloc.Global.{Global}
+use Rattle.esm_text_table.specs.TextTable.{with_text}
 use Rattle.esm_base.specs.Urls.{Url, is_usable}
 use Rattle.esm_module_map.specs.declared.event.Why.{Why}
 use Rattle.esm_module_map.specs.declared.event.Why.TheVariants.{Wanted, Ahead}
@@ -78,7 +78,7 @@ get_within (x ∷ xs) (suc n) d less = get_within xs n d (omega arith)
 -- ---- an ask
 
 -- a URL that has no number is put behind the others
-pub insert_fresh : (urls : List Url) (u : Url) → position_or_len (bytes_eq u) urls ≡ length urls → insert_key bytes_eq urls u ≡ urls ++ u ∷ []
+pub insert_fresh : (urls : List Url) (u : Url) → position_or_len (bytes_eq u) urls ≡ length urls → with_text urls u ≡ urls ++ u ∷ []
 insert_fresh urls u fresh = ap (λ b. if b then urls else urls ++ u ∷ []) (any_within (bytes_eq u) urls ∙ lt_none (position_or_len (bytes_eq u) urls) (length urls) (omega arith))
 
 module _ {P G : Type 0} (weight : P → ℕ) where

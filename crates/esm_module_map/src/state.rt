@@ -24,7 +24,7 @@ use crate::number::{
 use crate::reply::{Asked, Heard, MapEnd, Order, Taken};
 use esm_base::{MAX_DELIVERED_BYTES, MAX_URLS, Memory, Text};
 use esm_hlock::Story;
-use indexmap::IndexSet;
+use esm_text_table::TextTable;
 use std::alloc::Global;
 use std::sync::Arc;
 
@@ -47,7 +47,7 @@ pub(crate) struct Wish {
 pub struct MapState<P: Payload> {
     events: Vec<MapEvent<P>>,
     callers: u64,
-    urls: IndexSet<Text>,
+    urls: TextTable,
     numbers: Vec<Number>,
     posts: Vec<u32>,
     wanted: usize,
@@ -59,9 +59,9 @@ pub struct MapState<P: Payload> {
     ghost legal: { is_legal P.weight events.items ≡ true },
     ghost led: { is_led P.leads events.items ≡ true },
     ghost fit: { are_fit P.weight P.fits events.items ≡ true },
-    ghost replayed: { record { events = vec_len events; callers = callers; urls = urls.keys; numbers = numbers.items; posts = posts.items; wanted = wanted; ahead = ahead; weight = weight; shut = shut } ≡ replay P.weight events.items } by { Coded-set (Prim.hlevel codes) (record { events = vec_len events; callers = callers; urls = urls.keys; numbers = numbers.items; posts = posts.items; wanted = wanted; ahead = ahead; weight = weight; shut = shut }) (replay P.weight events.items) },
+    ghost replayed: { record { events = vec_len events; callers = callers; urls = urls; numbers = numbers.items; posts = posts.items; wanted = wanted; ahead = ahead; weight = weight; shut = shut } ≡ replay P.weight events.items } by { Coded-set (Prim.hlevel codes) (record { events = vec_len events; callers = callers; urls = urls; numbers = numbers.items; posts = posts.items; wanted = wanted; ahead = ahead; weight = weight; shut = shut }) (replay P.weight events.items) },
     ghost begun: { 0 < vec_len events },
-    ghost aligned: { vec_len numbers ≡ length urls.keys },
+    ghost aligned: { vec_len numbers ≡ length urls },
     ghost made: { vec_len numbers ≡ wanted + ahead },
     ghost few_wanted: { wanted ≤ MAX_URLS },
     ghost few_ahead: { ahead ≤ MAX_URLS },
@@ -89,7 +89,7 @@ impl<P: Payload> Story for MapState<P> {
     ghost legal = { λ es. (is_legal P.weight es ≡ true) × (is_led P.leads es ≡ true)
         × (are_fit P.weight P.fits es ≡ true) };
 
-    ghost replays = { λ es s. record { events = vec_len s.events; callers = s.callers; urls = s.urls.keys; numbers = s.numbers.items; posts = s.posts.items; wanted = s.wanted; ahead = s.ahead; weight = s.weight; shut = s.shut } ≡ replay P.weight es };
+    ghost replays = { λ es s. record { events = vec_len s.events; callers = s.callers; urls = s.urls; numbers = s.numbers.items; posts = s.posts.items; wanted = s.wanted; ahead = s.ahead; weight = s.weight; shut = s.shut } ≡ replay P.weight es };
 
     fn entries(&self) -> &[MapEvent<P>] {
         self.events.as_slice()
@@ -107,7 +107,7 @@ impl<P: Payload> MapState<P> {
     {
         let mut events = Vec::with_capacity(alloc, EVENTS)?;
         events.push_reserved(MapEvent::Begin(guide));
-        let urls = IndexSet::with_capacity(alloc, MAX_URLS)?;
+        let urls = TextTable::with_capacity(alloc, MAX_URLS)?;
         let numbers = Vec::with_capacity(alloc, MAX_URLS)?;
         let posts = Vec::with_capacity(alloc, MAX_URLS)?;
         Ok(MapState {
@@ -166,7 +166,7 @@ impl<P: Payload> MapState<P> {
         requires usable { is_usable url ≡ true }
         requires ahead { may_be_ahead (replay P.weight self.old.events.items) why ≡ true }
         requires leads { leads_to P.leads self.old.events.items why url ≡ true }
-        requires known { place ≡ position_or_len (bytes_eq url) self.old.urls.keys }
+        requires known { place ≡ position_or_len (bytes_eq url) self.old.urls }
         requires within { place < vec_len self.old.numbers }
         ensures reply { AskReply P.weight self.old.events.items caller url why result
             self.new.events.items }
@@ -196,8 +196,8 @@ impl<P: Payload> MapState<P> {
         requires key { key ≡ url }
         requires ahead { may_be_ahead (replay P.weight self.old.events.items) why ≡ true }
         requires leads { leads_to P.leads self.old.events.items why url ≡ true }
-        requires fresh { position_or_len (bytes_eq key) self.old.urls.keys
-            ≡ length self.old.urls.keys }
+        requires fresh { position_or_len (bytes_eq key) self.old.urls
+            ≡ length self.old.urls }
         ensures reply { AskReply P.weight self.old.events.items caller url why result
             self.new.events.items }
         ensures callers { self.new.callers ≡ self.old.callers }
@@ -250,7 +250,7 @@ impl<P: Payload> MapState<P> {
         if self.shut {
             return Err(MapEnd::Closed);
         }
-        match self.urls.get_index_of(&key) {
+        match self.urls.find(&key) {
             Some(place) => self.ask_known(caller, place, url, why),
             None => self.ask_new(caller, url, key, why),
         }
@@ -318,7 +318,7 @@ impl<P: Payload> MapState<P> {
             (self.new.events.items) }
         ensures callers { self.new.callers ≡ self.old.callers }
     {
-        let Some(url) = self.urls.get_index(place) else {
+        let Some(url) = self.urls.get(place) else {
             unreachable!()
         };
         let mut room = room;
@@ -507,10 +507,10 @@ fn posted_by<P: Payload>(event: &MapEvent<P>, number: u32) -> Result<Option<Arc<
 }
 
 // A URL that has no number gets the next.
-fn add_key(urls: &mut IndexSet<Text>, key: Text) -> Result<(), Memory>
-    requires { position_or_len (bytes_eq key) urls.old.keys ≡ length urls.old.keys }
-    ensures { MatchResult result (λ _. urls.new.keys ≡ urls.old.keys ++ key ∷ [])
-        (λ _. urls.new.keys ≡ urls.old.keys) }
+fn add_key(urls: &mut TextTable, key: Text) -> Result<(), Memory>
+    requires { position_or_len (bytes_eq key) urls.old ≡ length urls.old }
+    ensures { MatchResult result (λ _. urls.new ≡ urls.old ++ key ∷ [])
+        (λ _. urls.new ≡ urls.old) }
 {
     let Ok(_added) = urls.insert(key) else {
         return Err(Memory);

@@ -14,13 +14,13 @@ use Rattle.esm_module_map.specs.declared.event.MapEvent.TheVariants.{Ask}
 
 pub invariant_of-self-2-clause-legal : goal.invariant_of-self-2-clause-legal
 invariant_of-self-2-clause-legal g c = let it = c.args.self.now in
-    (asks.ask_new g.P.Payload.weight _ it.events.items c.reserve.new.self.items c.push_reserved-2.new.self.items c.args.caller c.len-number.result (vec_len c.push_reserved-2.new.self) c.count_number.new.wanted c.count_number.new.ahead c.args.url c.args.url c.args.why c.push_reserved.new.self.items c.add_key.new.urls.keys it.replayed it.legal c.reserve.ensures.items c.push_reserved-2.ensures.items
-    refl c.requires.is_in c.requires.live c.requires.usable (subst (λ (k : List ℕ). position_or_len (bytes_eq k) it.urls.keys ≡ length it.urls.keys) c.requires.key c.requires.fresh) (let a = it.aligned in let b = c.reserve-2.ensures.len in let d = c.len-number.ensures in omega arith) (sym c.has_room.ensures ∙ c.if-not-has_room.false) (subst (λ r. may_be_ahead r c.args.why ≡ true) (sym it.replayed) c.requires.ahead) (c.push_reserved-2.ensures.len ∙ ap (λ k. k + 1) c.reserve.ensures.len) (c.in-Ok.ensures ∙ ap (λ u. it.urls.keys ++ u ∷ []) c.requires.key) (c.push_reserved.ensures.items ∙ ap (λ l. l ++ c.fresh.result ∷ []) c.reserve-2.ensures.items ∙ ap (λ x. it.numbers.items ++ x ∷ []) c.fresh.ensures) c.count_number.ensures.wanted c.count_number.ensures.ahead).0
+    (asks.ask_new g.P.Payload.weight _ it.events.items c.reserve.new.self.items c.push_reserved-2.new.self.items c.args.caller c.len-number.result (vec_len c.push_reserved-2.new.self) c.count_number.new.wanted c.count_number.new.ahead c.args.url c.args.url c.args.why c.push_reserved.new.self.items c.add_key.new.urls it.replayed it.legal c.reserve.ensures.items c.push_reserved-2.ensures.items
+    refl c.requires.is_in c.requires.live c.requires.usable (subst (λ (k : List ℕ). position_or_len (bytes_eq k) it.urls ≡ length it.urls) c.requires.key c.requires.fresh) (let a = it.aligned in let b = c.reserve-2.ensures.len in let d = c.len-number.ensures in omega arith) (sym c.has_room.ensures ∙ c.if-not-has_room.false) (subst (λ r. may_be_ahead r c.args.why ≡ true) (sym it.replayed) c.requires.ahead) (c.push_reserved-2.ensures.len ∙ ap (λ k. k + 1) c.reserve.ensures.len) (c.in-Ok.ensures ∙ ap (λ u. it.urls ++ u ∷ []) c.requires.key) (c.push_reserved.ensures.items ∙ ap (λ l. l ++ c.fresh.result ∷ []) c.reserve-2.ensures.items ∙ ap (λ x. it.numbers.items ++ x ∷ []) c.fresh.ensures) c.count_number.ensures.wanted c.count_number.ensures.ahead).0
 
 pub invariant_of-self-2-clause-replayed : goal.invariant_of-self-2-clause-replayed
 invariant_of-self-2-clause-replayed g c = let it = c.args.self.now in
-    (asks.ask_new g.P.Payload.weight _ it.events.items c.reserve.new.self.items c.push_reserved-2.new.self.items c.args.caller c.len-number.result (vec_len c.push_reserved-2.new.self) c.count_number.new.wanted c.count_number.new.ahead c.args.url c.args.url c.args.why c.push_reserved.new.self.items c.add_key.new.urls.keys it.replayed it.legal c.reserve.ensures.items c.push_reserved-2.ensures.items
-    refl c.requires.is_in c.requires.live c.requires.usable (subst (λ (k : List ℕ). position_or_len (bytes_eq k) it.urls.keys ≡ length it.urls.keys) c.requires.key c.requires.fresh) (let a = it.aligned in let b = c.reserve-2.ensures.len in let d = c.len-number.ensures in omega arith) (sym c.has_room.ensures ∙ c.if-not-has_room.false) (subst (λ r. may_be_ahead r c.args.why ≡ true) (sym it.replayed) c.requires.ahead) (c.push_reserved-2.ensures.len ∙ ap (λ k. k + 1) c.reserve.ensures.len) (c.in-Ok.ensures ∙ ap (λ u. it.urls.keys ++ u ∷ []) c.requires.key) (c.push_reserved.ensures.items ∙ ap (λ l. l ++ c.fresh.result ∷ []) c.reserve-2.ensures.items ∙ ap (λ x. it.numbers.items ++ x ∷ []) c.fresh.ensures) c.count_number.ensures.wanted c.count_number.ensures.ahead).1
+    (asks.ask_new g.P.Payload.weight _ it.events.items c.reserve.new.self.items c.push_reserved-2.new.self.items c.args.caller c.len-number.result (vec_len c.push_reserved-2.new.self) c.count_number.new.wanted c.count_number.new.ahead c.args.url c.args.url c.args.why c.push_reserved.new.self.items c.add_key.new.urls it.replayed it.legal c.reserve.ensures.items c.push_reserved-2.ensures.items
+    refl c.requires.is_in c.requires.live c.requires.usable (subst (λ (k : List ℕ). position_or_len (bytes_eq k) it.urls ≡ length it.urls) c.requires.key c.requires.fresh) (let a = it.aligned in let b = c.reserve-2.ensures.len in let d = c.len-number.ensures in omega arith) (sym c.has_room.ensures ∙ c.if-not-has_room.false) (subst (λ r. may_be_ahead r c.args.why ≡ true) (sym it.replayed) c.requires.ahead) (c.push_reserved-2.ensures.len ∙ ap (λ k. k + 1) c.reserve.ensures.len) (c.in-Ok.ensures ∙ ap (λ u. it.urls ++ u ∷ []) c.requires.key) (c.push_reserved.ensures.items ∙ ap (λ l. l ++ c.fresh.result ∷ []) c.reserve-2.ensures.items ∙ ap (λ x. it.numbers.items ++ x ∷ []) c.fresh.ensures) c.count_number.ensures.wanted c.count_number.ensures.ahead).1
 
 pub invariant_of-self-2-clause-outs : goal.invariant_of-self-2-clause-outs
 invariant_of-self-2-clause-outs g c = let it = c.args.self.now in let e = ap outs_of (c.push_reserved.ensures.items ∙ ap (λ l. l ++ c.fresh.result ∷ []) c.reserve-2.ensures.items ∙ ap (λ x. it.numbers.items ++ x ∷ []) c.fresh.ensures) in
