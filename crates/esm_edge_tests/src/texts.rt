@@ -1,5 +1,6 @@
-// Texts with ample memory, and the order of texts by code units: outside values.
+// Texts with ample memory, a table of them, and the order of texts by code units: outside values.
 use esm_base::{Memory, Text, code_unit_cmp};
+use esm_text_table::TextTable;
 use std::alloc::Global;
 use std::cmp::Ordering;
 
@@ -14,6 +15,37 @@ fn are_copied(alloc: Global) -> Result<bool, Memory> {
             && twin.is("é")
             && shown.as_str() == "<é>",
     )
+}
+
+// The table of the lines of a text.
+fn table_of(alloc: Global, lines: &str) -> Result<TextTable, Memory> {
+    let mut table = TextTable::with_capacity(alloc, 1)?;
+    for line in lines.lines() {
+        table.insert(Text::copy(alloc, line)?)?;
+    }
+    Ok(table)
+}
+
+// The place of a line in the table of a text.
+fn place_in(alloc: Global, lines: &str, line: &str) -> Result<Option<usize>, Memory> {
+    let table = table_of(alloc, lines)?;
+    let line = Text::copy(alloc, line)?;
+    Ok(table.find(&line))
+}
+
+// Whether a table keeps texts in the order in which they came, each once.
+fn are_listed(alloc: Global) -> Result<bool, Memory> {
+    let table = table_of(alloc, "b\na\nb\nc\na")?;
+    let count = table.len();
+    let second = match table.get(1) {
+        Some(text) => text.is("a"),
+        None => false,
+    };
+    let last = match table.into_texts().last() {
+        Some(text) => text.is("c"),
+        None => false,
+    };
+    Ok(second && last && count == 3 && TextTable::new(alloc).len() == 0)
 }
 
 // Two texts with their order between them. U+10400 is the code units D801 DC00, and U+FF21 is one code unit, though its bytes
@@ -55,6 +87,9 @@ fn wrong_order() -> Option<&'static str> {
 #[test]
 fn texts_are_copied_and_ordered(rt: HostRuntime) -> Result<(), Memory> {
     assert!(rt; are_copied(rt.alloc())?);
+    assert!(rt; are_listed(rt.alloc())?);
+    assert_eq!(rt; place_in(rt.alloc(), "b\na\nb\nc\na", "c")?, Some(2));
+    assert_eq!(rt; place_in(rt.alloc(), "b\na\nb\nc\na", "d")?, None);
     assert_eq!(rt; wrong_order(), None);
     assert!(rt; ORDERED.lines().count() == 6);
     Ok(())
