@@ -1,5 +1,5 @@
 -- What a fetch comes to: how the source was asked, and what its answer is read as.
-use Rattle.std.specs.Prelude.{◌≡◌, ℕ, Bool, false, List, Option, None, Result, Ok, Err, IsSomeAnd, take, length, bytes_eq, ⊤}
+use Rattle.std.specs.Prelude.{◌≡◌, ℕ, Bool, false, List, [], Option, None, Result, Ok, Err, IsSomeAnd, take, length, bytes_eq, ⊤}
 use Rattle.std.specs.List.{list_any}
 use Rattle.esm_base.specs.declared.limits.TheConstants.{MAX_BODY_BYTES}
 use Rattle.esm_base.specs.Urls.{Text, Url}
@@ -48,6 +48,13 @@ IsRead fetched.Failed = ⊤
 abbrev pub is_answer : Url → Result Url SpecFault → Bool
 is_answer to (Ok url) = bytes_eq url to
 is_answer to (Err fault) = false
+
+-- what an outcome requests: nothing where it is no module
+abbrev pub requests_in : OutcomeView → List Text
+requests_in (fetched.Script text) = requests_of text.items
+requests_in (fetched.Broken broken) = []
+requests_in fetched.Absent = []
+requests_in fetched.Failed = []
 
 -- HTML, "fetch the descendants of a module script": what was fetched at the URL `from` is a module with a request that
 -- resolves to the URL `to` under the import map

@@ -2,3 +2,4 @@ pub mod Answered
 pub mod Serving
 pub mod Pool
 pub mod Inner
+pub mod Laws

@@ -53,18 +53,14 @@ impl Bell {
         }
     }
 
-    /// So many URLs were asked for: unless there are none, counts an order, and wakes one thread that waits for orders,
-    /// or all where there are several. No more need wake, since one that isn't asleep looks once more before it waits.
+    /// So many URLs were asked for: unless there are none, counts an order, and wakes one thread that waits for orders.
+    /// That one wakes the next, so who rings needn't wake them all. One that isn't asleep looks once more before it waits.
     pub fn ring_for_orders<R: Wait>(&self, rt: &R, asked: usize) {
         if asked == 0 {
             return;
         }
         self.orders.add(rt);
-        if asked == 1 {
-            self.orders.rung.notify_one();
-        } else {
-            self.orders.rung.notify_all();
-        }
+        self.orders.rung.notify_one();
     }
 
     /// Something was posted: counts a post, and wakes all that wait for posts.
@@ -81,11 +77,14 @@ impl Bell {
         self.posts.rung.notify_all();
     }
 
-    /// Waits while the counter of the orders is `heard`, and gives that counter, which is another then.
+    /// Waits while the counter of the orders is `heard`, wakes one thread more that waits for orders, and gives that
+    /// counter, which is another then.
     pub fn wait_for_order<R: Wait>(&self, rt: &R, heard: u64) -> u64
         ensures { result ≢ heard }
     {
-        self.orders.wait(rt, heard)
+        let count = self.orders.wait(rt, heard);
+        self.orders.rung.notify_one();
+        count
     }
 
     /// Waits while the counter of the posts is `heard`, and gives that counter, which is another then.

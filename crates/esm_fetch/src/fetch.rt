@@ -1,14 +1,18 @@
-// One fetch, and what its body is read as.
+// One fetch, what its body is read as, and what its requests resolve to.
 ghost use Rattle.std.specs.Prelude.{◌≡◌, ◌⊎◌, IfOk, OnErr, IfSome};
 ghost use Rattle.esm_ports.specs.declared.asked.AskKind.TheVariants.{Body};
 ghost use Rattle.esm_ports.specs.Asks.{asks_with};
 ghost use Rattle.esm_ast.specs.Outcome.{outcome_view, OutcomeOf};
-ghost use Rattle.esm_fetch.specs.Answered.{kind_of, IsRead, IsToldOutcome};
+ghost use Rattle.esm_base.specs.Urls.{IsUsable};
+ghost use Rattle.esm_specifier.specs.Targets.{AreTargets};
+ghost use Rattle.esm_fetch.specs.Answered.{kind_of, requests_in, IsRead, IsToldOutcome};
 
 use esm_ast::{BrokenText, Outcome};
 use esm_base::{Memory, ReadEnd, Text};
+use esm_import_map::ImportMap;
 use esm_ports::{FetchEnd, Source};
 use esm_script::read_script;
+use esm_specifier::{Targets, targets_of};
 use std::alloc::Global;
 use std::sync::Arc;
 
@@ -46,5 +50,24 @@ pub fn fetch_outcome<S: Source>(
         Err(FetchEnd::Absent) => Ok(Outcome::Absent),
         Err(FetchEnd::Failed) => Ok(Outcome::Failed),
         Err(FetchEnd::Memory) => Err(Memory),
+    }
+}
+
+// What the requests of what was fetched at a URL resolve to; where it is no module there are none.
+pub(crate) fn targets_in(
+    alloc: Global,
+    guide: &ImportMap,
+    url: &Text,
+    outcome: &Outcome,
+) -> Result<Targets, Memory>
+    requires { IsUsable url.now }
+    ensures { IfOk result
+        (AreTargets guide.now url.now (requests_in (outcome_view outcome.now))) }
+{
+    match outcome {
+        Outcome::Script(script) => targets_of(alloc, guide, url, script.entries().requests()),
+        Outcome::Broken(_broken) => Ok(Targets::Found(Vec::new(alloc))),
+        Outcome::Absent => Ok(Targets::Found(Vec::new(alloc))),
+        Outcome::Failed => Ok(Targets::Found(Vec::new(alloc))),
     }
 }

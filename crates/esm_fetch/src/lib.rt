@@ -3,6 +3,7 @@
 
 mod bell;
 mod fetch;
+pub mod laws;
 mod pool;
 mod posted;
 mod working;

@@ -1,5 +1,5 @@
 // Workers, each in a thread of its own.
-ghost use Rattle.std.specs.Prelude.{◌≡◌, ◌≢◌, ◌≤◌, ◌<◌, ◌+◌, ◌++◌, ◌∷◌, [], All, AllPairs, map, flat_map, vec_len};
+ghost use Rattle.std.specs.Prelude.{◌≡◌, ◌≢◌, ◌≤◌, ◌<◌, ◌+◌, ◌++◌, ◌∷◌, [], All, AllPairs, map, flat_map, vec_len, Some};
 ghost use Rattle.std.specs.Vec.{vec_capacity};
 ghost use Rattle.std.specs.Thread.{IsSync};
 ghost use Rattle.esm_hlock.specs.Views.{HasAllMakers};
@@ -7,11 +7,13 @@ ghost use Rattle.esm_module_map.specs.Views.{view_in, table_of, Same};
 ghost use Rattle.esm_module_map.specs.Replay.{maker_of};
 ghost use Rattle.esm_module_map.specs.Counts.{AreTakenOnce};
 ghost use Rattle.esm_fetch.specs.Serving.{weight, Serves, ServedIf};
-ghost use Rattle.esm_fetch.specs.Pool.{IsToBegin, IsDone, caller_in, source_in, source_of};
+ghost use Rattle.esm_module_map.specs.Leading.{guide_in};
+ghost use Rattle.esm_fetch.specs.Pool.{IsToBegin, IsGuided, IsDone, caller_in, source_in, source_of};
 
 use crate::bell::Bell;
 use crate::posted::Posted;
 use crate::working::{WorkerEnd, worker};
+use esm_import_map::ImportMap;
 use esm_module_map::{Caller, ModuleMap};
 use esm_ports::Source;
 use std::alloc::Global;
@@ -93,13 +95,14 @@ fn gather<S: Source>(
 }
 
 /// Runs a worker for each job, each in a thread of its own, and meets their callers once they have ended. The sources
-/// come back in the order of the jobs, in `done`, which is empty and has room for them. The calling thread waits; where a
+/// come back in the order of the jobs, in `done`, which is empty and has room for them. The guide is that of the map. The calling thread waits; where a
 /// thread can't be made its worker runs last, on this one.
 pub fn work_all<R: Threads + Wait + Sync, S: Source + Send>(
     rt: &R,
     alloc: Global,
     modules: &ModuleMap<Posted>,
     bell: &Bell,
+    guide: &ImportMap,
     caller: Caller<Posted>,
     jobs: Vec<Job<S>>,
     done: Vec<Done<S>>,
@@ -108,6 +111,7 @@ pub fn work_all<R: Threads + Wait + Sync, S: Source + Send>(
         ≡ modules.now.lock.table.shared.table_id }
     requires jobs { All (IsToBegin modules.now.lock.table.shared.table_id S.holds S.asked)
         jobs.items }
+    requires guide { All (IsGuided guide.now) jobs.items }
     requires none { done.items ≡ [] }
     requires room { vec_len done + vec_len jobs ≤ vec_capacity done }
     ensures own { table_of modules.now.lock.table.shared.table_id result.caller.pass
@@ -141,18 +145,20 @@ pub fn work_all<R: Threads + Wait + Sync, S: Source + Send>(
                     requires { IsSync R.row
                         × (table_of modules.now.lock.table.shared.table_id mine.pass
                         ≡ modules.now.lock.table.shared.table_id)
-                        × Serves (S.holds source) (S.asked source) mine.number (view_in mine.pass).seen }
+                        × Serves (S.holds source) (S.asked source) mine.number (view_in mine.pass).seen
+                        × (guide_in (view_in mine.pass).seen ≡ Some guide.now) }
                     ensures { (table_of modules.entry.now.lock.table.shared.table_id
                         result.caller.pass ≡ modules.entry.now.lock.table.shared.table_id)
                         × ServedIf result.short (S.holds source) (S.asked result.source) mine.number (view_in result.caller.pass).seen
                         × Same (view_in mine.pass) (view_in result.caller.pass)
                         × (S.holds result.source ≡ S.holds source) }
-                { worker(rt, alloc, modules, bell, mine, source) },
+                { worker(rt, alloc, modules, bell, guide, mine, source) },
                 || -> Pool<S>
                     requires { IsSync R.row
                         × (table_of modules.now.lock.table.shared.table_id caller.pass
                         ≡ modules.now.lock.table.shared.table_id)
                         × All (IsToBegin modules.now.lock.table.shared.table_id S.holds S.asked) jobs.items
+                        × All (IsGuided guide.now) jobs.items
                         × (done.items ≡ []) × (vec_len done + vec_len jobs ≤ vec_capacity done) }
                     ensures { (table_of modules.entry.now.lock.table.shared.table_id
                         result.caller.pass ≡ modules.entry.now.lock.table.shared.table_id)
@@ -163,7 +169,7 @@ pub fn work_all<R: Threads + Wait + Sync, S: Source + Send>(
                         × (vec_capacity result.done ≡ vec_capacity done)
                         × (vec_len result.done ≡ vec_len done + vec_len jobs)
                         × (result.caller.number ≡ caller.number) }
-                { work_all(rt, alloc, modules, bell, caller, jobs, done) },
+                { work_all(rt, alloc, modules, bell, guide, caller, jobs, done) },
             );
             gather(modules, pool, number, end)
         }
