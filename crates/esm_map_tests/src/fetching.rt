@@ -1,17 +1,19 @@
 // A turn, a worker on a shut map, and two workers beside a thread that leads them.
-ghost use Rattle.std.specs.Prelude.{◌≡◌, ◌<◌, ◌+◌, ◌≤◌, ◌∷◌, [], All, IfOk, OnOk, vec_len};
+ghost use Rattle.std.specs.Prelude.{◌≡◌, ◌<◌, ◌+◌, ◌≤◌, ◌∷◌, [], All, IfOk, OnOk, Some, vec_len};
 ghost use Rattle.std.specs.Vec.{vec_capacity};
 ghost use Rattle.std.specs.Thread.{IsSync};
+ghost use Rattle.esm_import_map.specs.ImportMap.{Maps};
+ghost use Rattle.esm_module_map.specs.Leading.{guide_in};
 ghost use Rattle.esm_module_map.specs.Views.{view_in, table_of};
 ghost use Rattle.esm_module_map.specs.Saying.{SaysNothing};
 ghost use Rattle.esm_fetch.specs.Serving.{weight, Serves};
-ghost use Rattle.esm_fetch.specs.Pool.{IsToBegin};
+ghost use Rattle.esm_fetch.specs.Pool.{IsToBegin, IsGuided};
 
 use esm_ast::Outcome;
 use esm_base::{Text, is_usable};
 use esm_fetch::{Bell, Done, Job, Pool, Posted, Turned, fetch_one, work_all, worker};
 use esm_import_map::ImportMap;
-use esm_module_map::{Caller, ModuleMap, Why};
+use esm_module_map::{Caller, ModuleMap, Why, laws as map_laws};
 use esm_ports::{AskKind, MemSource, Source};
 use std::alloc::Global;
 use std::marker::{Send, Sync};
@@ -19,13 +21,19 @@ use std::sync::{Arc, Wait};
 use std::test::Fail;
 use std::thread::{Threads, join};
 
-// A map under the empty import map, and a caller with all shares.
-fn opened<R: Wait>(rt: &R, alloc: Global) -> Result<(ModuleMap<Posted>, Caller<Posted>), Fail>
+// A map under this import map, and a caller with all shares.
+fn opened<R: Wait>(
+    rt: &R,
+    alloc: Global,
+    guide: ImportMap,
+) -> Result<(ModuleMap<Posted>, Caller<Posted>), Fail>
     ensures own { IfOk result (λ made. table_of made.0.lock.table.shared.table_id made.1.pass
         ≡ made.0.lock.table.shared.table_id) }
     ensures shares { IfOk result (λ made. (view_in made.1.pass).shares ≡ 1024) }
+    ensures guide { IfOk result (λ made. guide_in (view_in made.1.pass).seen ≡ Some guide) }
 {
-    let guide = Arc::new(alloc, ImportMap::empty(alloc))?;
+    map_laws::guide_stays::<Posted>();
+    let guide = Arc::new(alloc, guide)?;
     let (modules, pass) = ModuleMap::new(alloc, guide)?;
     match modules.enrol(rt, pass) {
         Ok(caller) => Ok((modules, caller)),
@@ -50,7 +58,13 @@ fn another<R: Wait>(
     ensures share { IfOk result (λ c. (view_in c.pass).shares ≡ 1) }
     ensures numbers { IfOk result (λ c. (view_in c.pass).numbers ≡ c.number ∷ []) }
     ensures fresh { IfOk result (λ c. SaysNothing weight c.number (view_in c.pass).seen) }
+    ensures guide { (maps : Maps) → guide_in (view_in caller.old.pass).seen ≡ Some maps
+        → guide_in (view_in caller.new.pass).seen ≡ Some maps }
+    ensures guided { IfOk result (λ c. (maps : Maps)
+        → guide_in (view_in caller.old.pass).seen ≡ Some maps
+        → guide_in (view_in c.pass).seen ≡ Some maps) }
 {
+    map_laws::guide_stays::<Posted>();
     let pass = modules.split(caller);
     match modules.enrol(rt, pass) {
         Ok(other) => Ok(other),
@@ -100,19 +114,23 @@ fn turn<R: Wait, S: Source>(
     alloc: Global,
     modules: &ModuleMap<Posted>,
     bell: &Bell,
+    guide: &ImportMap,
     caller: &mut Caller<Posted>,
     source: &mut S,
 ) -> Result<Turned, Fail>
     requires own { table_of modules.now.lock.table.shared.table_id caller.old.pass
         ≡ modules.now.lock.table.shared.table_id }
+    requires guide { guide_in (view_in caller.old.pass).seen ≡ Some guide.now }
     requires served { Serves (S.holds source.old) (S.asked source.old) caller.old.number
         (view_in caller.old.pass).seen }
     ensures own { table_of modules.now.lock.table.shared.table_id caller.new.pass
         ≡ modules.now.lock.table.shared.table_id }
     ensures served { OnOk result (Serves (S.holds source.new) (S.asked source.new)
         caller.new.number (view_in caller.new.pass).seen) }
+    ensures guide { guide_in (view_in caller.new.pass).seen ≡ Some guide.now }
 {
-    match fetch_one(rt, alloc, modules, bell, caller, source) {
+    map_laws::guide_stays::<Posted>();
+    match fetch_one(rt, alloc, modules, bell, guide, caller, source) {
         Ok(turned) => Ok(turned),
         Err(_) => Err("memory ran out".into()),
     }
@@ -134,6 +152,7 @@ fn absent_turns<R: Wait, S: Source>(
     alloc: Global,
     modules: &ModuleMap<Posted>,
     bell: &Bell,
+    guide: &ImportMap,
     main: &mut Caller<Posted>,
     caller: &mut Caller<Posted>,
     source: &mut S,
@@ -144,22 +163,24 @@ fn absent_turns<R: Wait, S: Source>(
         ≡ modules.now.lock.table.shared.table_id }
     requires served { Serves (S.holds source.old) (S.asked source.old) caller.old.number
         (view_in caller.old.pass).seen }
+    requires guide { guide_in (view_in caller.old.pass).seen ≡ Some guide.now }
     ensures main { table_of modules.now.lock.table.shared.table_id main.new.pass
         ≡ modules.now.lock.table.shared.table_id }
     ensures own { table_of modules.now.lock.table.shared.table_id caller.new.pass
         ≡ modules.now.lock.table.shared.table_id }
     ensures served { OnOk result (Serves (S.holds source.new) (S.asked source.new)
         caller.new.number (view_in caller.new.pass).seen) }
+    ensures guide { guide_in (view_in caller.new.pass).seen ≡ Some guide.now }
 {
     if !ask(rt, alloc, modules, main, URL) {
         return Err("the URL isn't asked for".into());
     }
-    let first = turn(rt, alloc, modules, bell, caller, source)?;
+    let first = turn(rt, alloc, modules, bell, guide, caller, source)?;
     let absent = match modules.entry(rt, main, 0) {
         Ok(Some(posted)) => matches!(&posted.outcome, Outcome::Absent),
         _ => false,
     };
-    let second = turn(rt, alloc, modules, bell, caller, source)?;
+    let second = turn(rt, alloc, modules, bell, guide, caller, source)?;
     modules.shut(rt, main);
     Ok(AbsentTurns {
         first,
@@ -181,6 +202,7 @@ fn absent_end<R: Wait>(
     rt: &R,
     alloc: Global,
     modules: &ModuleMap<Posted>,
+    guide: &ImportMap,
     main: &mut Caller<Posted>,
     caller: Caller<Posted>,
     source: MemSource,
@@ -191,13 +213,23 @@ fn absent_end<R: Wait>(
         ≡ modules.now.lock.table.shared.table_id }
     requires fresh { SaysNothing weight caller.number (view_in caller.pass).seen }
     requires unasked { source.asked ≡ [] }
+    requires guide { guide_in (view_in caller.pass).seen ≡ Some guide.now }
 {
     let bell = Bell::new();
     let mut caller = caller;
     let mut source = source;
-    match absent_turns(rt, alloc, modules, &bell, main, &mut caller, &mut source) {
+    match absent_turns(
+        rt,
+        alloc,
+        modules,
+        &bell,
+        guide,
+        main,
+        &mut caller,
+        &mut source,
+    ) {
         Ok(turns) => {
-            let end = worker(rt, alloc, modules, &bell, caller, source);
+            let end = worker(rt, alloc, modules, &bell, guide, caller, source);
             Ok(AbsentEnd {
                 turns,
                 short: end.short,
@@ -212,9 +244,10 @@ fn absent_end<R: Wait>(
 fn an_absent_url_and_a_shut_map(rt: HostRuntime) -> Result<(), Fail> {
     let alloc = rt.alloc();
     let source = source_of(alloc, &[])?;
-    let (modules, mut main) = opened(&rt, alloc)?;
+    let guide = ImportMap::empty(alloc);
+    let (modules, mut main) = opened(&rt, alloc, ImportMap::empty(alloc))?;
     let caller = another(&rt, &modules, &mut main)?;
-    let end = absent_end(&rt, alloc, &modules, &mut main, caller, source)?;
+    let end = absent_end(&rt, alloc, &modules, &guide, &mut main, caller, source)?;
     assert!(rt; end.turns.first == Turned::Posted(0));
     assert!(rt; end.turns.absent);
     assert!(rt; end.turns.second == Turned::NotYet);
@@ -234,6 +267,8 @@ fn two_jobs<S: Source>(
     requires other { IsToBegin modules.now.lock.table.shared.table_id S.holds S.asked other }
     ensures jobs { IfOk result (λ v. All (IsToBegin modules.now.lock.table.shared.table_id S.holds
         S.asked) v.items) }
+    ensures guides { (maps : Maps) → IsGuided maps one → IsGuided maps other
+        → IfOk result (λ v. All (IsGuided maps) v.items) }
     ensures two { IfOk result (λ v. vec_len v ≡ 2) }
 {
     let mut jobs = Vec::with_capacity(alloc, 2)?;
@@ -250,7 +285,9 @@ fn job<S: Source>(modules: &ModuleMap<Posted>, caller: Caller<Posted>, source: S
     requires numbers { (view_in caller.pass).numbers ≡ caller.number ∷ [] }
     requires fresh { SaysNothing weight caller.number (view_in caller.pass).seen }
     requires unasked { S.asked source ≡ [] }
-    ensures { IsToBegin modules.now.lock.table.shared.table_id S.holds S.asked result }
+    ensures job { IsToBegin modules.now.lock.table.shared.table_id S.holds S.asked result }
+    ensures guide { (maps : Maps) → guide_in (view_in caller.pass).seen ≡ Some maps
+        → IsGuided maps result }
 {
     Job { caller, source }
 }
@@ -270,6 +307,10 @@ fn new_job<R: Wait, S: Source>(
         ≡ modules.now.lock.table.shared.table_id }
     ensures shares { (view_in main.new.pass).shares + 1 ≡ (view_in main.old.pass).shares }
     ensures job { IfOk result (IsToBegin modules.now.lock.table.shared.table_id S.holds S.asked) }
+    ensures guide { (maps : Maps) → guide_in (view_in main.old.pass).seen ≡ Some maps
+        → guide_in (view_in main.new.pass).seen ≡ Some maps }
+    ensures guided { (maps : Maps) → guide_in (view_in main.old.pass).seen ≡ Some maps
+        → IfOk result (IsGuided maps) }
 {
     match another(rt, modules, main) {
         Ok(caller) => Ok(job(modules, caller, source)),
@@ -296,6 +337,8 @@ fn new_jobs<R: Wait, S: Source>(
         ((view_in main.new.pass).shares + 2 ≡ (view_in main.old.pass).shares) }
     ensures jobs { IfOk result (λ v. All (IsToBegin modules.now.lock.table.shared.table_id S.holds
         S.asked) v.items) }
+    ensures guides { (maps : Maps) → guide_in (view_in main.old.pass).seen ≡ Some maps
+        → IfOk result (λ v. All (IsGuided maps) v.items) }
     ensures two { IfOk result (λ v. vec_len v ≡ 2) }
 {
     let one = new_job(rt, modules, main, first)?;
@@ -348,6 +391,7 @@ fn work_and_lead<R: Threads + Wait + Sync, S: Source + Send>(
     alloc: Global,
     modules: &ModuleMap<Posted>,
     bell: &Bell,
+    guide: &ImportMap,
     leader: Caller<Posted>,
     spare: Caller<Posted>,
     jobs: Vec<Job<S>>,
@@ -359,6 +403,7 @@ fn work_and_lead<R: Threads + Wait + Sync, S: Source + Send>(
         ≡ modules.now.lock.table.shared.table_id }
     requires jobs { All (IsToBegin modules.now.lock.table.shared.table_id S.holds S.asked)
         jobs.items }
+    requires guide { All (IsGuided guide.now) jobs.items }
     requires none { done.items ≡ [] }
     requires room { vec_len done + vec_len jobs ≤ vec_capacity done }
     ensures { (table_of modules.now.lock.table.shared.table_id result.0.caller.pass
@@ -373,10 +418,11 @@ fn work_and_lead<R: Threads + Wait + Sync, S: Source + Send>(
                 × (table_of modules.now.lock.table.shared.table_id spare.pass
                 ≡ modules.now.lock.table.shared.table_id)
                 × All (IsToBegin modules.now.lock.table.shared.table_id S.holds S.asked) jobs.items
+                × All (IsGuided guide.now) jobs.items
                 × (done.items ≡ []) × (vec_len done + vec_len jobs ≤ vec_capacity done) }
             ensures { table_of modules.entry.now.lock.table.shared.table_id result.caller.pass
                 ≡ modules.entry.now.lock.table.shared.table_id }
-        { work_all(rt, alloc, modules, bell, spare, jobs, done) },
+        { work_all(rt, alloc, modules, bell, guide, spare, jobs, done) },
         || -> Caller<Posted>
             requires { table_of modules.now.lock.table.shared.table_id leader.pass
                 ≡ modules.now.lock.table.shared.table_id }
@@ -408,10 +454,11 @@ fn two_workers_fetch_what_is_asked_for(rt: HostRuntime) -> Result<(), Fail> {
     let done = Vec::with_capacity(alloc, 2)?;
     let files = source_of(alloc, &[(URLS[0], text), (URLS[1], text), (URLS[2], text)])?;
     let nothing = source_of(alloc, &[])?;
-    let (modules, mut main) = opened(&rt, alloc)?;
+    let guide = ImportMap::empty(alloc);
+    let (modules, mut main) = opened(&rt, alloc, ImportMap::empty(alloc))?;
     let jobs = new_jobs(&rt, alloc, &modules, &mut main, files, nothing)?;
     let spare = another(&rt, &modules, &mut main)?;
-    let (pool, main) = work_and_lead(&rt, alloc, &modules, &bell, main, spare, jobs, done);
+    let (pool, main) = work_and_lead(&rt, alloc, &modules, &bell, &guide, main, spare, jobs, done);
     let Pool { caller, done } = pool;
     let caller = modules.meet(caller, main);
     assert!(rt; have_shared(done.as_slice()));

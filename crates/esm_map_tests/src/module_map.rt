@@ -18,11 +18,13 @@ struct Body {
 impl Payload for Body {
     type Guide = u64;
 
-    ghost use Rattle.std.specs.Prelude.{false};
+    ghost use Rattle.std.specs.Prelude.{true, false};
 
     ghost weight = { λ p. p.bytes };
 
     ghost leads = { λ guide p from to. false };
+
+    ghost fits = { λ guide p url. true };
 
     fn size(&self) -> usize {
         self.bytes

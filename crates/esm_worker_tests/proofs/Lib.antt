@@ -1,3 +1,2 @@
 pub mod StandardLemmas
-pub mod WorkerLemmas
 pub mod OrderLemmas

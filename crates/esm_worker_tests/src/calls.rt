@@ -1,18 +1,14 @@
-// Single calls of the module map by one caller, and a worker that comes to a map that is shut.
-ghost use Rattle.std.specs.Prelude.{◌≡◌, ◌<◌, [], IfOk, OnOk, None};
+// Single calls of the module map by one caller.
+ghost use Rattle.std.specs.Prelude.{◌≡◌, ◌<◌, IfOk, OnOk, None};
 ghost use Rattle.esm_hlock.specs.Words.{knows, IsPassOf};
 ghost use Rattle.esm_module_map.specs.Views.{view_in, table_of};
 ghost use Rattle.esm_module_map.specs.Saying.{IsOrderIn, SaysNothing};
-ghost use Rattle.esm_fetch.specs.Serving.{weight};
 
 use esm_base::{Text, is_usable};
-use esm_fetch::{Bell, Posted, WorkerEnd, worker};
 use esm_hlock::Pass;
-use esm_import_map::ImportMap;
 use esm_module_map::{
     Asked, Caller, MapEnd, MapEvent, MapState, ModuleMap, Order, Payload, Taken, Why, laws,
 };
-use esm_ports::MemSource;
 use std::alloc::Global;
 use std::sync::{Arc, Wait};
 use std::test::Fail;
@@ -28,11 +24,13 @@ struct Body {
 impl Payload for Body {
     type Guide = u64;
 
-    ghost use Rattle.std.specs.Prelude.{false};
+    ghost use Rattle.std.specs.Prelude.{true, false};
 
     ghost weight = { λ p. p.bytes };
 
     ghost leads = { λ guide p from to. false };
+
+    ghost fits = { λ guide p url. true };
 
     fn size(&self) -> usize {
         self.bytes
@@ -341,39 +339,5 @@ fn one_caller_makes_a_history_of_eight_events(rt: HostRuntime) -> Result<(), Fai
     assert_eq!(rt; wrong, None);
     let kinds = kinds_of(alloc, events.as_slice())?;
     assert_eq!(rt; kinds.as_str(), "Begin Enrol Ask Ask Take Post Ask Shut ");
-    Ok(())
-}
-
-// A worker of a caller that has just enrolled, with a source that wasn't asked.
-fn begin<R: Wait>(
-    rt: &R,
-    alloc: Global,
-    modules: &ModuleMap<Posted>,
-    caller: Caller<Posted>,
-    source: MemSource,
-) -> WorkerEnd<MemSource>
-    requires own { table_of modules.now.lock.table.shared.table_id caller.pass
-        ≡ modules.now.lock.table.shared.table_id }
-    requires fresh { SaysNothing weight caller.number (view_in caller.pass).seen }
-    requires unasked { source.asked ≡ [] }
-{
-    let bell = Bell::new();
-    worker(rt, alloc, modules, &bell, caller, source)
-}
-
-#[test]
-fn a_worker_asks_nothing_where_the_map_is_shut(rt: HostRuntime) -> Result<(), Fail> {
-    let alloc = rt.alloc();
-    let guide = Arc::new(alloc, ImportMap::empty(alloc))?;
-    let (modules, pass) = ModuleMap::<Posted>::new(alloc, guide)?;
-    let mut main = enrolled(&rt, &modules, pass)?;
-    let pass = modules.split(&mut main);
-    let caller = enrolled(&rt, &modules, pass)?;
-    assert_eq!(rt; ask(&rt, alloc, &modules, &mut main), ("New", 0));
-    modules.shut(&rt, &mut main);
-    let source = MemSource::new(alloc, Vec::new(alloc), Vec::new(alloc))?;
-    let end = begin(&rt, alloc, &modules, caller, source);
-    assert!(rt; !end.short);
-    assert!(rt; end.source.asked().is_empty());
     Ok(())
 }
