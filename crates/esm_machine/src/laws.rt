@@ -77,7 +77,9 @@ pub fn tells_the_run()
 /// The import map of a machine that hasn't stopped is that of the run that it represents.
 pub fn keeps_its_map()
     ensures { KeepsItsMap }
-{}
+{
+    esm_world::laws::keeps_maps()
+}
 
 /// A machine that has taken a turn of each world that it shows represents one delivery more.
 pub fn turns_are_taken()
