@@ -1,450 +1,319 @@
 // Worked bodies: calls, errors, throws and what takes them.
-use crate::running::Wrong;
-use esm_base::{Memory, Status};
-use esm_sites::{Row, first_wrong};
-use std::alloc::Global;
-use std::marker::Sync;
-use std::sync::Wait;
-use std::thread::Threads;
 
 /// Calls.
-const CALLS: &[Row] = &[
-    Row {
-        name: "a call without return",
-        files: &[("main.js", r#"function f(){ "a"; } print(f());"#)],
-        output: "undefined\n",
-        status: Status::Fulfilled,
-    },
-    Row {
-        name: "a return without a value",
-        files: &[("main.js", "function f(){ return; } print(f());")],
-        output: "undefined\n",
-        status: Status::Fulfilled,
-    },
-    Row {
-        name: "a return behind a line feed has no value",
-        files: &[("main.js", "function f(){ return\n\"a\"; } print(f());")],
-        output: "undefined\n",
-        status: Status::Fulfilled,
-    },
-    Row {
-        name: "statements behind return do not run",
-        files: &[(
-            "main.js",
-            r#"function f(){ return "a"; print("no"); } print(f());"#,
-        )],
-        output: "a\n",
-        status: Status::Fulfilled,
-    },
-    Row {
-        name: "return leaves blocks",
-        files: &[(
-            "main.js",
-            r#"function f(){ { { return "a"; } } } print(f());"#,
-        )],
-        output: "a\n",
-        status: Status::Fulfilled,
-    },
-    Row {
-        name: "a text is no function",
-        files: &[("main.js", r#""a"();"#)],
-        output: "Uncaught TypeError: not a function\n",
-        status: Status::EntryFailed,
-    },
-    Row {
-        name: "what an expression gives is called",
-        files: &[(
-            "main.js",
-            r#"function f(){ return g; } function g(){ return "a"; } print(f()(), (f)()());"#,
-        )],
-        output: "a a\n",
-        status: Status::Fulfilled,
-    },
-    Row {
-        name: "256 calls may be active",
-        files: &[(
-            "main.js",
-            r#"function f(n){ if (n === "x") { return "end"; } return n; } print(f("x"));"#,
-        )],
-        output: "end\n",
-        status: Status::Fulfilled,
-    },
-    Row {
-        name: "call 257 is an error that can be caught",
-        files: &[(
-            "main.js",
-            r#"let n = ""; function f(){ f(); } try { f(); } catch (e) { print(e); }"#,
-        )],
-        output: "RangeError: call depth\n",
-        status: Status::Fulfilled,
-    },
-    Row {
-        name: "the depth falls when calls end",
-        files: &[(
-            "main.js",
-            r#"function f(){ f(); } try { f(); } catch (e) {} try { f(); } catch (e) { print(e); } function g(){ return "a"; } print(g());"#,
-        )],
-        output: "RangeError: call depth\na\n",
-        status: Status::Fulfilled,
-    },
-    Row {
-        name: "a callee that is none comes before the depth",
-        files: &[(
-            "main.js",
-            "let first = true; function f(){ try { f(); } catch (e) { if (first) { first = false; try { undefined(); } catch (d) { print(d); } } throw e; } } try { f(); } catch (e) { print(e); }",
-        )],
-        output: "TypeError: not a function\nRangeError: call depth\n",
-        status: Status::Fulfilled,
-    },
-];
+const CALLS: &str = r#"== a call without return
+-- main.js
+function f(){ "a"; } print(f());
+>> Fulfilled
+undefined
+
+== a return without a value
+-- main.js
+function f(){ return; } print(f());
+>> Fulfilled
+undefined
+
+== a return behind a line feed has no value
+-- main.js
+function f(){ return
+"a"; } print(f());
+>> Fulfilled
+undefined
+
+== statements behind return do not run
+-- main.js
+function f(){ return "a"; print("no"); } print(f());
+>> Fulfilled
+a
+
+== return leaves blocks
+-- main.js
+function f(){ { { return "a"; } } } print(f());
+>> Fulfilled
+a
+
+== a text is no function
+-- main.js
+"a"();
+>> EntryFailed
+Uncaught TypeError: not a function
+
+== what an expression gives is called
+-- main.js
+function f(){ return g; } function g(){ return "a"; } print(f()(), (f)()());
+>> Fulfilled
+a a
+
+== 256 calls may be active
+-- main.js
+function f(n){ if (n === "x") { return "end"; } return n; } print(f("x"));
+>> Fulfilled
+end
+
+== call 257 is an error that can be caught
+-- main.js
+let n = ""; function f(){ f(); } try { f(); } catch (e) { print(e); }
+>> Fulfilled
+RangeError: call depth
+
+== the depth falls when calls end
+-- main.js
+function f(){ f(); } try { f(); } catch (e) {} try { f(); } catch (e) { print(e); } function g(){ return "a"; } print(g());
+>> Fulfilled
+RangeError: call depth
+a
+
+== a callee that is none comes before the depth
+-- main.js
+let first = true; function f(){ try { f(); } catch (e) { if (first) { first = false; try { undefined(); } catch (d) { print(d); } } throw e; } } try { f(); } catch (e) { print(e); }
+>> Fulfilled
+TypeError: not a function
+RangeError: call depth"#;
 
 /// Errors that are made.
-const MESSAGES: &[Row] = &[
-    Row {
-        name: "new Error of each simple value",
-        files: &[(
-            "main.js",
-            r#"print(new Error(true), new Error(false), new Error("a"));"#,
-        )],
-        output: "Error: true Error: false Error: a\n",
-        status: Status::Fulfilled,
-    },
-    Row {
-        name: "new Error of an error",
-        files: &[("main.js", r#"print(new Error(new Error("a")));"#)],
-        output: "Error: Error: a\n",
-        status: Status::Fulfilled,
-    },
-    Row {
-        name: "new Error of a function",
-        files: &[("main.js", "function f(){} new Error(f);")],
-        output: "Uncaught TypeError: cannot convert to text\n",
-        status: Status::EntryFailed,
-    },
-    Row {
-        name: "new Error of a namespace",
-        files: &[(
-            "main.js",
-            r#"import * as n from "./main.js"; try { new Error(n); } catch (e) { print(e); }"#,
-        )],
-        output: "TypeError: cannot convert to text\n",
-        status: Status::Fulfilled,
-    },
-];
+const MESSAGES: &str = r#"== new Error of each simple value
+-- main.js
+print(new Error(true), new Error(false), new Error("a"));
+>> Fulfilled
+Error: true Error: false Error: a
+
+== new Error of an error
+-- main.js
+print(new Error(new Error("a")));
+>> Fulfilled
+Error: Error: a
+
+== new Error of a function
+-- main.js
+function f(){} new Error(f);
+>> EntryFailed
+Uncaught TypeError: cannot convert to text
+
+== new Error of a namespace
+-- main.js
+import * as n from "./main.js"; try { new Error(n); } catch (e) { print(e); }
+>> Fulfilled
+TypeError: cannot convert to text"#;
 
 /// Throws.
-const THROWS: &[Row] = &[
-    Row {
-        name: "a throw of a text",
-        files: &[("main.js", r#"throw "a";"#)],
-        output: "Uncaught a\n",
-        status: Status::EntryFailed,
-    },
-    Row {
-        name: "a throw of an error",
-        files: &[("main.js", r#"throw new Error("a");"#)],
-        output: "Uncaught Error: a\n",
-        status: Status::EntryFailed,
-    },
-    Row {
-        name: "a throw of undefined",
-        files: &[("main.js", "throw undefined;")],
-        output: "Uncaught undefined\n",
-        status: Status::EntryFailed,
-    },
-    Row {
-        name: "a throw of a function",
-        files: &[("main.js", "function f(){} throw f;")],
-        output: "Uncaught [function f]\n",
-        status: Status::EntryFailed,
-    },
-    Row {
-        name: "a throw ends the statements",
-        files: &[("main.js", r#"print("1"); throw "a"; print("2");"#)],
-        output: "1\nUncaught a\n",
-        status: Status::EntryFailed,
-    },
-];
+const THROWS: &str = r#"== a throw of a text
+-- main.js
+throw "a";
+>> EntryFailed
+Uncaught a
+
+== a throw of an error
+-- main.js
+throw new Error("a");
+>> EntryFailed
+Uncaught Error: a
+
+== a throw of undefined
+-- main.js
+throw undefined;
+>> EntryFailed
+Uncaught undefined
+
+== a throw of a function
+-- main.js
+function f(){} throw f;
+>> EntryFailed
+Uncaught [function f]
+
+== a throw ends the statements
+-- main.js
+print("1"); throw "a"; print("2");
+>> EntryFailed
+1
+Uncaught a"#;
 
 /// `try` and `catch`.
-const HANDLERS: &[Row] = &[
-    Row {
-        name: "try takes a throw",
-        files: &[(
-            "main.js",
-            r#"try { throw "a"; } catch (e) { print("caught", e); }"#,
-        )],
-        output: "caught a\n",
-        status: Status::Fulfilled,
-    },
-    Row {
-        name: "try without a throw leaves catch out",
-        files: &[(
-            "main.js",
-            r#"try { print("a"); } catch (e) { print("no"); } print("b");"#,
-        )],
-        output: "a\nb\n",
-        status: Status::Fulfilled,
-    },
-    Row {
-        name: "catch without a name",
-        files: &[(
-            "main.js",
-            r#"try { throw "a"; } catch { print("caught"); }"#,
-        )],
-        output: "caught\n",
-        status: Status::Fulfilled,
-    },
-    Row {
-        name: "what stands behind a throw in try",
-        files: &[(
-            "main.js",
-            r#"try { print("1"); throw "a"; print("no"); } catch (e) { print(e); } print("2");"#,
-        )],
-        output: "1\na\n2\n",
-        status: Status::Fulfilled,
-    },
-    Row {
-        name: "try in catch",
-        files: &[(
-            "main.js",
-            r#"try { throw "a"; } catch (e) { try { throw "b"; } catch (d) { print(e, d); } }"#,
-        )],
-        output: "a b\n",
-        status: Status::Fulfilled,
-    },
-    Row {
-        name: "a throw in catch goes out",
-        files: &[(
-            "main.js",
-            r#"try { try { throw "a"; } catch (e) { throw e + "b"; } } catch (e) { print(e); }"#,
-        )],
-        output: "ab\n",
-        status: Status::Fulfilled,
-    },
-    Row {
-        name: "a throw in an inner try is taken there",
-        files: &[(
-            "main.js",
-            r#"try { try { throw "a"; } catch (e) { print("in", e); } print("on"); } catch (e) { print("no"); }"#,
-        )],
-        output: "in a\non\n",
-        status: Status::Fulfilled,
-    },
-    Row {
-        name: "a throw goes through calls",
-        files: &[(
-            "main.js",
-            r#"function f(){ g(); print("no"); } function g(){ throw "a"; } try { f(); } catch (e) { print(e); }"#,
-        )],
-        output: "a\n",
-        status: Status::Fulfilled,
-    },
-    Row {
-        name: "a throw leaves the names of its block",
-        files: &[(
-            "main.js",
-            r#"const a = "1"; try { const a = "2"; throw a; } catch (e) { print(a, e); }"#,
-        )],
-        output: "1 2\n",
-        status: Status::Fulfilled,
-    },
-    Row {
-        name: "a catch parameter may be written",
-        files: &[(
-            "main.js",
-            r#"try { throw "a"; } catch (e) { e = e + "b"; print(e); }"#,
-        )],
-        output: "ab\n",
-        status: Status::Fulfilled,
-    },
-    Row {
-        name: "a catch parameter hides",
-        files: &[(
-            "main.js",
-            r#"const e = "1"; try { throw "2"; } catch (e) { print(e); } print(e);"#,
-        )],
-        output: "2\n1\n",
-        status: Status::Fulfilled,
-    },
-];
+const HANDLERS: &str = r#"== try takes a throw
+-- main.js
+try { throw "a"; } catch (e) { print("caught", e); }
+>> Fulfilled
+caught a
+
+== try without a throw leaves catch out
+-- main.js
+try { print("a"); } catch (e) { print("no"); } print("b");
+>> Fulfilled
+a
+b
+
+== catch without a name
+-- main.js
+try { throw "a"; } catch { print("caught"); }
+>> Fulfilled
+caught
+
+== what stands behind a throw in try
+-- main.js
+try { print("1"); throw "a"; print("no"); } catch (e) { print(e); } print("2");
+>> Fulfilled
+1
+a
+2
+
+== try in catch
+-- main.js
+try { throw "a"; } catch (e) { try { throw "b"; } catch (d) { print(e, d); } }
+>> Fulfilled
+a b
+
+== a throw in catch goes out
+-- main.js
+try { try { throw "a"; } catch (e) { throw e + "b"; } } catch (e) { print(e); }
+>> Fulfilled
+ab
+
+== a throw in an inner try is taken there
+-- main.js
+try { try { throw "a"; } catch (e) { print("in", e); } print("on"); } catch (e) { print("no"); }
+>> Fulfilled
+in a
+on
+
+== a throw goes through calls
+-- main.js
+function f(){ g(); print("no"); } function g(){ throw "a"; } try { f(); } catch (e) { print(e); }
+>> Fulfilled
+a
+
+== a throw leaves the names of its block
+-- main.js
+const a = "1"; try { const a = "2"; throw a; } catch (e) { print(a, e); }
+>> Fulfilled
+1 2
+
+== a catch parameter may be written
+-- main.js
+try { throw "a"; } catch (e) { e = e + "b"; print(e); }
+>> Fulfilled
+ab
+
+== a catch parameter hides
+-- main.js
+const e = "1"; try { throw "2"; } catch (e) { print(e); } print(e);
+>> Fulfilled
+2
+1"#;
 
 /// `return` through `try`, and `if`.
-const RETURNS: &[Row] = &[
-    Row {
-        name: "return through try",
-        files: &[(
-            "main.js",
-            r#"function f(){ try { return "a"; } catch (e) { return "no"; } } print(f());"#,
-        )],
-        output: "a\n",
-        status: Status::Fulfilled,
-    },
-    Row {
-        name: "return through try, and a throw behind it",
-        files: &[(
-            "main.js",
-            r#"function f(){ try { return "a"; } catch (e) { print("no"); } } try { f(); throw "b"; } catch (e) { print(e); }"#,
-        )],
-        output: "b\n",
-        status: Status::Fulfilled,
-    },
-    Row {
-        name: "return in catch",
-        files: &[(
-            "main.js",
-            r#"function f(){ try { throw "a"; } catch (e) { return e + "!"; } print("no"); } print(f());"#,
-        )],
-        output: "a!\n",
-        status: Status::Fulfilled,
-    },
-    Row {
-        name: "a throw while a return is evaluated",
-        files: &[(
-            "main.js",
-            r#"function f(){ try { return x; } catch (e) { return "caught"; } } print(f());"#,
-        )],
-        output: "caught\n",
-        status: Status::Fulfilled,
-    },
-    Row {
-        name: "an error keeps what it is when it is thrown again",
-        files: &[(
-            "main.js",
-            r#"const e = new Error("a"); try { try { throw e; } catch (d) { throw d; } } catch (c) { print(c === e); }"#,
-        )],
-        output: "true\n",
-        status: Status::Fulfilled,
-    },
-    Row {
-        name: "if of each value",
-        files: &[(
-            "main.js",
-            r#"function f(){} if ("") { print("1"); } else { print("2"); } if (f) { print("3"); } if (undefined) { print("4"); }"#,
-        )],
-        output: "2\n3\n",
-        status: Status::Fulfilled,
-    },
-    Row {
-        name: "if without else",
-        files: &[("main.js", r#"if (false) { print("no"); } print("on");"#)],
-        output: "on\n",
-        status: Status::Fulfilled,
-    },
-    Row {
-        name: "the condition throws",
-        files: &[(
-            "main.js",
-            r#"try { if (x) { print("no"); } else { print("no"); } } catch (e) { print(e); }"#,
-        )],
-        output: "ReferenceError: x is not defined\n",
-        status: Status::Fulfilled,
-    },
-    Row {
-        name: "if has a scope of its own",
-        files: &[(
-            "main.js",
-            r#"const a = "1"; if (true) { const a = "2"; print(a); } else { } print(a);"#,
-        )],
-        output: "2\n1\n",
-        status: Status::Fulfilled,
-    },
-];
+const RETURNS: &str = r#"== return through try
+-- main.js
+function f(){ try { return "a"; } catch (e) { return "no"; } } print(f());
+>> Fulfilled
+a
+
+== return through try, and a throw behind it
+-- main.js
+function f(){ try { return "a"; } catch (e) { print("no"); } } try { f(); throw "b"; } catch (e) { print(e); }
+>> Fulfilled
+b
+
+== return in catch
+-- main.js
+function f(){ try { throw "a"; } catch (e) { return e + "!"; } print("no"); } print(f());
+>> Fulfilled
+a!
+
+== a throw while a return is evaluated
+-- main.js
+function f(){ try { return x; } catch (e) { return "caught"; } } print(f());
+>> Fulfilled
+caught
+
+== an error keeps what it is when it is thrown again
+-- main.js
+const e = new Error("a"); try { try { throw e; } catch (d) { throw d; } } catch (c) { print(c === e); }
+>> Fulfilled
+true
+
+== if of each value
+-- main.js
+function f(){} if ("") { print("1"); } else { print("2"); } if (f) { print("3"); } if (undefined) { print("4"); }
+>> Fulfilled
+2
+3
+
+== if without else
+-- main.js
+if (false) { print("no"); } print("on");
+>> Fulfilled
+on
+
+== the condition throws
+-- main.js
+try { if (x) { print("no"); } else { print("no"); } } catch (e) { print(e); }
+>> Fulfilled
+ReferenceError: x is not defined
+
+== if has a scope of its own
+-- main.js
+const a = "1"; if (true) { const a = "2"; print(a); } else { } print(a);
+>> Fulfilled
+2
+1"#;
 
 /// How texts and statements are written.
-const SPELLINGS: &[Row] = &[
-    Row {
-        name: "escapes",
-        files: &[("main.js", "print(\"a\\tb\\x41\\u0042\\u{43}\\'\\q\");")],
-        output: "a\tbABC'q\n",
-        status: Status::Fulfilled,
-    },
-    Row {
-        name: "a line feed in a text is printed",
-        files: &[("main.js", "print(\"a\\nb\");")],
-        output: "a\nb\n",
-        status: Status::Fulfilled,
-    },
-    Row {
-        name: "a text over several lines of source",
-        files: &[("main.js", "print(\"a\\\nb\");")],
-        output: "ab\n",
-        status: Status::Fulfilled,
-    },
-    Row {
-        name: "semicolons may be left out at line ends",
-        files: &[("main.js", "const a = \"1\"\nprint(a)\nlet b\nprint(b)")],
-        output: "1\nundefined\n",
-        status: Status::Fulfilled,
-    },
-    Row {
-        name: "a call goes on over a line end",
-        files: &[(
-            "main.js",
-            "function f(){ return \"a\"; }\nconst g = f\n();print(g);",
-        )],
-        output: "a\n",
-        status: Status::Fulfilled,
-    },
-    Row {
-        name: "empty statements",
-        files: &[("main.js", r#"; ; print("a") ; ;"#)],
-        output: "a\n",
-        status: Status::Fulfilled,
-    },
-    Row {
-        name: "a throw in the middle leaves what was printed",
-        files: &[("main.js", r#"print("1"); print("2" + undefined + x);"#)],
-        output: "1\nUncaught ReferenceError: x is not defined\n",
-        status: Status::EntryFailed,
-    },
-    Row {
-        name: "a text of 65,536 bytes",
-        files: &[(
-            "main.js",
-            r#"let a = "0123456789abcdef"; function d(){ a = a + a; } d();d();d();d();d();d();d();d();d();d();d();d(); try { a + ""; print("fits"); a + "b"; } catch (e) { print(e); }"#,
-        )],
-        output: "fits\nRangeError: text length\n",
-        status: Status::Fulfilled,
-    },
+const SPELLINGS: &str = r#"== a line feed in a text is printed
+-- main.js
+print("a\nb");
+>> Fulfilled
+a
+b
+
+== a text over several lines of source
+-- main.js
+print("a\
+b");
+>> Fulfilled
+ab
+
+== semicolons may be left out at line ends
+-- main.js
+const a = "1"
+print(a)
+let b
+print(b)
+>> Fulfilled
+1
+undefined
+
+== a call goes on over a line end
+-- main.js
+function f(){ return "a"; }
+const g = f
+();print(g);
+>> Fulfilled
+a
+
+== empty statements
+-- main.js
+; ; print("a") ; ;
+>> Fulfilled
+a
+
+== a throw in the middle leaves what was printed
+-- main.js
+print("1"); print("2" + undefined + x);
+>> EntryFailed
+1
+Uncaught ReferenceError: x is not defined
+
+== a text of 65,536 bytes
+-- main.js
+let a = "0123456789abcdef"; function d(){ a = a + a; } d();d();d();d();d();d();d();d();d();d();d();d(); try { a + ""; print("fits"); a + "b"; } catch (e) { print(e); }
+>> Fulfilled
+fits
+RangeError: text length"#;
+
+// One that prints a tab.
+const ESCAPES: &str =
+    "== escapes\n-- main.js\nprint(\"a\\tb\\x41\\u0042\\u{43}\\'\\q\");\n>> Fulfilled\na\tbABC'q";
+
+/// The tables of this file.
+pub const TABLES: &[&str] = &[
+    CALLS, MESSAGES, THROWS, HANDLERS, RETURNS, SPELLINGS, ESCAPES,
 ];
-
-fn functions_are_called<R: Threads + Wait + Sync>(rt: &R, alloc: Global) -> Wrong {
-    first_wrong(rt, alloc, CALLS)
-}
-
-fn errors_are_made<R: Threads + Wait + Sync>(rt: &R, alloc: Global) -> Wrong {
-    first_wrong(rt, alloc, MESSAGES)
-}
-
-fn throws_end_a_body<R: Threads + Wait + Sync>(rt: &R, alloc: Global) -> Wrong {
-    first_wrong(rt, alloc, THROWS)
-}
-
-fn handlers_take_throws<R: Threads + Wait + Sync>(rt: &R, alloc: Global) -> Wrong {
-    first_wrong(rt, alloc, HANDLERS)
-}
-
-fn returns_and_branches<R: Threads + Wait + Sync>(rt: &R, alloc: Global) -> Wrong {
-    first_wrong(rt, alloc, RETURNS)
-}
-
-fn texts_are_read_as_written<R: Threads + Wait + Sync>(rt: &R, alloc: Global) -> Wrong {
-    first_wrong(rt, alloc, SPELLINGS)
-}
-
-#[test]
-fn calls_and_throws(rt: HostRuntime) -> Result<(), Memory> {
-    let alloc = rt.alloc();
-    for wrong in [
-        functions_are_called(&rt, alloc)?,
-        errors_are_made(&rt, alloc)?,
-        throws_end_a_body(&rt, alloc)?,
-        handlers_take_throws(&rt, alloc)?,
-        returns_and_branches(&rt, alloc)?,
-        texts_are_read_as_written(&rt, alloc)?,
-    ] {
-        assert_eq!(rt; wrong, None);
-    }
-    Ok(())
-}

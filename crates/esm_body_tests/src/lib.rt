@@ -15,5 +15,3 @@ mod running;
 mod steps;
 #[cfg(test)]
 mod values;
-#[cfg(test)]
-mod wrong_rows;

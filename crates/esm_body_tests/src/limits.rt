@@ -1,7 +1,7 @@
 // Texts and sites that reach a limit, and those that just don't.
-use crate::running::{ends_so, push_times, text_ends_so};
-use esm_base::{Memory, Status, Text};
-use esm_sites::{ENTRY, add_named, files, site};
+use crate::running::{counted, ends_so, push_times, text_ends_so};
+use esm_base::{Memory, Text};
+use esm_sites::{ENTRY, Wanted, add_named, ending, files, site, title, wanted_of};
 use std::alloc::Global;
 use std::marker::Sync;
 use std::sync::Wait;
@@ -69,31 +69,6 @@ fn many_calls(alloc: Global, many: u64) -> Result<Vec<(Text, Vec<u8>)>, Memory> 
     site(alloc, &[("main.js", text.as_str()), ("a.js", "")])
 }
 
-// A site of one of these kinds.
-#[derive(Clone, Copy)]
-enum Kind {
-    // An entry that takes a million steps, and behind them this text.
-    MillionSteps(&'static str),
-    // So many prints of 65,536 characters.
-    LongPrints(u64),
-    // An entry of so many spaces.
-    Spaces(u64),
-    // An entry that imports so many files of 1,048,576 spaces.
-    WideSite(u64),
-    // An entry that calls `import()` so many times.
-    Calls(u64),
-}
-
-// A run: its site, and what it comes to.
-struct Run {
-    kind: Kind,
-    // How many lines of 65,536 characters are written.
-    long_lines: u64,
-    // What is written behind them.
-    output: &'static str,
-    status: Status,
-}
-
 // An entry with this text.
 fn entry(alloc: Global, text: Result<String, Memory>) -> Result<Vec<(Text, Vec<u8>)>, Memory> {
     match text {
@@ -102,175 +77,174 @@ fn entry(alloc: Global, text: Result<String, Memory>) -> Result<Vec<(Text, Vec<u
     }
 }
 
-// The files of the site.
-fn files_of(alloc: Global, kind: Kind) -> Result<Vec<(Text, Vec<u8>)>, Memory> {
-    match kind {
-        Kind::MillionSteps(behind) => entry(alloc, million_steps(alloc, behind)),
-        Kind::LongPrints(many) => entry(alloc, long_prints(alloc, many)),
-        Kind::Spaces(many) => entry(alloc, spaces(alloc, many)),
-        Kind::WideSite(many) => wide_site(alloc, many),
-        Kind::Calls(many) => many_calls(alloc, many),
+// Sites and how their runs end, with an empty line between them. Below its name stands what a site has: an entry that takes a
+// million steps, and behind them a text; or so many prints of 65,536 characters; or so many spaces; or imports of so many
+// files of 1,048,576 spaces; or so many calls of `import()`. Then comes how many lines of 65,536 characters are written, and
+// then the status, and what is written behind them.
+const SITES: &str = "\
+== a million steps
+steps
+0
+>> Fulfilled
+
+== a million steps, and one more
+steps ;
+0
+>> Limit
+Limit L3
+
+== the longest text
+spaces 1048576
+0
+>> Fulfilled
+
+== a text that is too long
+spaces 1048577
+0
+>> EntryFailed
+Uncaught SyntaxError: https://a.test/main.js: P6 too long
+
+== as many calls of import() as there may be
+calls 4096
+0
+>> Fulfilled
+
+== one call more
+calls 4097
+0
+>> Limit
+Limit L4";
+
+// Those that have 16 megabytes.
+const LARGE_SITES: &str = "\
+== as many lines as the log may have
+prints 255
+255
+>> Fulfilled
+
+== a line that would pass the limit of the log
+prints 256
+255
+>> Limit
+Limit L5
+
+== fewer texts than have 16,777,216 bytes together
+wide 15
+0
+>> Fulfilled
+
+== texts that have more
+wide 16
+0
+>> Limit
+Limit L2";
+
+// The files of a site: the word that says what it has, and a number or a text.
+fn files_of(alloc: Global, word: &str, rest: &str) -> Result<Vec<(Text, Vec<u8>)>, Memory> {
+    let (many, _) = counted(rest);
+    if word == "steps" {
+        return entry(alloc, million_steps(alloc, rest));
     }
+    if word == "prints" {
+        return entry(alloc, long_prints(alloc, many));
+    }
+    if word == "spaces" {
+        return entry(alloc, spaces(alloc, many));
+    }
+    if word == "wide" {
+        return wide_site(alloc, many);
+    }
+    many_calls(alloc, many)
 }
 
-// All that is written.
-fn output_of(alloc: Global, row: &Run) -> Result<String, Memory> {
-    let mut output = long_lines(alloc, row.long_lines)?;
-    output.push_str(row.output)?;
+// All that is written: so many long lines, and these.
+fn output_of(alloc: Global, long: u64, lines: Option<&str>) -> Result<String, Memory> {
+    let mut output = long_lines(alloc, long)?;
+    if let Some(lines) = lines {
+        output.push_str(lines)?;
+        output.push_str("\n")?;
+    }
     Ok(output)
 }
 
-// Whether the run comes to what its row says.
-fn holds<R: Threads + Wait + Sync>(rt: &R, alloc: Global, row: &Run) -> Result<bool, Memory> {
-    let output = output_of(alloc, row)?;
-    match files_of(alloc, row.kind) {
-        Ok(files) => ends_so(rt, alloc, files, output.as_str(), row.status),
+// Whether the run of a site ends as it says.
+fn holds<R: Threads + Wait + Sync>(rt: &R, alloc: Global, row: &str) -> Result<bool, Memory> {
+    let (long, _) = counted(row.lines().nth(2).unwrap_or(""));
+    let end = wanted_of(row);
+    let output = output_of(alloc, long, end.lines)?;
+    let wanted = Wanted {
+        status: end.status,
+        lines: output.as_str().strip_suffix('\n'),
+    };
+    let what = row.lines().nth(1).unwrap_or("");
+    let (word, rest) = what.split_once(' ').unwrap_or((what, ""));
+    match files_of(alloc, word, rest) {
+        Ok(files) => ends_so(rt, alloc, files, wanted),
         Err(Memory) => Err(Memory),
     }
 }
 
-// Whether a site that just reaches a limit runs, and one that passes it is stopped.
-fn hold<R: Threads + Wait + Sync>(rt: &R, alloc: Global, rows: &[Run]) -> Result<bool, Memory> {
-    for row in rows {
+// The name of the first of these sites that ends otherwise, if there is one.
+fn wrong_site<R: Threads + Wait + Sync>(
+    rt: &R,
+    alloc: Global,
+    sites: &'static str,
+) -> Result<Option<&'static str>, Memory> {
+    for row in sites.split("\n\n== ") {
         if !holds(rt, alloc, row)? {
-            return Ok(false);
+            return Ok(Some(title(row)));
         }
     }
-    Ok(true)
+    Ok(None)
 }
 
-const STEPS: &[Run] = &[
-    Run {
-        kind: Kind::MillionSteps(""),
-        long_lines: 0,
-        output: "",
-        status: Status::Fulfilled,
-    },
-    Run {
-        kind: Kind::MillionSteps(";"),
-        long_lines: 0,
-        output: "Limit L3\n",
-        status: Status::Limit,
-    },
-];
-
 #[test]
-fn a_million_steps_are_allowed(rt: HostRuntime) -> Result<(), Memory> {
-    assert!(rt; hold(&rt, rt.alloc(), STEPS)?);
-    Ok(())
-}
-
-const LINES: &[Run] = &[
-    Run {
-        kind: Kind::LongPrints(255),
-        long_lines: 255,
-        output: "",
-        status: Status::Fulfilled,
-    },
-    Run {
-        kind: Kind::LongPrints(256),
-        long_lines: 255,
-        output: "Limit L5\n",
-        status: Status::Limit,
-    },
-];
-
-#[test]
-fn a_line_that_would_pass_the_limit_of_the_log_is_not_written(
-    rt: HostRuntime,
-) -> Result<(), Memory> {
-    assert!(rt; hold(&rt, rt.alloc(), LINES)?);
-    Ok(())
-}
-
-const LONG_TEXTS: &[Run] = &[
-    Run {
-        kind: Kind::Spaces(1_048_576),
-        long_lines: 0,
-        output: "",
-        status: Status::Fulfilled,
-    },
-    Run {
-        kind: Kind::Spaces(1_048_577),
-        long_lines: 0,
-        output: "Uncaught SyntaxError: https://a.test/main.js: P6 too long\n",
-        status: Status::EntryFailed,
-    },
-];
-
-#[test]
-fn a_text_may_be_1048576_bytes_long(rt: HostRuntime) -> Result<(), Memory> {
-    assert!(rt; hold(&rt, rt.alloc(), LONG_TEXTS)?);
-    Ok(())
-}
-
-const WIDE_SITES: &[Run] = &[
-    Run {
-        kind: Kind::WideSite(15),
-        long_lines: 0,
-        output: "",
-        status: Status::Fulfilled,
-    },
-    Run {
-        kind: Kind::WideSite(16),
-        long_lines: 0,
-        output: "Limit L2\n",
-        status: Status::Limit,
-    },
-];
-
-#[test]
-fn fetched_texts_may_have_16777216_bytes_together(rt: HostRuntime) -> Result<(), Memory> {
-    assert!(rt; hold(&rt, rt.alloc(), WIDE_SITES)?);
-    Ok(())
-}
-
-const MANY_CALLS: &[Run] = &[
-    Run {
-        kind: Kind::Calls(4096),
-        long_lines: 0,
-        output: "",
-        status: Status::Fulfilled,
-    },
-    Run {
-        kind: Kind::Calls(4097),
-        long_lines: 0,
-        output: "Limit L4\n",
-        status: Status::Limit,
-    },
-];
-
-#[test]
-fn a_file_may_be_imported_by_4096_calls(rt: HostRuntime) -> Result<(), Memory> {
-    assert!(rt; hold(&rt, rt.alloc(), MANY_CALLS)?);
+fn limits_are_reached_and_not_passed(rt: HostRuntime) -> Result<(), Memory> {
+    assert_eq!(rt; wrong_site(&rt, rt.alloc(), SITES)?, None);
     Ok(())
 }
 
 #[test]
-fn a_text_that_is_not_utf8_is_refused(rt: HostRuntime) -> Result<(), Memory> {
-    let files = files(rt.alloc(), ENTRY, Some(b"\xff"))?;
-    let line = "Uncaught SyntaxError: https://a.test/main.js: P1 not UTF-8\n";
-    assert!(rt; ends_so(&rt, rt.alloc(), files, line, Status::EntryFailed)?);
+fn limits_of_bytes_are_reached_and_not_passed(rt: HostRuntime) -> Result<(), Memory> {
+    assert_eq!(rt; wrong_site(&rt, rt.alloc(), LARGE_SITES)?, None);
     Ok(())
 }
 
-const CUT_SHORT: &[&str] = &[
-    "{",
-    "{{",
-    "{{{",
-    "{{{\"",
-    "{{{\"a",
-    "{{{\"a\"",
-    "{{{\"a\"}",
-    "{{{\"a\"}}",
-];
+// A text that is no UTF-8.
+fn is_byte_refused<R: Threads + Wait + Sync>(rt: &R, alloc: Global) -> Result<bool, Memory> {
+    let end = "EntryFailed\nUncaught SyntaxError: https://a.test/main.js: P1 not UTF-8";
+    let files = files(alloc, ENTRY, Some(b"\xff"))?;
+    ends_so(rt, alloc, files, ending(end))
+}
 
-#[test]
-fn a_text_that_is_cut_short_is_refused(rt: HostRuntime) -> Result<(), Memory> {
-    let line = "Uncaught SyntaxError: https://a.test/main.js: P2 no module text\n";
-    for text in CUT_SHORT {
-        let refused = text_ends_so(&rt, rt.alloc(), text, line, Status::EntryFailed)?;
-        assert!(rt; refused, "{text}");
+// Texts that are cut short.
+const CUT_SHORT: &str = r#"{
+{{
+{{{
+{{{"
+{{{"a
+{{{"a"
+{{{"a"}
+{{{"a"}}"#;
+
+// The first of them that isn't refused, if there is one.
+fn unrefused<R: Threads + Wait + Sync>(
+    rt: &R,
+    alloc: Global,
+) -> Result<Option<&'static str>, Memory> {
+    let end = "EntryFailed\nUncaught SyntaxError: https://a.test/main.js: P2 no module text";
+    for text in CUT_SHORT.lines() {
+        if !text_ends_so(rt, alloc, text, ending(end))? {
+            return Ok(Some(text));
+        }
     }
+    Ok(None)
+}
+
+#[test]
+fn texts_that_are_no_modules_are_refused(rt: HostRuntime) -> Result<(), Memory> {
+    assert!(rt; is_byte_refused(&rt, rt.alloc())?);
+    assert_eq!(rt; unrefused(&rt, rt.alloc())?, None);
+    assert!(rt; CUT_SHORT.lines().count() == 8);
     Ok(())
 }

@@ -1,279 +1,200 @@
 // Worked bodies that take as many steps as they may, and one more.
-use crate::running::{push_times, text_ends_so};
-use esm_base::{Memory, Status};
+//
+// A table has its forms with an empty line between them. Below the name of a form stand how many steps what comes before it
+// takes, and that; and on the next line how many it takes, and its text. Then comes how a run ends in which just so many steps
+// are left, and how one ends in which there is one fewer.
+use crate::running::{counted, push_times, text_ends_so};
+use esm_base::Memory;
+use esm_sites::{ending, title, wanted_of};
 use std::alloc::Global;
 use std::marker::Sync;
 use std::sync::Wait;
 use std::thread::Threads;
 
-/// A form behind which just no step is left, or for which one is missing.
-struct Form {
-    name: &'static str,
-    /// Statements before it, and the steps that they take.
-    before: (&'static str, u64),
-    text: &'static str,
-    /// How many steps it takes.
-    steps: u64,
-    /// What is written, and the status, where they are there.
-    output: &'static str,
-    status: Status,
-    /// What it writes where the last of them is missing.
-    short: &'static str,
-}
-
 const MAX_STEPS: u64 = 1_000_000;
 
-const BLOCKS: &[Form] = &[
-    Form {
-        name: "the empty statement",
-        before: ("", 0),
-        text: ";",
-        steps: 1,
-        output: "",
-        status: Status::Fulfilled,
-        short: "",
-    },
-    Form {
-        name: "a block",
-        before: ("", 0),
-        text: "{}",
-        steps: 1,
-        output: "",
-        status: Status::Fulfilled,
-        short: "",
-    },
-    Form {
-        name: "a block with a statement",
-        before: ("", 0),
-        text: "{;}",
-        steps: 2,
-        output: "",
-        status: Status::Fulfilled,
-        short: "",
-    },
-];
+// Blocks, declarations and branches.
+const STATEMENTS: &str = r#"== the empty statement
+0
+1 ;
+>> Fulfilled
+>> Limit
+Limit L3
 
-const DECLARATIONS: &[Form] = &[
-    Form {
-        name: "a const",
-        before: ("", 0),
-        text: r#"const a = "1";"#,
-        steps: 1,
-        output: "",
-        status: Status::Fulfilled,
-        short: "",
-    },
-    Form {
-        name: "a let without a value",
-        before: ("", 0),
-        text: "let a;",
-        steps: 1,
-        output: "",
-        status: Status::Fulfilled,
-        short: "",
-    },
-    Form {
-        name: "a write",
-        before: ("let a;", 1),
-        text: r#"a = "1";"#,
-        steps: 1,
-        output: "",
-        status: Status::Fulfilled,
-        short: "",
-    },
-];
+== a block
+0
+1 {}
+>> Fulfilled
+>> Limit
+Limit L3
 
-const BRANCHES: &[Form] = &[
-    Form {
-        name: "if",
-        before: ("", 0),
-        text: "if (true) {}",
-        steps: 1,
-        output: "",
-        status: Status::Fulfilled,
-        short: "",
-    },
-    Form {
-        name: "if with a statement",
-        before: ("", 0),
-        text: "if (true) {;}",
-        steps: 2,
-        output: "",
-        status: Status::Fulfilled,
-        short: "",
-    },
-    Form {
-        name: "else with a statement",
-        before: ("", 0),
-        text: "if (false) {} else {;}",
-        steps: 2,
-        output: "",
-        status: Status::Fulfilled,
-        short: "",
-    },
-];
+== a block with a statement
+0
+2 {;}
+>> Fulfilled
+>> Limit
+Limit L3
 
-const HANDLERS: &[Form] = &[
-    Form {
-        name: "try",
-        before: ("", 0),
-        text: "try {} catch {}",
-        steps: 1,
-        output: "",
-        status: Status::Fulfilled,
-        short: "",
-    },
-    Form {
-        name: "catch",
-        before: ("", 0),
-        text: r#"try { throw "a"; } catch (e) {;}"#,
-        steps: 3,
-        output: "",
-        status: Status::Fulfilled,
-        short: "",
-    },
-    Form {
-        name: "a limit is no throw",
-        before: ("", 0),
-        text: r#"try { ; } catch { print("no"); }"#,
-        steps: 2,
-        output: "",
-        status: Status::Fulfilled,
-        short: "",
-    },
-];
+== a const
+0
+1 const a = "1";
+>> Fulfilled
+>> Limit
+Limit L3
 
-const VALUES: &[Form] = &[
-    Form {
-        name: "an expression",
-        before: ("", 0),
-        text: r#""a" === "b" || true;"#,
-        steps: 1,
-        output: "",
-        status: Status::Fulfilled,
-        short: "",
-    },
-    Form {
-        name: "new Error",
-        before: ("", 0),
-        text: r#"new Error("a");"#,
-        steps: 2,
-        output: "",
-        status: Status::Fulfilled,
-        short: "",
-    },
-    Form {
-        name: "a throw that nobody takes",
-        before: ("", 0),
-        text: r#"throw "a";"#,
-        steps: 1,
-        output: "Uncaught a\n",
-        status: Status::EntryFailed,
-        short: "",
-    },
-];
+== a let without a value
+0
+1 let a;
+>> Fulfilled
+>> Limit
+Limit L3
 
-const PRINTS: &[Form] = &[
-    Form {
-        name: "a print",
-        before: ("", 0),
-        text: r#"print("a");"#,
-        steps: 2,
-        output: "a\n",
-        status: Status::Fulfilled,
-        short: "",
-    },
-    Form {
-        name: "two prints",
-        before: ("", 0),
-        text: r#"print("a"); print("b");"#,
-        steps: 4,
-        output: "a\nb\n",
-        status: Status::Fulfilled,
-        short: "a\n",
-    },
-];
+== a write
+1 let a;
+1 a = "1";
+>> Fulfilled
+>> Limit
+Limit L3
 
-const CALLS: &[Form] = &[
-    Form {
-        name: "a call",
-        before: ("function g(){}", 0),
-        text: "g();",
-        steps: 2,
-        output: "",
-        status: Status::Fulfilled,
-        short: "",
-    },
-    Form {
-        name: "a call with a return",
-        before: ("function g(){return;}", 0),
-        text: "g();",
-        steps: 3,
-        output: "",
-        status: Status::Fulfilled,
-        short: "",
-    },
-];
+== if
+0
+1 if (true) {}
+>> Fulfilled
+>> Limit
+Limit L3
 
-const EXPORTS: &[Form] = &[
-    Form {
-        name: "export of a const",
-        before: ("", 0),
-        text: r#"export const a = "1";"#,
-        steps: 1,
-        output: "",
-        status: Status::Fulfilled,
-        short: "",
-    },
-    Form {
-        name: "export default of a text",
-        before: ("", 0),
-        text: r#"export default "1";"#,
-        steps: 1,
-        output: "",
-        status: Status::Fulfilled,
-        short: "",
-    },
-    Form {
-        name: "export of a list",
-        before: ("", 0),
-        text: r#"const a = "1"; export {a};"#,
-        steps: 1,
-        output: "",
-        status: Status::Fulfilled,
-        short: "",
-    },
-];
+== if with a statement
+0
+2 if (true) {;}
+>> Fulfilled
+>> Limit
+Limit L3
 
-const JOINS: &[Form] = &[
-    Form {
-        name: "a concatenation of 63 bytes",
-        before: ("", 0),
-        text: r#""aaaaaaaaaaaaaaaaaaaaaaaaaaaaaaaaaaaaaaaaaaaaaaaaaaaaaaaaaaaaaa" + "b";"#,
-        steps: 1,
-        output: "",
-        status: Status::Fulfilled,
-        short: "",
-    },
-    Form {
-        name: "a concatenation of 64 bytes",
-        before: ("", 0),
-        text: r#""aaaaaaaaaaaaaaaaaaaaaaaaaaaaaaaaaaaaaaaaaaaaaaaaaaaaaaaaaaaaaaa" + "b";"#,
-        steps: 2,
-        output: "",
-        status: Status::Fulfilled,
-        short: "",
-    },
-    Form {
-        name: "a concatenation of 128 bytes",
-        before: ("", 0),
-        text: r#""aaaaaaaaaaaaaaaaaaaaaaaaaaaaaaaaaaaaaaaaaaaaaaaaaaaaaaaaaaaaaaaaaaaaaaaaaaaaaaaaaaaaaaaaaaaaaaaaaaaaaaaaaaaaaaaaaaaaaaaaaaaaaaa" + "b";"#,
-        steps: 3,
-        output: "",
-        status: Status::Fulfilled,
-        short: "",
-    },
-];
+== else with a statement
+0
+2 if (false) {} else {;}
+>> Fulfilled
+>> Limit
+Limit L3"#;
+
+// Handlers, values and prints.
+const VALUES: &str = r#"== try
+0
+1 try {} catch {}
+>> Fulfilled
+>> Limit
+Limit L3
+
+== catch
+0
+3 try { throw "a"; } catch (e) {;}
+>> Fulfilled
+>> Limit
+Limit L3
+
+== a limit is no throw
+0
+2 try { ; } catch { print("no"); }
+>> Fulfilled
+>> Limit
+Limit L3
+
+== an expression
+0
+1 "a" === "b" || true;
+>> Fulfilled
+>> Limit
+Limit L3
+
+== new Error
+0
+2 new Error("a");
+>> Fulfilled
+>> Limit
+Limit L3
+
+== a throw that nobody takes
+0
+1 throw "a";
+>> EntryFailed
+Uncaught a
+>> Limit
+Limit L3
+
+== a print
+0
+2 print("a");
+>> Fulfilled
+a
+>> Limit
+Limit L3
+
+== two prints
+0
+4 print("a"); print("b");
+>> Fulfilled
+a
+b
+>> Limit
+a
+Limit L3"#;
+
+// Calls, exports, and texts that are joined.
+const CALLS: &str = r#"== a call
+0 function g(){}
+2 g();
+>> Fulfilled
+>> Limit
+Limit L3
+
+== a call with a return
+0 function g(){return;}
+3 g();
+>> Fulfilled
+>> Limit
+Limit L3
+
+== export of a const
+0
+1 export const a = "1";
+>> Fulfilled
+>> Limit
+Limit L3
+
+== export default of a text
+0
+1 export default "1";
+>> Fulfilled
+>> Limit
+Limit L3
+
+== export of a list
+0
+1 const a = "1"; export {a};
+>> Fulfilled
+>> Limit
+Limit L3
+
+== a concatenation of 63 bytes
+0
+1 "aaaaaaaaaaaaaaaaaaaaaaaaaaaaaaaaaaaaaaaaaaaaaaaaaaaaaaaaaaaaaa" + "b";
+>> Fulfilled
+>> Limit
+Limit L3
+
+== a concatenation of 64 bytes
+0
+2 "aaaaaaaaaaaaaaaaaaaaaaaaaaaaaaaaaaaaaaaaaaaaaaaaaaaaaaaaaaaaaaa" + "b";
+>> Fulfilled
+>> Limit
+Limit L3
+
+== a concatenation of 128 bytes
+0
+3 "aaaaaaaaaaaaaaaaaaaaaaaaaaaaaaaaaaaaaaaaaaaaaaaaaaaaaaaaaaaaaaaaaaaaaaaaaaaaaaaaaaaaaaaaaaaaaaaaaaaaaaaaaaaaaaaaaaaaaaaaaaaaaaa" + "b";
+>> Fulfilled
+>> Limit
+Limit L3"#;
 
 // Functions whose calls, as statements, take 100, 1,000, 10,000 and 100,000 steps.
 fn push_functions(text: &mut String) -> Result<(), Memory> {
@@ -305,115 +226,71 @@ fn push_steps(text: &mut String, many: u64) -> Result<(), Memory> {
     Ok(())
 }
 
-// A body that has taken so many steps before the form.
-fn body_of(alloc: Global, form: &Form, taken: u64) -> Result<String, Memory> {
+// A body that has taken so many steps when a form begins that just so many are missing.
+fn body_of(alloc: Global, form: &str, missing: u64) -> Result<String, Memory> {
+    let (steps_before, before) = counted(form.lines().nth(1).unwrap_or(""));
+    let (steps, rest) = counted(form.lines().nth(2).unwrap_or(""));
+    let taken = MAX_STEPS.wrapping_sub(steps).wrapping_add(missing);
     let mut text = String::new(alloc);
     push_functions(&mut text)?;
-    text.push_str(form.before.0)?;
-    push_steps(&mut text, taken.wrapping_sub(form.before.1))?;
-    text.push_str(form.text)?;
+    text.push_str(before)?;
+    push_steps(&mut text, taken.wrapping_sub(steps_before))?;
+    text.push_str(rest)?;
     Ok(text)
 }
 
-// Whether the form, with so many steps taken before it, writes this text and ends so.
+// Whether the run in which so many steps are missing ends so.
 fn form_ends_so<R: Threads + Wait + Sync>(
     rt: &R,
     alloc: Global,
-    form: &Form,
-    taken: u64,
-    output: &str,
-    status: Status,
+    form: &str,
+    missing: u64,
+    end: &str,
 ) -> Result<bool, Memory> {
-    let body = body_of(alloc, form, taken)?;
-    text_ends_so(rt, alloc, body.as_str(), output, status)
+    let body = body_of(alloc, form, missing)?;
+    text_ends_so(rt, alloc, body.as_str(), ending(end))
 }
 
 // Whether the form runs with just as many steps left as it takes, and meets the limit with one fewer.
 fn takes_its_steps<R: Threads + Wait + Sync>(
     rt: &R,
     alloc: Global,
-    form: &Form,
+    form: &str,
 ) -> Result<bool, Memory> {
-    let most = MAX_STEPS.wrapping_sub(form.steps);
-    if !form_ends_so(rt, alloc, form, most, form.output, form.status)? {
-        return Ok(false);
-    }
-    let short = format!(in alloc; "{}Limit L3\n", form.short)?;
-    form_ends_so(
-        rt,
-        alloc,
-        form,
-        most.wrapping_add(1),
-        short.as_str(),
-        Status::Limit,
-    )
+    let whole = form.split("\n>> ").nth(1).unwrap_or("");
+    let short = form.split("\n>> ").nth(2).unwrap_or("");
+    Ok(form_ends_so(rt, alloc, form, 0, whole)? && form_ends_so(rt, alloc, form, 1, short)?)
 }
 
-// The first of these forms of which that doesn't hold.
-fn first_wrong<R: Threads + Wait + Sync>(
+// The name of the first of these forms of which that doesn't hold, if there is one.
+fn wrong_form<R: Threads + Wait + Sync>(
     rt: &R,
     alloc: Global,
-    forms: &[Form],
+    forms: &'static str,
 ) -> Result<Option<&'static str>, Memory> {
-    for form in forms {
+    for form in forms.split("\n\n== ") {
         if !takes_its_steps(rt, alloc, form)? {
-            return Ok(Some(form.name));
+            return Ok(Some(title(form)));
         }
     }
     Ok(None)
 }
 
 #[test]
-fn blocks_take_their_steps_and_no_more(rt: HostRuntime) -> Result<(), Memory> {
-    assert_eq!(rt; first_wrong(&rt, rt.alloc(), BLOCKS)?, None);
-    Ok(())
-}
-
-#[test]
-fn declarations_take_their_steps_and_no_more(rt: HostRuntime) -> Result<(), Memory> {
-    assert_eq!(rt; first_wrong(&rt, rt.alloc(), DECLARATIONS)?, None);
-    Ok(())
-}
-
-#[test]
-fn branches_take_their_steps_and_no_more(rt: HostRuntime) -> Result<(), Memory> {
-    assert_eq!(rt; first_wrong(&rt, rt.alloc(), BRANCHES)?, None);
-    Ok(())
-}
-
-#[test]
-fn handlers_take_their_steps_and_no_more(rt: HostRuntime) -> Result<(), Memory> {
-    assert_eq!(rt; first_wrong(&rt, rt.alloc(), HANDLERS)?, None);
+fn statements_take_their_steps_and_no_more(rt: HostRuntime) -> Result<(), Memory> {
+    assert_eq!(rt; wrong_form(&rt, rt.alloc(), STATEMENTS)?, None);
     Ok(())
 }
 
 #[test]
 fn values_take_their_steps_and_no_more(rt: HostRuntime) -> Result<(), Memory> {
-    assert_eq!(rt; first_wrong(&rt, rt.alloc(), VALUES)?, None);
-    Ok(())
-}
-
-#[test]
-fn prints_take_their_steps_and_no_more(rt: HostRuntime) -> Result<(), Memory> {
-    assert_eq!(rt; first_wrong(&rt, rt.alloc(), PRINTS)?, None);
+    assert_eq!(rt; wrong_form(&rt, rt.alloc(), VALUES)?, None);
     Ok(())
 }
 
 #[test]
 fn calls_take_their_steps_and_no_more(rt: HostRuntime) -> Result<(), Memory> {
-    assert_eq!(rt; first_wrong(&rt, rt.alloc(), CALLS)?, None);
-    Ok(())
-}
-
-#[test]
-fn exports_take_their_steps_and_no_more(rt: HostRuntime) -> Result<(), Memory> {
-    assert_eq!(rt; first_wrong(&rt, rt.alloc(), EXPORTS)?, None);
-    Ok(())
-}
-
-#[test]
-fn joins_take_their_steps_and_no_more(rt: HostRuntime) -> Result<(), Memory> {
-    assert_eq!(rt; first_wrong(&rt, rt.alloc(), JOINS)?, None);
+    assert_eq!(rt; wrong_form(&rt, rt.alloc(), CALLS)?, None);
     Ok(())
 }
 
@@ -432,31 +309,53 @@ fn body_of_imports(alloc: Global, before: &str, many: u64) -> Result<String, Mem
     Ok(text)
 }
 
-// Whether a run over such a body writes this text, and ends so.
+// How often `import()` is called behind a text, and how the run ends: 4,096 calls are allowed.
+const IMPORTS: &str = r#"== as many calls as there may be
+4096
+>> Fulfilled
+m
+
+== one more
+4097
+>> Limit
+Limit L4
+
+== a value that is no text isn't counted
+4096 import(c1);
+>> Fulfilled
+m
+
+== a specifier that isn't mapped is
+4096 import("x");
+>> Limit
+Limit L4"#;
+
+// Whether a run with so many calls ends as the row says.
 fn imports_end_so<R: Threads + Wait + Sync>(
     rt: &R,
     alloc: Global,
-    before: &str,
-    many: u64,
-    output: &str,
-    status: Status,
+    row: &str,
 ) -> Result<bool, Memory> {
+    let (many, before) = counted(row.lines().nth(1).unwrap_or(""));
     let body = body_of_imports(alloc, before, many)?;
-    text_ends_so(rt, alloc, body.as_str(), output, status)
+    text_ends_so(rt, alloc, body.as_str(), wanted_of(row))
+}
+
+// The name of the first row of `IMPORTS` that ends otherwise, if there is one.
+fn wrong_imports<R: Threads + Wait + Sync>(
+    rt: &R,
+    alloc: Global,
+) -> Result<Option<&'static str>, Memory> {
+    for row in IMPORTS.split("\n\n== ") {
+        if !imports_end_so(rt, alloc, row)? {
+            return Ok(Some(title(row)));
+        }
+    }
+    Ok(None)
 }
 
 #[test]
 fn import_may_be_called_4096_times(rt: HostRuntime) -> Result<(), Memory> {
-    for (before, many, output, status) in [
-        ("", 4096, "m\n", Status::Fulfilled),
-        ("", 4097, "Limit L4\n", Status::Limit),
-        // a value that is no text isn't counted
-        ("import(c1);", 4096, "m\n", Status::Fulfilled),
-        // a specifier that isn't mapped is
-        ("import(\"x\");", 4096, "Limit L4\n", Status::Limit),
-    ] {
-        let holds = imports_end_so(&rt, rt.alloc(), before, many, output, status)?;
-        assert!(rt; holds, "{before} {many}");
-    }
+    assert_eq!(rt; wrong_imports(&rt, rt.alloc())?, None);
     Ok(())
 }

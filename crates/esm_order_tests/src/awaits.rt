@@ -1,10 +1,6 @@
 // Worked graphs of modules that await.
-use crate::orders::{Wrong, first_wrong_order};
+use crate::orders::{Table, first_wrong_order};
 use esm_base::Memory;
-use std::alloc::Global;
-use std::marker::Sync;
-use std::sync::Wait;
-use std::thread::Threads;
 
 /// Bodies that await, and diamonds.
 const AWAITS: &str = r#"== a body that awaits
@@ -752,42 +748,17 @@ import {x, set} from "./a.js"; print(x); await undefined; set("2"); print(x);
 2
 2"#;
 
-fn dependencies_await<R: Threads + Wait + Sync>(rt: &R, alloc: Global) -> Wrong {
-    first_wrong_order(rt, alloc, AWAITS, 29)
-}
-
-fn chains_await<R: Threads + Wait + Sync>(rt: &R, alloc: Global) -> Wrong {
-    first_wrong_order(rt, alloc, CHAINS, 40)
-}
-
-fn cycles_await<R: Threads + Wait + Sync>(rt: &R, alloc: Global) -> Wrong {
-    first_wrong_order(rt, alloc, CYCLES, 21)
-}
-
-fn rejections_reach_importers<R: Threads + Wait + Sync>(rt: &R, alloc: Global) -> Wrong {
-    first_wrong_order(rt, alloc, REJECTIONS, 21)
-}
-
-fn rejections_reach_cycles<R: Threads + Wait + Sync>(rt: &R, alloc: Global) -> Wrong {
-    first_wrong_order(rt, alloc, CYCLE_THROWS, 7)
-}
-
-fn values_are_awaited<R: Threads + Wait + Sync>(rt: &R, alloc: Global) -> Wrong {
-    first_wrong_order(rt, alloc, AWAITED, 10)
-}
+const TABLES: &[Table] = &[
+    (AWAITS, 29),
+    (CHAINS, 40),
+    (CYCLES, 21),
+    (REJECTIONS, 21),
+    (CYCLE_THROWS, 7),
+    (AWAITED, 10),
+];
 
 #[test]
 fn graphs_await(rt: HostRuntime) -> Result<(), Memory> {
-    let alloc = rt.alloc();
-    for wrong in [
-        dependencies_await(&rt, alloc)?,
-        chains_await(&rt, alloc)?,
-        cycles_await(&rt, alloc)?,
-        rejections_reach_importers(&rt, alloc)?,
-        rejections_reach_cycles(&rt, alloc)?,
-        values_are_awaited(&rt, alloc)?,
-    ] {
-        assert_eq!(rt; wrong, None);
-    }
+    assert_eq!(rt; first_wrong_order(&rt, rt.alloc(), TABLES)?, None);
     Ok(())
 }

@@ -1,10 +1,6 @@
 // Worked sites with `import()`.
-use crate::orders::{Wrong, first_wrong_order};
+use crate::orders::{Table, first_wrong_order};
 use esm_base::Memory;
-use std::alloc::Global;
-use std::marker::Sync;
-use std::sync::Wait;
-use std::thread::Threads;
 
 /// Modules that load, or are there.
 const LOADS: &str = r#"== a module that nobody has asked for
@@ -530,47 +526,18 @@ b
 TypeError: cannot fetch https://a.test/no.js
 m"#;
 
-fn modules_are_imported<R: Threads + Wait + Sync>(rt: &R, alloc: Global) -> Wrong {
-    first_wrong_order(rt, alloc, LOADS, 9)
-}
-
-fn modules_wait_for_themselves<R: Threads + Wait + Sync>(rt: &R, alloc: Global) -> Wrong {
-    first_wrong_order(rt, alloc, CIRCLES, 5)
-}
-
-fn imports_fail<R: Threads + Wait + Sync>(rt: &R, alloc: Global) -> Wrong {
-    first_wrong_order(rt, alloc, MISSING, 10)
-}
-
-fn evaluation_fails<R: Threads + Wait + Sync>(rt: &R, alloc: Global) -> Wrong {
-    first_wrong_order(rt, alloc, FAILURES, 14)
-}
-
-fn loads_go_side_by_side<R: Threads + Wait + Sync>(rt: &R, alloc: Global) -> Wrong {
-    first_wrong_order(rt, alloc, SIDE_BY_SIDE, 6)
-}
-
-fn promises_are_values<R: Threads + Wait + Sync>(rt: &R, alloc: Global) -> Wrong {
-    first_wrong_order(rt, alloc, PROMISES, 8)
-}
-
-fn imports_reach_further<R: Threads + Wait + Sync>(rt: &R, alloc: Global) -> Wrong {
-    first_wrong_order(rt, alloc, REACHES, 4)
-}
+const TABLES: &[Table] = &[
+    (LOADS, 9),
+    (CIRCLES, 5),
+    (MISSING, 10),
+    (FAILURES, 14),
+    (SIDE_BY_SIDE, 6),
+    (PROMISES, 8),
+    (REACHES, 4),
+];
 
 #[test]
 fn calls_import(rt: HostRuntime) -> Result<(), Memory> {
-    let alloc = rt.alloc();
-    for wrong in [
-        modules_are_imported(&rt, alloc)?,
-        modules_wait_for_themselves(&rt, alloc)?,
-        imports_fail(&rt, alloc)?,
-        evaluation_fails(&rt, alloc)?,
-        loads_go_side_by_side(&rt, alloc)?,
-        promises_are_values(&rt, alloc)?,
-        imports_reach_further(&rt, alloc)?,
-    ] {
-        assert_eq!(rt; wrong, None);
-    }
+    assert_eq!(rt; first_wrong_order(&rt, rt.alloc(), TABLES)?, None);
     Ok(())
 }

@@ -8,6 +8,4 @@ mod dynamic;
 #[cfg(test)]
 mod orders;
 #[cfg(test)]
-mod texts;
-#[cfg(test)]
 mod worked;

@@ -4,21 +4,22 @@ ghost use Rattle.esm_machine.specs.Machine.{state_of};
 ghost use Rattle.esm_machine.specs.Represents.{MayTake};
 
 use crate::dynamic::RACES;
-use crate::texts::{Wanted, ending, files_of, is_wanted, title, wanted_by, wanted_of};
 use esm_ast::Outcome;
 use esm_base::{Memory, Status, Text};
 use esm_import_map::ImportMap;
 use esm_machine::{Machine, TurnEnd};
 use esm_ports::{SureSink, SureSource};
 use esm_run::{Delivery, RunReport};
-use esm_sites::{Row, SITES, add_named, run_over, site};
+use esm_sites::{
+    SITES, Wanted, add_named, ending, files_of, is_wanted, run_over, title, wanted_of,
+};
 use std::alloc::Global;
 use std::marker::Sync;
 use std::sync::{Arc, Wait};
 use std::thread::Threads;
 
-// A machine under the empty import map.
-fn new_machine(alloc: Global) -> Result<Machine, Memory> {
+/// A machine under the empty import map that has asked for the entry.
+pub fn new_machine(alloc: Global) -> Result<Machine, Memory> {
     let map = Arc::new(alloc, ImportMap::empty(alloc))?;
     Machine::new(
         alloc,
@@ -192,30 +193,43 @@ fn orders_of<R: Threads + Wait + Sync>(
     orders_behind(alloc, wanted, &report, out.written())
 }
 
-/// The name of a site that doesn't run as its text says, if there is one. Each table is read in a function of its own, and one
-/// test goes through those of a file: what a test costs in a proof is the same for one call and for six.
-pub type Wrong = Result<Option<&'static str>, Memory>;
+/// A table of sites, and in how many orders the fetches of all may end, together.
+pub type Table = (&'static str, u64);
 
-/// The first of these sites that doesn't run as its text says, in each order in which its fetches may end. Together the
-/// sites have so many orders.
-pub fn first_wrong_order<R: Threads + Wait + Sync>(
+// The first of the sites of a table that doesn't run as its text says in each of its orders, if there is one; so much for
+// another number of orders.
+fn wrong_in<R: Threads + Wait + Sync>(
     rt: &R,
     alloc: Global,
-    table: &'static str,
-    orders: u64,
-) -> Wrong {
+    table: &Table,
+) -> Result<Option<&'static str>, Memory> {
     let mut counted = 0u64;
-    for site in table.split("\n\n== ") {
+    for site in table.0.split("\n\n== ") {
         match orders_of(rt, alloc, files_of(alloc, site)?, wanted_of(site))? {
             Some(more) => counted = counted.wrapping_add(more),
             None => return Ok(Some(title(site))),
         }
     }
-    if counted == orders {
+    if counted == table.1 {
         Ok(None)
     } else {
         Ok(Some("the number of orders"))
     }
+}
+
+/// The same of several tables.
+pub fn first_wrong_order<R: Threads + Wait + Sync>(
+    rt: &R,
+    alloc: Global,
+    tables: &[Table],
+) -> Result<Option<&'static str>, Memory> {
+    for table in tables {
+        let wrong = wrong_in(rt, alloc, table)?;
+        if wrong.is_some() {
+            return Ok(wrong);
+        }
+    }
+    Ok(None)
 }
 
 /// A site that writes another text where its fetches end in another order.
@@ -230,13 +244,6 @@ print("B");
 A
 B"#;
 
-#[test]
-fn a_site_whose_orders_differ_is_found(rt: HostRuntime) -> Result<(), Memory> {
-    let found = first_wrong_order(&rt, rt.alloc(), UNORDERED, 2)?;
-    assert_eq!(rt; found, Some("two files that nothing else imports"));
-    Ok(())
-}
-
 /// A site that writes the same in its one order.
 const ORDERED: &str = r#"== one file
 -- main.js
@@ -244,34 +251,19 @@ print("A");
 >> Fulfilled
 A"#;
 
-#[test]
-fn orders_are_counted(rt: HostRuntime) -> Result<(), Memory> {
-    assert_eq!(rt; first_wrong_order(&rt, rt.alloc(), ORDERED, 1)?, None);
-    let found = first_wrong_order(&rt, rt.alloc(), ORDERED, 2)?;
-    assert_eq!(rt; found, Some("the number of orders"));
-    Ok(())
-}
-
-// In how many orders the fetches of these sites may end, together. The first that doesn't end as its row says counts for
-// a thousand.
-fn orders_of_rows<R: Threads + Wait + Sync>(
-    rt: &R,
-    alloc: Global,
-    rows: &[Row],
-) -> Result<u64, Memory> {
-    let mut counted = 0u64;
-    for row in rows {
-        match orders_of(rt, alloc, site(alloc, row.files)?, wanted_by(row))? {
-            Some(more) => counted = counted.wrapping_add(more),
-            None => return Ok(1000),
-        }
-    }
-    Ok(counted)
+// Whether a site whose orders differ is found, and another number of orders, and nothing else.
+fn wrong_are_found<R: Threads + Wait + Sync>(rt: &R, alloc: Global) -> Result<bool, Memory> {
+    Ok(
+        first_wrong_order(rt, alloc, &[(UNORDERED, 2)])?
+            == Some("two files that nothing else imports")
+            && first_wrong_order(rt, alloc, &[(ORDERED, 1)])?.is_none()
+            && first_wrong_order(rt, alloc, &[(ORDERED, 2)])? == Some("the number of orders"),
+    )
 }
 
 #[test]
-fn sites_run_the_same_in_every_order(rt: HostRuntime) -> Result<(), Memory> {
-    assert_eq!(rt; orders_of_rows(&rt, rt.alloc(), SITES)?, 17);
+fn orders_that_differ_are_found(rt: HostRuntime) -> Result<(), Memory> {
+    assert!(rt; wrong_are_found(&rt, rt.alloc())?);
     Ok(())
 }
 
@@ -364,12 +356,6 @@ fn wrong_race<R: Threads + Wait + Sync>(
     Ok(None)
 }
 
-#[test]
-fn a_race_runs_as_its_order_says(rt: HostRuntime) -> Result<(), Memory> {
-    assert_eq!(rt; wrong_race(&rt, rt.alloc())?, None);
-    Ok(())
-}
-
 // Delivers the first open ask, then the one at this place, and then the one that is left. Whether the run ends just then,
 // and so.
 fn ends_behind(
@@ -410,8 +396,10 @@ fn is_first_named<R: Threads + Wait + Sync>(rt: &R, alloc: Global) -> Result<boo
     first_is_named(alloc, report.taken.as_slice())
 }
 
+// Each race runs as its order says, and of two missing files the one that is delivered first is named.
 #[test]
-fn the_missing_file_that_is_delivered_first_is_named(rt: HostRuntime) -> Result<(), Memory> {
+fn the_order_of_deliveries_decides(rt: HostRuntime) -> Result<(), Memory> {
+    assert_eq!(rt; wrong_race(&rt, rt.alloc())?, None);
     assert!(rt; is_first_named(&rt, rt.alloc())?);
     Ok(())
 }

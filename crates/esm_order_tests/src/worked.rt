@@ -1,10 +1,7 @@
 // Worked sites of each kind, each run in every order in which its fetches may end.
-use crate::orders::{Wrong, first_wrong_order};
+use crate::orders::{Table, first_wrong_order};
 use esm_base::Memory;
-use std::alloc::Global;
-use std::marker::Sync;
-use std::sync::Wait;
-use std::thread::Threads;
+use esm_sites::SITES;
 
 // Names that another module declares.
 const LIVE: &str = r#"== a live binding is read at that moment
@@ -378,58 +375,20 @@ print("A");
 m
 A"#;
 
-fn names_are_read_where_they_are_declared<R: Threads + Wait + Sync>(
-    rt: &R,
-    alloc: Global,
-) -> Wrong {
-    first_wrong_order(rt, alloc, LIVE, 3)
-}
-
-fn names_are_exported_by_other_modules<R: Threads + Wait + Sync>(rt: &R, alloc: Global) -> Wrong {
-    first_wrong_order(rt, alloc, STARS, 8)
-}
-
-fn namespaces_have_their_keys<R: Threads + Wait + Sync>(rt: &R, alloc: Global) -> Wrong {
-    first_wrong_order(rt, alloc, KEYS, 6)
-}
-
-fn small_bodies_run<R: Threads + Wait + Sync>(rt: &R, alloc: Global) -> Wrong {
-    first_wrong_order(rt, alloc, BODIES, 11)
-}
-
-fn characters_of_every_plane_are_read<R: Threads + Wait + Sync>(rt: &R, alloc: Global) -> Wrong {
-    first_wrong_order(rt, alloc, ESCAPED, 2)
-}
-
-fn texts_are_nested_64_deep_and_no_deeper<R: Threads + Wait + Sync>(
-    rt: &R,
-    alloc: Global,
-) -> Wrong {
-    first_wrong_order(rt, alloc, NESTED, 7)
-}
-
-fn modules_await<R: Threads + Wait + Sync>(rt: &R, alloc: Global) -> Wrong {
-    first_wrong_order(rt, alloc, WAITS, 24)
-}
-
-fn modules_are_imported_by_calls<R: Threads + Wait + Sync>(rt: &R, alloc: Global) -> Wrong {
-    first_wrong_order(rt, alloc, IMPORTS, 6)
-}
+const TABLES: &[Table] = &[
+    (SITES, 17),
+    (LIVE, 3),
+    (STARS, 8),
+    (KEYS, 6),
+    (BODIES, 11),
+    (ESCAPED, 2),
+    (NESTED, 7),
+    (WAITS, 24),
+    (IMPORTS, 6),
+];
 
 #[test]
 fn worked_sites_run(rt: HostRuntime) -> Result<(), Memory> {
-    let alloc = rt.alloc();
-    for wrong in [
-        names_are_read_where_they_are_declared(&rt, alloc)?,
-        names_are_exported_by_other_modules(&rt, alloc)?,
-        namespaces_have_their_keys(&rt, alloc)?,
-        small_bodies_run(&rt, alloc)?,
-        characters_of_every_plane_are_read(&rt, alloc)?,
-        texts_are_nested_64_deep_and_no_deeper(&rt, alloc)?,
-        modules_await(&rt, alloc)?,
-        modules_are_imported_by_calls(&rt, alloc)?,
-    ] {
-        assert_eq!(rt; wrong, None);
-    }
+    assert_eq!(rt; first_wrong_order(&rt, rt.alloc(), TABLES)?, None);
     Ok(())
 }

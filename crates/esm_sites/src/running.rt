@@ -1,8 +1,8 @@
 // Whole runs over sites in memory.
 ghost use Rattle.std.specs.Prelude.{◌≡◌, ◌<◌, ◌-◌, ◌^◌, [], All, IfOk};
 
-use crate::setup::{COMMAND, site, sure, words};
-use crate::sites::Row;
+use crate::setup::{COMMAND, sure, words};
+use crate::texts::{files_of, is_wanted, title, wanted_of};
 use esm_base::{Memory, Text};
 use esm_ports::{SureSink, SureSource};
 use esm_run::{RunReport, run};
@@ -25,18 +25,40 @@ pub fn run_over<R: Threads + Wait + Sync>(
     Ok(run(rt, alloc, &words, &mut desk, sources, out))
 }
 
-/// The first of these sites that doesn't run as its row says, if there is one.
+// Whether a site runs as its text says.
+fn is_run_so<R: Threads + Wait + Sync>(rt: &R, alloc: Global, site: &str) -> Result<bool, Memory> {
+    let files = files_of(alloc, site)?;
+    let mut out = SureSink::new(alloc);
+    match run_over(rt, alloc, files, &mut out) {
+        Ok(report) => Ok(is_wanted(wanted_of(site), report.status, out.written())),
+        Err(Memory) => Err(Memory),
+    }
+}
+
+// The name of the first site of a table that doesn't run as its text says, if there is one.
+fn wrong_in<R: Threads + Wait + Sync>(
+    rt: &R,
+    alloc: Global,
+    table: &'static str,
+) -> Result<Option<&'static str>, Memory> {
+    for site in table.split("\n\n== ") {
+        if !is_run_so(rt, alloc, site)? {
+            return Ok(Some(title(site)));
+        }
+    }
+    Ok(None)
+}
+
+/// The same of several tables.
 pub fn first_wrong<R: Threads + Wait + Sync>(
     rt: &R,
     alloc: Global,
-    rows: &[Row],
+    tables: &[&'static str],
 ) -> Result<Option<&'static str>, Memory> {
-    for row in rows {
-        let mut out = SureSink::new(alloc);
-        let report = run_over(rt, alloc, site(alloc, row.files)?, &mut out)?;
-        let holds = report.status == row.status && out.written() == row.output.as_bytes();
-        if !holds {
-            return Ok(Some(row.name));
+    for table in tables {
+        let wrong = wrong_in(rt, alloc, *table)?;
+        if wrong.is_some() {
+            return Ok(wrong);
         }
     }
     Ok(None)

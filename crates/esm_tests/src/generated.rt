@@ -1,59 +1,105 @@
 // Runs over generated input: a summary is written in place of the log, and neither desk nor sources are asked.
-use crate::told::{Ran, USAGE, is_cut, told_over};
-use esm_base::{Memory, Status};
+use crate::told::{is_cut, told_over, unrefused};
+use esm_base::Memory;
+use esm_sites::{title, wanted_of};
 use std::alloc::Global;
 use std::marker::Sync;
 use std::sync::Wait;
 use std::thread::Threads;
 
-const THREE: &str = "modules 3\nstarted 3\nlines 3\nstatus 0\n";
+// Words, and how their run ends: with a summary. The last run has as many modules as may be asked for.
+const SUMS: &str = "\
+== gen 1 1
+>> Fulfilled
+modules 1
+started 1
+lines 1
+status 0
 
-const MANY: &str = "modules 64\nstarted 64\nlines 64\nstatus 0\n";
+== gen 1 3
+>> Fulfilled
+modules 3
+started 3
+lines 3
+status 0
 
-// Words, how many modules are run, and the summary.
-const SUMS: &[(&str, usize, &str)] = &[
-    ("gen 1 1", 1, "modules 1\nstarted 1\nlines 1\nstatus 0\n"),
-    ("gen 1 3", 3, THREE),
-    ("gen --workers=2 1 3", 3, THREE),
-    ("gen 1 64", 64, MANY),
-    ("gen 1 64 --workers 1", 64, MANY),
-    ("gen 1 64 --workers 4", 64, MANY),
-    ("gen 1 --workers 16 -- 64", 64, MANY),
-    ("gen 2147483647 64", 64, MANY),
-    // as many as may be asked for
-    (
-        "gen 7 4096 --workers 2",
-        4096,
-        "modules 4096\nstarted 4096\nlines 4096\nstatus 0\n",
-    ),
-];
+== gen --workers=2 1 3
+>> Fulfilled
+modules 3
+started 3
+lines 3
+status 0
 
-// Whether a run ended well with this summary, took so many modules, and asked neither the desk nor its one source.
-fn is_summed_up(told: &Ran, modules: usize, summary: &str) -> bool {
-    told.is(Status::Fulfilled, summary)
-        && told.taken == modules
-        && told.desk == 0
-        && told.asked.as_slice() == [0usize].as_slice()
+== gen 1 64
+>> Fulfilled
+modules 64
+started 64
+lines 64
+status 0
+
+== gen 1 64 --workers 1
+>> Fulfilled
+modules 64
+started 64
+lines 64
+status 0
+
+== gen 1 64 --workers 4
+>> Fulfilled
+modules 64
+started 64
+lines 64
+status 0
+
+== gen 1 --workers 16 -- 64
+>> Fulfilled
+modules 64
+started 64
+lines 64
+status 0
+
+== gen 2147483647 64
+>> Fulfilled
+modules 64
+started 64
+lines 64
+status 0
+
+== gen 7 4096 --workers 2
+>> Fulfilled
+modules 4096
+started 4096
+lines 4096
+status 0";
+
+// Whether the run of a row ends as it says, takes as many modules as it says, and asks neither the desk nor its one source.
+fn is_summed_up<R: Threads + Wait + Sync>(
+    rt: &R,
+    alloc: Global,
+    row: &str,
+) -> Result<bool, Memory> {
+    let told = told_over(rt, alloc, title(row), Vec::new(alloc))?;
+    let taken = told.taken;
+    let first = format!(in alloc; "modules {taken}")?;
+    Ok(
+        told.is_so(wanted_of(row))
+            && row.lines().nth(2) == Some(first.as_str())
+            && told.desk == 0
+            && told.asked.as_slice() == [0usize].as_slice(),
+    )
 }
 
-// The first of these words whose run isn't summed up so.
+// The first of these words whose run isn't summed up so, if there are any.
 fn wrong_sum<R: Threads + Wait + Sync>(
     rt: &R,
     alloc: Global,
 ) -> Result<Option<&'static str>, Memory> {
-    for (line, modules, summary) in SUMS {
-        let told = told_over(rt, alloc, line, Vec::new(alloc))?;
-        if !is_summed_up(&told, *modules, summary) {
-            return Ok(Some(*line));
+    for row in SUMS.split("\n\n== ") {
+        if !is_summed_up(rt, alloc, row)? {
+            return Ok(Some(title(row)));
         }
     }
     Ok(None)
-}
-
-#[test]
-fn generated_input_is_summed_up(rt: HostRuntime) -> Result<(), Memory> {
-    assert_eq!(rt; wrong_sum(&rt, rt.alloc())?, None);
-    Ok(())
 }
 
 // Words of `gen` that are no command.
@@ -71,27 +117,6 @@ gen 1 3 --record
 gen 1 3 --map x
 gen 1 3 5";
 
-// The first of them whose run doesn't show the usage line alone, with nothing taken.
-fn wrong_refusal<R: Threads + Wait + Sync>(
-    rt: &R,
-    alloc: Global,
-) -> Result<Option<&'static str>, Memory> {
-    for line in REFUSED.lines() {
-        let told = told_over(rt, alloc, line, Vec::new(alloc))?;
-        if !told.is(Status::Usage, USAGE) || told.taken != 0 {
-            return Ok(Some(line));
-        }
-    }
-    Ok(None)
-}
-
-#[test]
-fn words_of_gen_that_are_none_show_the_usage_line(rt: HostRuntime) -> Result<(), Memory> {
-    assert_eq!(rt; wrong_refusal(&rt, rt.alloc())?, None);
-    assert!(rt; REFUSED.lines().count() == 12);
-    Ok(())
-}
-
 // Whether a sink that takes seven bytes at a time and fails at this write has this of the summary.
 fn has_front<R: Threads + Wait + Sync>(
     rt: &R,
@@ -102,10 +127,15 @@ fn has_front<R: Threads + Wait + Sync>(
     is_cut(rt, alloc, "gen 1 3", &[], 7, number, front)
 }
 
+// Generated input is summed up; other words of `gen` show the usage line; a failing sink keeps what it took.
 #[test]
-fn a_failing_sink_keeps_what_it_took_of_a_summary(rt: HostRuntime) -> Result<(), Memory> {
-    assert!(rt; has_front(&rt, rt.alloc(), 1, "")?);
-    assert!(rt; has_front(&rt, rt.alloc(), 2, "modules")?);
-    assert!(rt; has_front(&rt, rt.alloc(), 3, "modules 3\nstar")?);
+fn generated_input_is_summed_up(rt: HostRuntime) -> Result<(), Memory> {
+    let alloc = rt.alloc();
+    assert_eq!(rt; wrong_sum(&rt, alloc)?, None);
+    assert_eq!(rt; unrefused(&rt, alloc, REFUSED)?, None);
+    assert!(rt; REFUSED.lines().count() == 12);
+    assert!(rt; has_front(&rt, alloc, 1, "")?);
+    assert!(rt; has_front(&rt, alloc, 2, "modules")?);
+    assert!(rt; has_front(&rt, alloc, 3, "modules 3\nstar")?);
     Ok(())
 }

@@ -40,19 +40,22 @@ fn with_all_imports(alloc: Global) -> Result<Vec<(Text, Vec<u8>)>, Memory> {
     Ok(files)
 }
 
-#[test]
-fn more_than_4096_urls_stop_the_run(rt: HostRuntime) -> Result<(), Memory> {
-    let told = told_over(&rt, rt.alloc(), COMMAND, with_imports(rt.alloc(), 4096)?)?;
-    assert!(rt; told.is(Status::Limit, "Limit L1\n"));
-    assert!(rt; told.taken == 1);
-    Ok(())
+// Whether an entry that imports 4,096 others is stopped.
+fn is_stopped<R: Threads + Wait + Sync>(rt: &R, alloc: Global) -> Result<bool, Memory> {
+    let told = told_over(rt, alloc, COMMAND, with_imports(alloc, 4096)?)?;
+    Ok(told.is(Status::Limit, "Limit L1\n") && told.taken == 1)
+}
+
+// Whether one that imports 4,095 runs, and all are taken.
+fn is_loaded<R: Threads + Wait + Sync>(rt: &R, alloc: Global) -> Result<bool, Memory> {
+    let told = told_over(rt, alloc, COMMAND, with_all_imports(alloc)?)?;
+    Ok(told.is(Status::Fulfilled, "") && told.taken == 4096)
 }
 
 #[test]
-fn exactly_4096_urls_are_loaded(rt: HostRuntime) -> Result<(), Memory> {
-    let told = told_over(&rt, rt.alloc(), COMMAND, with_all_imports(rt.alloc())?)?;
-    assert!(rt; told.is(Status::Fulfilled, ""));
-    assert!(rt; told.taken == 4096);
+fn as_many_as_4096_urls_are_loaded(rt: HostRuntime) -> Result<(), Memory> {
+    assert!(rt; is_stopped(&rt, rt.alloc())?);
+    assert!(rt; is_loaded(&rt, rt.alloc())?);
     Ok(())
 }
 
@@ -98,23 +101,20 @@ fn prints_all<R: Threads + Wait + Sync>(
     Ok(told.is(Status::Fulfilled, wanted.as_str()))
 }
 
+// Whether one whose foot throws behind an await fails with it.
+fn fails_with_its_foot<R: Threads + Wait + Sync>(rt: &R, alloc: Global) -> Result<bool, Memory> {
+    let foot = "print(\"foot\");await undefined;throw \"x\"";
+    let told = told_over(rt, alloc, COMMAND, chain(alloc, foot)?)?;
+    Ok(told.is(Status::EntryFailed, "foot\nUncaught x\n"))
+}
+
+// A chain of 4,096 modules runs from its end, waits for its foot, and fails with it.
 #[test]
 fn a_chain_of_4096_modules_runs_from_its_end(rt: HostRuntime) -> Result<(), Memory> {
-    assert!(rt; prints_all(&rt, rt.alloc(), "print(\"foot\")", "foot\n")?);
-    Ok(())
-}
-
-#[test]
-fn a_chain_of_4096_modules_waits_for_its_foot(rt: HostRuntime) -> Result<(), Memory> {
+    let alloc = rt.alloc();
+    assert!(rt; prints_all(&rt, alloc, "print(\"foot\")", "foot\n")?);
     let foot = "print(\"foot\");await undefined;print(\"again\")";
-    assert!(rt; prints_all(&rt, rt.alloc(), foot, "foot\nagain\n")?);
-    Ok(())
-}
-
-#[test]
-fn a_chain_of_4096_modules_fails_with_its_foot(rt: HostRuntime) -> Result<(), Memory> {
-    let foot = "print(\"foot\");await undefined;throw \"x\"";
-    let told = told_over(&rt, rt.alloc(), COMMAND, chain(rt.alloc(), foot)?)?;
-    assert!(rt; told.is(Status::EntryFailed, "foot\nUncaught x\n"));
+    assert!(rt; prints_all(&rt, alloc, foot, "foot\nagain\n")?);
+    assert!(rt; fails_with_its_foot(&rt, alloc)?);
     Ok(())
 }

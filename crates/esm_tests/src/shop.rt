@@ -136,14 +136,10 @@ fn told_by<R: Threads + Wait + Sync>(rt: &R, alloc: Global, rest: &str) -> Resul
     told(rt, alloc, line.as_str(), map_file(alloc)?, sources)
 }
 
-#[test]
-fn the_shop_runs_the_same_over_one_worker_and_four(rt: HostRuntime) -> Result<(), Memory> {
-    for rest in ["", " --workers 1", " --workers 4"] {
-        let told = told_by(&rt, rt.alloc(), rest)?;
-        assert!(rt; told.is(Status::Fulfilled, OUTPUT), "{rest}");
-        assert!(rt; told.taken == 40, "{rest}");
-    }
-    Ok(())
+// Whether the shop with these words behind the command writes what it is to write, and takes forty files.
+fn is_run_so<R: Threads + Wait + Sync>(rt: &R, alloc: Global, rest: &str) -> Result<bool, Memory> {
+    let told = told_by(rt, alloc, rest)?;
+    Ok(told.is(Status::Fulfilled, OUTPUT) && told.taken == 40)
 }
 
 // Whether both ended well, and wrote the same in so many lines.
@@ -154,12 +150,20 @@ fn are_same(one: &Ran, four: &Ran, lines: usize) -> bool {
         && one.written.iter().filter(|byte| **byte == b'\n').count() == lines
 }
 
-// A line for each start and end of forty bodies, and three that they print.
+// Whether it is traced the same over one worker and four: a line for each start and end of forty bodies, and three that they
+// print.
+fn is_traced_the_same<R: Threads + Wait + Sync>(rt: &R, alloc: Global) -> Result<bool, Memory> {
+    let one = told_by(rt, alloc, " --trace --workers 1")?;
+    let four = told_by(rt, alloc, " --trace --workers 4")?;
+    Ok(are_same(&one, &four, 83))
+}
+
 #[test]
-fn the_traced_shop_runs_the_same_over_one_worker_and_four(rt: HostRuntime) -> Result<(), Memory> {
-    let one = told_by(&rt, rt.alloc(), " --trace --workers 1")?;
-    let four = told_by(&rt, rt.alloc(), " --trace --workers 4")?;
-    assert!(rt; are_same(&one, &four, 83));
+fn the_shop_runs_the_same_over_one_worker_and_four(rt: HostRuntime) -> Result<(), Memory> {
+    for rest in ["", " --workers 1", " --workers 4"] {
+        assert!(rt; is_run_so(&rt, rt.alloc(), rest)?, "{rest}");
+    }
+    assert!(rt; is_traced_the_same(&rt, rt.alloc())?);
     Ok(())
 }
 
@@ -210,13 +214,14 @@ fn fails_so<R: Threads + Wait + Sync>(rt: &R, alloc: Global, number: u64) -> Res
     names_the_failed(alloc, &report, out.written())
 }
 
-// Each of the forty files is fetched once, and whichever fails is named.
-#[test]
-fn whichever_fetch_of_the_shop_fails_is_named(rt: HostRuntime) -> Result<(), Memory> {
+// The number of the first fetch whose failure isn't told so, if there is one. Each of the forty files is fetched once.
+fn wrong_fetch<R: Threads + Wait + Sync>(rt: &R, alloc: Global) -> Result<Option<u64>, Memory> {
     for number in 1..41u64 {
-        assert!(rt; fails_so(&rt, rt.alloc(), number)?, "{number}");
+        if !fails_so(rt, alloc, number)? {
+            return Ok(Some(number));
+        }
     }
-    Ok(())
+    Ok(None)
 }
 
 // How the run ends whose sink takes seven bytes at a time and fails at this write, and how many bytes it has taken of what
@@ -238,13 +243,25 @@ fn cut<R: Threads + Wait + Sync>(
     }
 }
 
-// A sink that takes seven bytes at a time has taken five pieces when the whole text is written.
-#[test]
-fn whichever_write_of_the_shop_fails_ends_it(rt: HostRuntime) -> Result<(), Memory> {
-    for (number, taken) in [(1u64, 0usize), (2, 7), (3, 14), (4, 21), (5, 28)] {
-        let wanted = Some((Status::WriteFault, taken));
-        assert!(rt; cut(&rt, rt.alloc(), number)? == wanted, "{number}");
+// The number of the first write whose failure doesn't end the run, with the pieces before it taken, if there is one. There are
+// five: behind them the run ends well.
+fn wrong_write<R: Threads + Wait + Sync>(rt: &R, alloc: Global) -> Result<Option<u64>, Memory> {
+    for before in 0..5usize {
+        let number = before as u64 + 1;
+        if cut(rt, alloc, number)? != Some((Status::WriteFault, before * 7)) {
+            return Ok(Some(number));
+        }
     }
-    assert!(rt; cut(&rt, rt.alloc(), 6)? == Some((Status::Fulfilled, 35)));
+    if cut(rt, alloc, 6)? == Some((Status::Fulfilled, 35)) {
+        Ok(None)
+    } else {
+        Ok(Some(6))
+    }
+}
+
+#[test]
+fn whichever_fetch_or_write_of_the_shop_fails_is_told(rt: HostRuntime) -> Result<(), Memory> {
+    assert_eq!(rt; wrong_fetch(&rt, rt.alloc())?, None);
+    assert_eq!(rt; wrong_write(&rt, rt.alloc())?, None);
     Ok(())
 }

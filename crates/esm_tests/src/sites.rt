@@ -1,91 +1,138 @@
-// Worked sites of imports and prints, as rows.
-use esm_base::{Memory, Status};
-use esm_sites::{Row, SITES, first_wrong};
+// Worked sites of imports and prints, and what one file writes.
+use esm_base::Memory;
+use esm_sites::{SITES, first_wrong};
 
 // Sites whose entry fails, where fetches end in the order in which they begin.
-const FAILING: &[Row] = &[
-    Row {
-        name: "two missing files",
-        files: &[(
-            "main.js",
-            "import \"./a.js\";import \"./b.js\";print(\"m\");",
-        )],
-        output: "Uncaught TypeError: cannot fetch https://a.test/a.js\n",
-        status: Status::EntryFailed,
-    },
-    Row {
-        name: "a bare specifier",
-        files: &[("main.js", "import \"react\";print(\"m\");")],
-        output: "Uncaught TypeError: https://a.test/main.js: specifier react: S4 bare and not mapped\n",
-        status: Status::EntryFailed,
-    },
-    Row {
-        name: "a bare specifier behind a file",
-        files: &[
-            ("main.js", "import \"./b.js\";import \"a.js\";"),
-            ("a.js", "print(\"a\")"),
-        ],
-        output: "Uncaught TypeError: https://a.test/main.js: specifier a.js: S4 bare and not mapped\n",
-        status: Status::EntryFailed,
-    },
-    Row {
-        name: "no module text",
-        files: &[
-            ("main.js", "import \"./a.js\";print(\"m\");"),
-            ("a.js", "let;"),
-        ],
-        output: "Uncaught SyntaxError: https://a.test/a.js: P2 no module text\n",
-        status: Status::EntryFailed,
-    },
-    Row {
-        name: "a missing file behind one that is there",
-        files: &[
-            ("main.js", "import \"./a.js\";import \"./b.js\";"),
-            ("a.js", "import \"./x.js\";print(\"a\");"),
-        ],
-        output: "Uncaught TypeError: cannot fetch https://a.test/b.js\n",
-        status: Status::EntryFailed,
-    },
-    Row {
-        name: "a missing file in a cycle",
-        files: &[
-            ("main.js", "import \"./a.js\";"),
-            (
-                "a.js",
-                "import \"./main.js\";import \"./x.js\";print(\"a\");",
-            ),
-        ],
-        output: "Uncaught TypeError: cannot fetch https://a.test/x.js\n",
-        status: Status::EntryFailed,
-    },
-    Row {
-        name: "an empty specifier",
-        files: &[
-            ("main.js", "import \"./a.js\";print(\"m\");"),
-            ("a.js", "import \"\";"),
-        ],
-        output: "Uncaught TypeError: https://a.test/a.js: specifier : S4 bare and not mapped\n",
-        status: Status::EntryFailed,
-    },
-    Row {
-        name: "a missing file in a folder",
-        files: &[
-            ("main.js", "import \"./d/a.js\";"),
-            ("d/a.js", "print(\"a\");import \"./b.js\";"),
-        ],
-        output: "Uncaught TypeError: cannot fetch https://a.test/d/b.js\n",
-        status: Status::EntryFailed,
-    },
-];
+const FAILING: &str = r#"== two missing files
+-- main.js
+import "./a.js";import "./b.js";print("m");
+>> EntryFailed
+Uncaught TypeError: cannot fetch https://a.test/a.js
+
+== a bare specifier
+-- main.js
+import "react";print("m");
+>> EntryFailed
+Uncaught TypeError: https://a.test/main.js: specifier react: S4 bare and not mapped
+
+== a bare specifier behind a file
+-- main.js
+import "./b.js";import "a.js";
+-- a.js
+print("a")
+>> EntryFailed
+Uncaught TypeError: https://a.test/main.js: specifier a.js: S4 bare and not mapped
+
+== no module text
+-- main.js
+import "./a.js";print("m");
+-- a.js
+let;
+>> EntryFailed
+Uncaught SyntaxError: https://a.test/a.js: P2 no module text
+
+== a missing file behind one that is there
+-- main.js
+import "./a.js";import "./b.js";
+-- a.js
+import "./x.js";print("a");
+>> EntryFailed
+Uncaught TypeError: cannot fetch https://a.test/b.js
+
+== a missing file in a cycle
+-- main.js
+import "./a.js";
+-- a.js
+import "./main.js";import "./x.js";print("a");
+>> EntryFailed
+Uncaught TypeError: cannot fetch https://a.test/x.js
+
+== an empty specifier
+-- main.js
+import "./a.js";print("m");
+-- a.js
+import "";
+>> EntryFailed
+Uncaught TypeError: https://a.test/a.js: specifier : S4 bare and not mapped
+
+== a missing file in a folder
+-- main.js
+import "./d/a.js";
+-- d/a.js
+print("a");import "./b.js";
+>> EntryFailed
+Uncaught TypeError: cannot fetch https://a.test/d/b.js"#;
+
+// What a file prints.
+const PRINTS: &str = r#"== the empty text
+-- main.js
+>> Fulfilled
+
+== one print
+-- main.js
+print("hi")
+>> Fulfilled
+hi
+
+== prints with and without semicolons
+-- main.js
+print("a");
+print("")
+print("b c");print("d")
+
+>> Fulfilled
+a
+
+b c
+d
+
+== a declaration
+-- main.js
+const a = "x";
+>> Fulfilled"#;
+
+// One with line ends of both kinds.
+const LINE_ENDS: &str =
+    "== comments and escapes\n-- main.js\n\n/* é */;print('a\\u00e9',)\r\n;// b\nprint(\"\\x62\")\n>> Fulfilled\naé\nb";
+
+// What is no module.
+const REFUSED: &str = r#"== no file
+>> EntryFailed
+Uncaught TypeError: cannot fetch https://a.test/main.js
+
+== two texts side by side
+-- main.js
+print("a" "b")
+>> EntryFailed
+Uncaught SyntaxError: https://a.test/main.js: P2 no module text
+
+== two statements side by side
+-- main.js
+print("a")print("b")
+>> EntryFailed
+Uncaught SyntaxError: https://a.test/main.js: P2 no module text
+
+== a text that is cut short
+-- main.js
+import {a} from "./a
+>> EntryFailed
+Uncaught SyntaxError: https://a.test/main.js: P2 no module text
+
+== a name that is declared twice
+-- main.js
+let a; let a;
+>> EntryFailed
+Uncaught SyntaxError: https://a.test/main.js: P3 early error
+
+== a bare specifier
+-- main.js
+import "react"; import {} from "./a.js";
+>> EntryFailed
+Uncaught TypeError: https://a.test/main.js: specifier react: S4 bare and not mapped"#;
 
 #[test]
-fn sites_run(rt: HostRuntime) -> Result<(), Memory> {
-    assert_eq!(rt; first_wrong(&rt, rt.alloc(), SITES)?, None);
-    Ok(())
-}
-
-#[test]
-fn sites_fail(rt: HostRuntime) -> Result<(), Memory> {
-    assert_eq!(rt; first_wrong(&rt, rt.alloc(), FAILING)?, None);
+fn sites_run_and_fail(rt: HostRuntime) -> Result<(), Memory> {
+    let tables = &[SITES, FAILING, PRINTS, LINE_ENDS, REFUSED];
+    assert_eq!(rt; first_wrong(&rt, rt.alloc(), tables)?, None);
     Ok(())
 }

@@ -4,7 +4,7 @@ ghost use Rattle.std.specs.Prelude.{◌≡◌, ◌<◌, [], All, IfOk, vec_len};
 use esm_base::{Memory, Status, Text};
 use esm_ports::{MemSink, MemSource, SureSink, SureSource};
 use esm_run::{RunReport, run};
-use esm_sites::{failing, site, words};
+use esm_sites::{Wanted, failing, files_of, is_wanted, site, title, wanted_of, words};
 use std::alloc::Global;
 use std::marker::Sync;
 use std::sync::Wait;
@@ -32,6 +32,11 @@ impl Ran {
     /// Whether it ended so, and this was written.
     pub fn is(&self, status: Status, text: &str) -> bool {
         self.status == status && self.written.as_slice() == text.as_bytes()
+    }
+
+    /// Whether it ended so.
+    pub fn is_so(&self, wanted: Wanted<'_>) -> bool {
+        is_wanted(wanted, self.status, self.written.as_slice())
     }
 }
 
@@ -99,16 +104,47 @@ pub fn told_over<R: Threads + Wait + Sync>(
     told(rt, alloc, line, Vec::new(alloc), sources)
 }
 
-/// The first of these words that, over one source with these files, don't end so or don't write this.
+// Whether words, over one source with the files of a site, end as a row says, whose title they are.
+fn line_ends_so<R: Threads + Wait + Sync>(
+    rt: &R,
+    alloc: Global,
+    files: &str,
+    row: &str,
+) -> Result<bool, Memory> {
+    let told = told_over(rt, alloc, title(row), files_of(alloc, files)?)?;
+    Ok(told.is_so(wanted_of(row)))
+}
+
+/// The first of these words that, over one source with the files of a site, don't end as their row says, if there are any.
 pub fn wrong_line<R: Threads + Wait + Sync>(
     rt: &R,
     alloc: Global,
-    named: &[(&str, &str)],
-    rows: &[(&'static str, Status, &'static str)],
+    files: &str,
+    rows: &'static str,
 ) -> Result<Option<&'static str>, Memory> {
-    for (line, status, text) in rows {
-        if !told_over(rt, alloc, line, site(alloc, named)?)?.is(*status, text) {
-            return Ok(Some(*line));
+    for row in rows.split("\n\n== ") {
+        if !line_ends_so(rt, alloc, files, row)? {
+            return Ok(Some(title(row)));
+        }
+    }
+    Ok(None)
+}
+
+// Whether these words show the usage line alone, and nothing is taken.
+fn is_refused<R: Threads + Wait + Sync>(rt: &R, alloc: Global, line: &str) -> Result<bool, Memory> {
+    let told = told_over(rt, alloc, line, site(alloc, &[("main.js", "")])?)?;
+    Ok(told.is(Status::Usage, USAGE) && told.taken == 0)
+}
+
+/// The first of these words, a line each, that don't show the usage line alone, if there are any.
+pub fn unrefused<R: Threads + Wait + Sync>(
+    rt: &R,
+    alloc: Global,
+    rows: &'static str,
+) -> Result<Option<&'static str>, Memory> {
+    for line in rows.lines() {
+        if !is_refused(rt, alloc, line)? {
+            return Ok(Some(line));
         }
     }
     Ok(None)

@@ -3,8 +3,8 @@
 // A table has its sites with an empty line between them. A site begins with `== ` and what it shows. Then come its files, each
 // with its name behind `-- ` and its text on the lines below; and at last `>> ` with the status, and on the lines below what
 // is written.
+use crate::setup::add_named;
 use esm_base::{Memory, Status, Text};
-use esm_sites::{Row, add_named};
 use std::alloc::Global;
 
 /// What a site shows.
@@ -63,14 +63,6 @@ pub fn wanted_of(site: &str) -> Wanted<'_> {
     match site.split_once("\n>> ") {
         Some((_files, end)) => ending(end),
         None => ending(""),
-    }
-}
-
-/// How the run of a row is to end.
-pub fn wanted_by(row: &Row) -> Wanted<'_> {
-    Wanted {
-        status: word_of(row.status),
-        lines: row.output.strip_suffix('\n'),
     }
 }
 
