@@ -1,3 +1,3 @@
 pub mod NewMakers
 pub mod Served
-pub mod Guided
+pub mod OrderLemmas

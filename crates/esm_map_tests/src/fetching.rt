@@ -11,7 +11,7 @@ ghost use Rattle.esm_fetch.specs.Pool.{IsToBegin, IsGuided};
 
 use esm_ast::Outcome;
 use esm_base::{Text, is_usable};
-use esm_fetch::{Bell, Done, Job, Pool, Posted, Turned, fetch_one, work_all, worker};
+use esm_fetch::{Bell, Done, Job, Pool, Posted, Turned, WorkerEnd, fetch_one, work_all, worker};
 use esm_import_map::ImportMap;
 use esm_module_map::{Caller, ModuleMap, Why, laws as map_laws};
 use esm_ports::{AskKind, MemSource, Source};
@@ -253,6 +253,37 @@ fn an_absent_url_and_a_shut_map(rt: HostRuntime) -> Result<(), Fail> {
     assert!(rt; end.turns.second == Turned::NotYet);
     assert!(rt; !end.short);
     assert!(rt; end.asks == 1);
+    Ok(())
+}
+
+// A worker of a caller that has just enrolled, with a source that wasn't asked.
+fn begin<R: Wait>(
+    rt: &R,
+    alloc: Global,
+    modules: &ModuleMap<Posted>,
+    caller: Caller<Posted>,
+    source: MemSource,
+) -> WorkerEnd<MemSource>
+    requires own { table_of modules.now.lock.table.shared.table_id caller.pass
+        ≡ modules.now.lock.table.shared.table_id }
+    requires fresh { SaysNothing weight caller.number (view_in caller.pass).seen }
+    requires unasked { source.asked ≡ [] }
+{
+    let bell = Bell::new();
+    worker(rt, alloc, modules, &bell, caller, source)
+}
+
+#[test]
+fn a_worker_asks_nothing_where_the_map_is_shut(rt: HostRuntime) -> Result<(), Fail> {
+    let alloc = rt.alloc();
+    let source = source_of(alloc, &[])?;
+    let (modules, mut main) = opened(&rt, alloc)?;
+    let caller = another(&rt, &modules, &mut main)?;
+    let asked = ask(&rt, alloc, &modules, &mut main, URL);
+    modules.shut(&rt, &mut main);
+    let end = begin(&rt, alloc, &modules, caller, source);
+    assert!(rt; asked);
+    assert!(rt; !end.short && end.source.asked().is_empty());
     Ok(())
 }
 

@@ -7,3 +7,5 @@ mod fetching;
 mod lock;
 #[cfg(test)]
 mod module_map;
+#[cfg(test)]
+mod one_caller;

@@ -9,10 +9,11 @@ use std::sync::{Arc, Wait};
 use std::test::Fail;
 use std::thread::{Threads, join};
 
-// A body that weighs so much and requests nothing.
+/// A body that weighs so much and requests nothing.
 #[derive(Drop)]
-struct Body {
-    bytes: usize,
+pub struct Body {
+    /// What it weighs.
+    pub bytes: usize,
 }
 
 impl Payload for Body {
@@ -31,8 +32,8 @@ impl Payload for Body {
     }
 }
 
-// A map, and a caller with all shares.
-fn opened<R: Wait>(rt: &R, alloc: Global) -> Result<(ModuleMap<Body>, Caller<Body>), Fail>
+/// A map, and a caller with all shares.
+pub fn opened<R: Wait>(rt: &R, alloc: Global) -> Result<(ModuleMap<Body>, Caller<Body>), Fail>
     ensures own { IfOk result (λ made. table_of made.0.lock.table.shared.table_id made.1.pass
         ≡ made.0.lock.table.shared.table_id) }
     ensures shares { IfOk result (λ made. (view_in made.1.pass).shares ≡ 1024) }
@@ -83,8 +84,8 @@ fn pair<R: Wait>(
     }
 }
 
-// What a call answers, in a word, and a number that goes with it (0 where none does).
-type Told = (&'static str, u64);
+/// What a call answers, in a word, and a number that goes with it (0 where none does).
+pub type Told = (&'static str, u64);
 
 const MEMORY: Told = ("Memory", 0);
 
@@ -177,12 +178,16 @@ fn post_at<R: Wait>(rt: &R, map: &ModuleMap<Body>, caller: &mut Caller<Body>, fr
     }
 }
 
-// What a caller may do: each the function of its name.
+/// What a caller may do: each the function of its name.
 #[derive(Clone, Copy)]
-enum Call {
+pub enum Call {
+    /// Asks for a URL.
     Ask(&'static str),
+    /// Takes what is to be taken, and posts a body that weighs so much.
     Fill(usize),
+    /// What was posted under a number.
     Entry(u32),
+    /// The post with an index.
     PostAt(usize),
 }
 
@@ -207,8 +212,8 @@ fn make_call<R: Wait>(
     }
 }
 
-// Makes these calls, one behind the other: the first answer that isn't the one that stands beside its call.
-fn first_wrong<R: Wait>(
+/// Makes these calls, one behind the other: the first answer that isn't the one that stands beside its call.
+pub fn first_wrong<R: Wait>(
     rt: &R,
     alloc: Global,
     map: &ModuleMap<Body>,
@@ -304,7 +309,8 @@ fn ask_all<R: Wait>(
     None
 }
 
-const URL: &str = "https://a.test/main.js";
+/// The URL that is asked for.
+pub const URL: &str = "https://a.test/main.js";
 
 const TAKEN_BY_ANOTHER: &[(Call, Told)] = &[
     (Call::Fill(1), ("NotYet", 0)),
@@ -318,7 +324,8 @@ const POSTED: &[(Call, Told)] = &[
     (Call::PostAt(1), ("None", 0)),
 ];
 
-const SHUT: &[(Call, Told)] = &[
+/// Calls of a map that is shut.
+pub const SHUT: &[(Call, Told)] = &[
     (Call::Ask(URL), ("Closed", 0)),
     (Call::Fill(1), ("Closed", 0)),
 ];

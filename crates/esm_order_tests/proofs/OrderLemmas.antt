@@ -24,6 +24,9 @@ may_take_by : (stop : Option TurnEnd) (l : Loading) (url : Url) → has (asks_by
 may_take_by None l url there = there
 may_take_by (Some end) l url there = tt
 
+pub may_take_open : (m : MachineState) (url : Url) → has (asks_of m) url ≡ true → MayTake m url
+may_take_open m url there = may_take_by m.stopped m.held.seen.loading url there
+
 pub may_take : (m : MachineState) (asks : List Url) (place : ℕ) (url copy : Url) → asks ≡ asks_of m → place < length asks → url ≡ get_or asks place url → copy ≡ url → MayTake m copy
 may_take m asks place url copy same within is copied =
-    may_take_by m.stopped m.held.seen.loading copy (subst (λ u. has (asks_of m) u ≡ true) (sym copied) (subst (λ us. has us url ≡ true) same (has_at asks place url within is)))
+    may_take_open m copy (subst (λ u. has (asks_of m) u ≡ true) (sym copied) (subst (λ us. has us url ≡ true) same (has_at asks place url within is)))

@@ -2,8 +2,9 @@
 ghost use Rattle.std.specs.Prelude.{◌≡◌, ◌<◌, [], All, IfOk, None, refl, vec_len};
 ghost use Rattle.esm_ports.specs.Asks.{failed_count};
 
-use esm_base::{Memory, Text};
+use esm_base::Memory;
 use esm_ports::{FetchEnd, MemSource, Source};
+use esm_sites::files_of;
 use std::alloc::Global;
 use std::thread::sleep;
 use std::time::{Clock, Duration};
@@ -42,28 +43,17 @@ impl<R: Clock + Drop> Source for SleepySource<R> {
     }
 }
 
-// The files of a site below `https://a.test/`: the name of each, and its text.
-fn site(alloc: Global, named: &[(&str, &str)]) -> Result<Vec<(Text, Vec<u8>)>, Memory> {
-    let mut files = Vec::new(alloc);
-    for (name, text) in named {
-        let url = format!(in alloc; "https://a.test/{name}")?;
-        let body = Vec::from_slice(alloc, text.as_bytes())?;
-        files.push((Text::from_string(url), body))?;
-    }
-    Ok(files)
-}
-
-/// A source over these files that fails at its call with this number, counted from 1; none fails by 0.
+/// A source over the files of a site that fails at its call with this number, counted from 1; none fails by 0.
 pub fn sleepy<R: Clock + Clone + Drop>(
     rt: &R,
     alloc: Global,
-    named: &[(&str, &str)],
+    site: &str,
     draw: u64,
     fail_at: u64,
 ) -> Result<SleepySource<R>, Memory>
     ensures { IfOk result (λ s. s.files.asked ≡ []) }
 {
-    let files = MemSource::new(alloc, site(alloc, named)?, vec![in alloc; fail_at]?)?;
+    let files = MemSource::new(alloc, files_of(alloc, site)?, vec![in alloc; fail_at]?)?;
     Ok(SleepySource {
         rt: rt.clone()?,
         files,
@@ -71,11 +61,11 @@ pub fn sleepy<R: Clock + Clone + Drop>(
     })
 }
 
-/// So many sources over the same files, each of which sleeps by a draw of its own.
+/// So many sources over the files of a site, each of which sleeps by a draw of its own.
 pub fn all_sleepy<R: Clock + Clone + Drop>(
     rt: &R,
     alloc: Global,
-    named: &[(&str, &str)],
+    site: &str,
     count: u64,
     seed: u64,
     fail_at: u64,
@@ -88,7 +78,7 @@ pub fn all_sleepy<R: Clock + Clone + Drop>(
     let mut draw = seed;
     for _ in 0..count {
         draw = next_draw(draw);
-        sources.push(sleepy(rt, alloc, named, draw, fail_at)?)?;
+        sources.push(sleepy(rt, alloc, site, draw, fail_at)?)?;
     }
     Ok(sources)
 }

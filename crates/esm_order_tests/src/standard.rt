@@ -4,13 +4,12 @@ ghost use Rattle.esm_base.specs.Urls.{has};
 ghost use Rattle.esm_machine.specs.Machine.{state_of};
 ghost use Rattle.esm_machine.specs.Represents.{asks_of};
 
+use crate::orders::new_machine;
 use esm_ast::Outcome;
-use esm_base::{Memory, Status, Text, is_usable};
-use esm_import_map::ImportMap;
+use esm_base::{Memory, Status, Text};
 use esm_machine::{Machine, TurnEnd};
 use esm_run::Delivery;
 use std::alloc::Global;
-use std::sync::Arc;
 
 /// How a run ends: its status, and all that it writes.
 #[derive(Drop)]
@@ -19,16 +18,6 @@ pub struct RunEnd {
     pub status: Status,
     /// What is written.
     pub text: Vec<u8>,
-}
-
-// A machine under the empty import map that has asked for the entry.
-fn new_machine(alloc: Global) -> Result<Machine, Memory> {
-    let entry = Text::copy(alloc, "https://a.test/main.js")?;
-    if !is_usable(alloc, entry.as_str())? {
-        return Err(Memory);
-    }
-    let map = Arc::new(alloc, ImportMap::empty(alloc))?;
-    Machine::new(alloc, map, entry, false)
 }
 
 // Whether the machine has this open ask.

@@ -2,8 +2,8 @@ use Rattle.std.proofs.Common.{ap, ◌∙◌, subst, Ok, Some}
 use Rattle.esm_module_map.specs.Views.{view_in}
 use Rattle.esm_module_map.specs.Replies.{Called, TakeReply}
 use Rattle.esm_module_map.specs.Saying.{TakeSays}
-use Rattle.esm_worker_tests.proofs.OrderLemmas.{still_order}
-use Rattle.esm_worker_tests.proofs.calls.takes_nothing.Goals as goal
+use Rattle.esm_map_tests.proofs.OrderLemmas.{still_order}
+use Rattle.esm_map_tests.proofs.one_caller.takes_nothing.Goals as goal
 
 pub returns-in-Ok-NotYet-clause-order : goal.returns-in-Ok-NotYet-clause-order
 returns-in-Ok-NotYet-clause-order g c =

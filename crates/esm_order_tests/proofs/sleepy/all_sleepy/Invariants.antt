@@ -1,6 +1,6 @@
 use Rattle.std.proofs.Common.{◌≡◌, [], vec_len}
 use Rattle.std.specs.Prelude.{All}
-use Rattle.esm_worker_tests.proofs.sleepy.all_sleepy.Given as goal
+use Rattle.esm_order_tests.proofs.sleepy.all_sleepy.Given as goal
 
 abbrev pub invariant-loop : goal.invariant-loop
 invariant-loop g l = record {

@@ -1,2 +1,0 @@
-pub mod StandardLemmas
-pub mod OrderLemmas
