@@ -308,12 +308,6 @@ fn wrong_row(alloc: Global) -> Result<Option<&'static str>, Memory> {
     Ok(None)
 }
 
-#[test]
-fn names_denote_and_are_exported(rt: HostRuntime) -> Result<(), Memory> {
-    assert_eq!(rt; wrong_row(rt.alloc())?, None);
-    Ok(())
-}
-
 // A module whose star is its first request, and which requests this module, if one is given.
 fn starred_first(alloc: Global, target: Option<u32>) -> Result<Module, Memory> {
     let mut draft = Draft::new(alloc);
@@ -331,12 +325,14 @@ fn is_sound_alone(alloc: Global, target: Option<u32>) -> Result<bool, Memory> {
     Ok(is_sound(&graph_of(modules)?))
 }
 
-// A module that leads out of the graph, one whose star is no request of its own, and one that does neither.
+// Names denote and are exported; a graph is sound unless a module leads out of it, or a star is no request of its module.
 #[test]
-fn unsound_graphs_are_told(rt: HostRuntime) -> Result<(), Memory> {
-    assert!(rt; !is_sound_alone(rt.alloc(), Some(1))?);
-    assert!(rt; !is_sound_alone(rt.alloc(), None)?);
-    assert!(rt; is_sound_alone(rt.alloc(), Some(0))?);
+fn names_denote_and_are_exported(rt: HostRuntime) -> Result<(), Memory> {
+    let alloc = rt.alloc();
+    assert_eq!(rt; wrong_row(alloc)?, None);
+    assert!(rt; !is_sound_alone(alloc, Some(1))?);
+    assert!(rt; !is_sound_alone(alloc, None)?);
+    assert!(rt; is_sound_alone(alloc, Some(0))?);
     Ok(())
 }
 
@@ -395,16 +391,21 @@ fn is_found_fast<C: Clock>(
     Ok(found.as_str() == wanted && took.as_secs() < 1)
 }
 
-#[test]
-fn long_chain_is_fast(rt: HostRuntime) -> Result<(), Fail> {
-    let graph = chain(rt.alloc())?;
-    assert!(rt; is_found_fast(&rt, rt.alloc(), &graph, "x", "4095 x;")?);
-    Ok(())
+// Whether a chain is.
+fn is_chain_fast<C: Clock>(clock: &C, alloc: Global) -> Result<bool, Fail> {
+    let graph = chain(alloc)?;
+    is_found_fast(clock, alloc, &graph, "x", "4095 x;")
+}
+
+// Whether a fan is.
+fn is_fan_fast<C: Clock>(clock: &C, alloc: Global) -> Result<bool, Fail> {
+    let graph = fan(alloc)?;
+    is_found_fast(clock, alloc, &graph, "y x", "missing;ambiguous;")
 }
 
 #[test]
-fn wide_fan_is_fast(rt: HostRuntime) -> Result<(), Fail> {
-    let graph = fan(rt.alloc())?;
-    assert!(rt; is_found_fast(&rt, rt.alloc(), &graph, "y x", "missing;ambiguous;")?);
+fn long_chains_and_wide_fans_are_fast(rt: HostRuntime) -> Result<(), Fail> {
+    assert!(rt; is_chain_fast(&rt, rt.alloc())?);
+    assert!(rt; is_fan_fast(&rt, rt.alloc())?);
     Ok(())
 }

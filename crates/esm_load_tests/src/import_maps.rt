@@ -129,18 +129,6 @@ fn wrong_text(alloc: Global) -> Result<Option<&'static str>, Memory> {
     Ok(None)
 }
 
-#[test]
-fn texts_have_their_faults(rt: HostRuntime) -> Result<(), Memory> {
-    assert_eq!(rt; wrong_text(rt.alloc())?, None);
-    Ok(())
-}
-
-#[test]
-fn bytes_that_are_no_text_have_a_fault(rt: HostRuntime) -> Result<(), Memory> {
-    assert_eq!(rt; fault_of(rt.alloc(), b"{\"a\":\"\xFF\"}")?, "M1");
-    Ok(())
-}
-
 // What the imports have at a key.
 fn import_of(map: &ImportMap, key: &str) -> &'static str {
     match map.imports().get(key) {
@@ -173,14 +161,13 @@ fn wrong_key(map: &ImportMap) -> Option<&'static str> {
     None
 }
 
-#[test]
-fn entries_are_kept(rt: HostRuntime) -> Result<(), Memory> {
-    let base = url(rt.alloc(), "https://a.test/d/")?;
-    match read_map(rt.alloc(), KEPT.as_bytes(), &base) {
-        Ok(map) => assert_eq!(rt; wrong_key(&map), None),
-        Err(fault) => assert_eq!(rt; fault, "ok"),
+// The same of the import map that `KEPT` says; its fault where it says none.
+fn wrong_entry(alloc: Global) -> Result<Option<&'static str>, Memory> {
+    let base = url(alloc, "https://a.test/d/")?;
+    match read_map(alloc, KEPT.as_bytes(), &base) {
+        Ok(map) => Ok(wrong_key(&map)),
+        Err(fault) => Ok(Some(fault)),
     }
-    Ok(())
 }
 
 // Whether a map has none of these entries.
@@ -188,7 +175,18 @@ fn is_empty(map: &ImportMap) -> bool {
     map.imports().get("b").is_none() && map.scopes().get("https://a.test/").is_none()
 }
 
+// Whether the empty map has none.
+fn is_empty_empty(alloc: Global) -> bool {
+    is_empty(&ImportMap::empty(alloc))
+}
+
+// Texts have their faults, as do bytes that are no text; what they say is kept; the empty map has no entries.
 #[test]
-fn the_empty_map_has_no_entries(rt: HostRuntime) {
-    assert!(rt; is_empty(&ImportMap::empty(rt.alloc())));
+fn texts_have_their_faults(rt: HostRuntime) -> Result<(), Memory> {
+    let alloc = rt.alloc();
+    assert_eq!(rt; wrong_text(alloc)?, None);
+    assert_eq!(rt; wrong_entry(alloc)?, None);
+    assert!(rt; fault_of(alloc, b"{\"a\":\"\xFF\"}")? == "M1");
+    assert!(rt; is_empty_empty(alloc));
+    Ok(())
 }

@@ -179,14 +179,6 @@ fn wrong_row(alloc: Global) -> Result<Option<&'static str>, Memory> {
     Ok(None)
 }
 
-#[test]
-fn specifiers_resolve(rt: HostRuntime) -> Result<(), Memory> {
-    assert_eq!(rt; wrong_row(rt.alloc())?, None);
-    // fourteen maps with thirteen empty lines between them, eight lines on what they show, and 69 rows
-    assert!(rt; TABLE.lines().count() == 104);
-    Ok(())
-}
-
 // A URL below `https://a.test/` of so many bytes behind it.
 fn long_url(alloc: Global, rest: usize) -> Result<String, Memory> {
     let mut text = String::from_str(alloc, "https://a.test/")?;
@@ -209,8 +201,12 @@ fn bound_is_exact(alloc: Global) -> Result<bool, Memory> {
     Ok(is_answer(alloc, longest.as_str(), None)? && is_answer(alloc, longer.as_str(), Some("S5"))?)
 }
 
+// Specifiers resolve, and the longest URL has 8,192 bytes.
 #[test]
-fn the_longest_url_has_8192_bytes(rt: HostRuntime) -> Result<(), Memory> {
+fn specifiers_resolve(rt: HostRuntime) -> Result<(), Memory> {
+    assert_eq!(rt; wrong_row(rt.alloc())?, None);
+    // fourteen maps with thirteen empty lines between them, eight lines on what they show, and 69 rows
+    assert!(rt; TABLE.lines().count() == 104);
     assert!(rt; bound_is_exact(rt.alloc())?);
     Ok(())
 }

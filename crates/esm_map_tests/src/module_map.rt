@@ -19,7 +19,7 @@ pub struct Body {
 impl Payload for Body {
     type Guide = u64;
 
-    ghost use Rattle.std.specs.Prelude.{true, false};
+    ghost use Rattle.std.specs.Prelude.{false, true};
 
     ghost weight = { λ p. p.bytes };
 
