@@ -8,7 +8,6 @@ use esm_ast::Outcome;
 use esm_base::{Memory, Status, Text};
 use esm_machine::Machine;
 use std::alloc::Global;
-use std::test::Fail;
 
 // An entry that imports twelve files.
 const TWELVE: &str = "import './1.js'; import './2.js'; import './3.js'; import './4.js';
@@ -67,8 +66,8 @@ fn all_keep_others(alloc: Global, machine: &mut Machine) -> Result<bool, Memory>
     Ok(machine.asks().is_empty() && machine.end() == Some(Status::EntryFailed))
 }
 
-// Whether all that a machine asks for ends so.
-fn order_is_kept(alloc: Global) -> Result<bool, Memory> {
+/// Whether all that a machine asks for ends so.
+pub(crate) fn order_is_kept(alloc: Global) -> Result<bool, Memory> {
     let mut machine = opened(alloc)?;
     let kept = match deliver_first(alloc, &mut machine, TWELVE, 1) {
         Ok(true) => all_keep_others(alloc, &mut machine),
@@ -77,10 +76,4 @@ fn order_is_kept(alloc: Global) -> Result<bool, Memory> {
     };
     let _log = machine.into_log();
     kept
-}
-
-#[test]
-fn open_asks_keep_their_order(rt: HostRuntime) -> Result<(), Fail> {
-    assert!(rt; order_is_kept(rt.alloc())?);
-    Ok(())
 }

@@ -3,6 +3,7 @@ ghost use Rattle.std.specs.Prelude.{◌≡◌, None, IfOk, IfSome};
 ghost use Rattle.esm_machine.specs.Machine.{state_of};
 ghost use Rattle.esm_machine.specs.Represents.{MayTake};
 
+use crate::asks::order_is_kept;
 use crate::store::{MAIN, fetched};
 use esm_base::{Memory, Status, Text};
 use esm_import_map::ImportMap;
@@ -213,8 +214,10 @@ const ROWS: &[Row] = &[
     },
 ];
 
+// Machines come to what rows say, and open asks keep their order.
 #[test]
 fn machines_come_to_what_rows_say(rt: HostRuntime) -> Result<(), Memory> {
     assert_eq!(rt; first_wrong(rt.alloc(), ROWS)?, None);
+    assert!(rt; order_is_kept(rt.alloc())?);
     Ok(())
 }
