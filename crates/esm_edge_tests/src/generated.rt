@@ -55,16 +55,6 @@ fn is_last_made(alloc: Global) -> Result<bool, Memory> {
     }
 }
 
-#[test]
-fn modules_import_the_next_and_one_more(rt: HostRuntime) -> Result<(), Memory> {
-    let alloc = rt.alloc();
-    assert!(rt; are_made(alloc, 1, 3, THREE)?);
-    assert!(rt; are_made(alloc, 1, 1, ONE)?);
-    assert!(rt; is_last_made(alloc)?);
-    assert!(rt; entry_url(alloc)?.as_str() == "https://gen.test/m0.js");
-    Ok(())
-}
-
 // What stands at a URL where 1 generates two modules, with `|` for the ends of lines; nothing where no text stands behind it.
 // By hand from the rule: both await, and the last import of each is the module 1.
 const OF_TWO: &str =
@@ -117,22 +107,32 @@ fn wrong_answer(
     Ok(None)
 }
 
-#[test]
-fn a_source_makes_its_own_modules_alone(rt: HostRuntime) -> Result<(), Memory> {
-    let mut source = GeneratedSource::new(rt.alloc(), 1, 2);
-    assert_eq!(rt; wrong_answer(rt.alloc(), &mut source)?, None);
-    assert!(rt; source.asked.len() == 9 && source.faults() == 0);
-    Ok(())
+// Whether a source makes its own modules alone.
+fn makes_its_own(alloc: Global, source: &mut GeneratedSource) -> Result<bool, Memory> {
+    let wrong = wrong_answer(alloc, source)?;
+    Ok(wrong.is_none() && source.asked.len() == 9 && source.faults() == 0)
 }
 
-#[test]
-fn a_summary_has_four_lines(rt: HostRuntime) -> Result<(), Memory> {
+// Whether a summary has four lines.
+fn is_summed_up(alloc: Global) -> Result<bool, Memory> {
     let run = Summary {
         modules: 64,
         started: 63,
         lines: 0,
         status: Status::Limit,
     };
-    assert!(rt; run.text(rt.alloc())?.as_str() == "modules 64\nstarted 63\nlines 0\nstatus 5\n");
+    Ok(run.text(alloc)?.as_str() == "modules 64\nstarted 63\nlines 0\nstatus 5\n")
+}
+
+// Modules import the next and one more; a source makes its own alone; a summary has four lines.
+#[test]
+fn modules_import_the_next_and_one_more(rt: HostRuntime) -> Result<(), Memory> {
+    let alloc = rt.alloc();
+    assert!(rt; are_made(alloc, 1, 3, THREE)?);
+    assert!(rt; are_made(alloc, 1, 1, ONE)?);
+    assert!(rt; is_last_made(alloc)?);
+    assert!(rt; entry_url(alloc)?.as_str() == "https://gen.test/m0.js");
+    assert!(rt; makes_its_own(alloc, &mut GeneratedSource::new(alloc, 1, 2))?);
+    assert!(rt; is_summed_up(alloc)?);
     Ok(())
 }

@@ -42,14 +42,6 @@ fn fails_at_two(alloc: Global, source: &mut MemSource) -> bool {
         && source.asked().len() == 3
 }
 
-#[test]
-fn a_source_fails_at_the_calls_that_it_is_told(rt: HostRuntime) -> Result<(), Memory> {
-    let alloc = rt.alloc();
-    let mut source = MemSource::new(alloc, files(alloc, b"x")?, vec![in alloc; 2]?)?;
-    assert!(rt; fails_at_two(alloc, &mut source));
-    Ok(())
-}
-
 // Whether a source whose one file is longer gives the first 1,048,577 bytes of it, and nothing else.
 fn gives_the_first(alloc: Global, source: &mut SureSource) -> bool {
     let first = match source.fetch(alloc, ENTRY) {
@@ -59,16 +51,6 @@ fn gives_the_first(alloc: Global, source: &mut SureSource) -> bool {
     first == 1_048_577
         && is_fetched(alloc, source, NONE, Err(FetchEnd::Absent))
         && source.faults() == 0
-}
-
-#[test]
-fn a_sure_source_gives_the_first_bytes(rt: HostRuntime) -> Result<(), Memory> {
-    let alloc = rt.alloc();
-    let mut long = Vec::new(alloc);
-    long.resize(1_048_578, b' ')?;
-    let mut source = SureSource::new(alloc, files(alloc, long.as_slice())?)?;
-    assert!(rt; gives_the_first(alloc, &mut source));
-    Ok(())
 }
 
 // A sink that takes four bytes at a time takes six in two calls, and none in no call.
@@ -90,8 +72,25 @@ fn keeps_the_first(alloc: Global, fail_at: Vec<u64>) -> bool {
         && out.faults() == 1
 }
 
+// Whether a source fails at the calls that it is told.
+fn fails_so(alloc: Global) -> Result<bool, Memory> {
+    let mut source = MemSource::new(alloc, files(alloc, b"x")?, vec![in alloc; 2]?)?;
+    Ok(fails_at_two(alloc, &mut source))
+}
+
+// Whether a sure source gives the first bytes of a long file.
+fn gives_so(alloc: Global) -> Result<bool, Memory> {
+    let mut long = Vec::new(alloc);
+    long.resize(1_048_578, b' ')?;
+    let mut source = SureSource::new(alloc, files(alloc, long.as_slice())?)?;
+    Ok(gives_the_first(alloc, &mut source))
+}
+
+// Sources in memory fail as they are told, and give the first bytes; all bytes are written in as few calls as the sink wants.
 #[test]
-fn all_bytes_are_written_in_as_few_calls_as_the_sink_wants(rt: HostRuntime) -> Result<(), Memory> {
+fn sources_and_sinks_in_memory(rt: HostRuntime) -> Result<(), Memory> {
+    assert!(rt; fails_so(rt.alloc())?);
+    assert!(rt; gives_so(rt.alloc())?);
     assert!(rt; takes_in_pieces(rt.alloc()));
     assert!(rt; keeps_the_first(rt.alloc(), vec![in rt.alloc(); 2]?));
     Ok(())

@@ -238,12 +238,6 @@ fn wrong_words(alloc: Global) -> Result<Option<&'static str>, Memory> {
     Ok(None)
 }
 
-#[test]
-fn words_say_what_their_rows_say(rt: HostRuntime) -> Result<(), Memory> {
-    assert_eq!(rt; wrong_words(rt.alloc())?, None);
-    Ok(())
-}
-
 // Whether the words of a row ask for the generated input that the row says.
 fn is_generated(alloc: Global, row: &str) -> Result<bool, Memory> {
     let Some((words, wanted)) = row.split_once(" | ") else {
@@ -264,22 +258,9 @@ fn wrong_generation(alloc: Global) -> Result<Option<&'static str>, Memory> {
     Ok(None)
 }
 
-#[test]
-fn generated_input(rt: HostRuntime) -> Result<(), Memory> {
-    assert_eq!(rt; wrong_generation(rt.alloc())?, None);
-    assert!(rt; GENERATED.lines().count() == 25);
-    Ok(())
-}
-
 // Whether these words are neither command.
 fn are_none(alloc: Global, words: &Vec<String>) -> Result<bool, Memory> {
     Ok(read_words(alloc, words, 4)?.is_none() && read_generation(alloc, words)?.is_none())
-}
-
-#[test]
-fn no_words_are_no_command(rt: HostRuntime) -> Result<(), Memory> {
-    assert!(rt; are_none(rt.alloc(), &Vec::new(rt.alloc()))?);
-    Ok(())
 }
 
 // The words `run`, BASE and this path as ENTRY.
@@ -299,9 +280,15 @@ fn fits(alloc: Global, rest: usize) -> Result<bool, Memory> {
     Ok(read_words(alloc, &words, 4)?.is_some())
 }
 
+// Words say what their rows say, and no words say nothing; the longest entry has 8,192 bytes.
 #[test]
-fn the_longest_entry_has_8192_bytes(rt: HostRuntime) -> Result<(), Memory> {
-    assert!(rt; fits(rt.alloc(), 8177)?);
-    assert!(rt; !fits(rt.alloc(), 8178)?);
+fn words_say_what_their_rows_say(rt: HostRuntime) -> Result<(), Memory> {
+    let alloc = rt.alloc();
+    assert_eq!(rt; wrong_words(alloc)?, None);
+    assert_eq!(rt; wrong_generation(alloc)?, None);
+    assert!(rt; GENERATED.lines().count() == 25);
+    assert!(rt; are_none(alloc, &Vec::new(alloc))?);
+    assert!(rt; fits(alloc, 8177)?);
+    assert!(rt; !fits(alloc, 8178)?);
     Ok(())
 }
