@@ -4,14 +4,14 @@ use crate::standard::standard_end;
 use esm_base::{Memory, Status};
 use esm_ports::SureSink;
 use esm_run::{Delivery, run};
-use esm_sites::{title, words};
+use esm_sites::{is_wanted, title, wanted_of, words};
 use std::alloc::Global;
 use std::marker::{Send, Sync};
 use std::sync::Wait;
 use std::thread::Threads;
 use std::time::Clock;
 
-// Sites whose fetches end in many orders, and whose runs end in different ways.
+// Sites whose fetches end in many orders, each with the status of its run where no source fails.
 const SITES: &str = r#"== a tree of seven modules
 -- main.js
 import "./a.js"; import "./b.js"; print("m");
@@ -27,6 +27,7 @@ print("d");
 print("e");
 -- f.js
 import "./main.js"; print("f");
+>> Fulfilled
 
 == modules that await
 -- main.js
@@ -39,6 +40,7 @@ import "./l.js"; print("p2");
 import "./p1.js"; print("r");
 -- l.js
 await undefined; print("l");
+>> Fulfilled
 
 == four calls of import() that race
 -- main.js
@@ -51,10 +53,12 @@ print("B");
 import "./d.js"; print("C");
 -- d.js
 print("D");
+>> Fulfilled
 
 == three missing files, one of which is named
 -- main.js
 import "./a.js"; import "./b.js"; import "./c.js"; print("m");
+>> EntryFailed
 
 == a missing file and a text that is no module
 -- main.js
@@ -63,6 +67,7 @@ import "./a.js"; import "./b.js"; import "./c.js"; print("m");
 let a; let a;
 -- c.js
 print("c");
+>> EntryFailed
 
 == a throw behind an await
 -- main.js
@@ -71,6 +76,7 @@ import "./a.js"; import "./b.js"; print("m");
 await undefined; throw new Error("boom");
 -- b.js
 await undefined; print("b");
+>> EntryFailed
 
 == an import() that fails and is caught, and one that waits for itself
 -- main.js
@@ -78,7 +84,8 @@ import("./b.js"); try { await import("./none.js"); } catch (e) { print(e); } awa
 -- a.js
 import "./main.js"; print("a");
 -- b.js
-print("b");"#;
+print("b");
+>> Unsettled"#;
 
 // The words of a run over so many workers.
 fn words_for(alloc: Global, workers: u64) -> Result<Vec<String>, Memory> {
@@ -121,6 +128,23 @@ fn standard_status<R: Threads + Wait + Sync + Send + Clone + Drop + Clock>(
     status_as_standard(alloc, &report.taken, report.status, out.written())
 }
 
+// Whether a run over sleepy sources is the standard run of its order, and where no source fails has the status that the site
+// says.
+fn is_standard<R: Threads + Wait + Sync + Send + Clone + Drop + Clock>(
+    rt: &R,
+    alloc: Global,
+    site: &str,
+    workers: u64,
+    seed: u64,
+    fail_at: u64,
+) -> Result<bool, Memory> {
+    match standard_status(rt, alloc, site, workers, seed, fail_at) {
+        Ok(Some(status)) => Ok(fail_at != 0 || is_wanted(wanted_of(site), status, b"")),
+        Ok(None) => Ok(false),
+        Err(Memory) => Err(Memory),
+    }
+}
+
 // The first of these sites that doesn't run as the standard says, by so many workers, of which each has a source that
 // fails at its call with this number.
 fn wrong_by<R: Threads + Wait + Sync + Send + Clone + Drop + Clock>(
@@ -131,7 +155,7 @@ fn wrong_by<R: Threads + Wait + Sync + Send + Clone + Drop + Clock>(
 ) -> Result<Option<&'static str>, Memory> {
     for seed in 0..2u64 {
         for site in SITES.split("\n\n== ") {
-            if standard_status(rt, alloc, site, workers, seed, fail_at)?.is_none() {
+            if !is_standard(rt, alloc, site, workers, seed, fail_at)? {
                 return Ok(Some(title(site)));
             }
         }

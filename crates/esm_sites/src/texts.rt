@@ -1,8 +1,8 @@
 // Sites as texts.
 //
 // A table has its sites with an empty line between them. A site begins with `== ` and what it shows. Then come its files, each
-// with its name behind `-- ` and its text on the lines below; and at last `>> ` with the status, and on the lines below what
-// is written.
+// with its name behind `-- ` and its text on the lines below; and at last, where it is said how the run
+// ends, `>> ` with the status, and on the lines below what is written.
 use crate::setup::add_named;
 use esm_base::{Memory, Status, Text};
 use std::alloc::Global;
@@ -24,13 +24,15 @@ fn add_file(alloc: Global, files: &mut Vec<(Text, Vec<u8>)>, part: &str) -> Resu
     }
 }
 
-/// The files of a site.
+/// The files of a site, which may have no ending.
 pub fn files_of(alloc: Global, site: &str) -> Result<Vec<(Text, Vec<u8>)>, Memory> {
+    let front = match site.split_once("\n>> ") {
+        Some((front, _end)) => front,
+        None => site,
+    };
     let mut files = Vec::new(alloc);
-    if let Some((front, _end)) = site.split_once("\n>> ") {
-        for part in front.split("\n-- ").skip(1) {
-            add_file(alloc, &mut files, part)?;
-        }
+    for part in front.split("\n-- ").skip(1) {
+        add_file(alloc, &mut files, part)?;
     }
     Ok(files)
 }
