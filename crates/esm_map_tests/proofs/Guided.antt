@@ -1,14 +1,29 @@
--- The guide of a map is that of each caller that enrols.
-use Rattle.std.proofs.Common.{◌≡◌, ℕ, List, [], ◌∷◌, ◌++◌, ap, ◌∙◌, append_assoc, None}
+-- That the guide of a map is the empty import map.
+use Rattle.std.proofs.Common.{◌≡◌, ◌∙◌, ap, sym, subst, List, [], ◌∷◌, ◌++◌, append_assoc, Option, Some}
+use Rattle.std.specs.Arc.{arc_value}
+use Rattle.std.specs.declared.sync.Arc.{Arc}
+use Rattle.std.specs.declared.alloc.Global.{Global}
+use Rattle.esm_import_map.specs.ImportMap.{Maps, no_maps}
 use Rattle.esm_module_map.specs.declared.event.MapEvent.{MapEvent}
-use Rattle.esm_module_map.specs.declared.event.MapEvent.TheVariants.{Enrol}
-use Rattle.esm_module_map.specs.Replay.{replay}
-use Rattle.esm_module_map.specs.Replies.{Called}
+use Rattle.esm_module_map.specs.declared.event.MapEvent.TheVariants.{Begin}
+use Rattle.esm_module_map.specs.Leading.{guide_in}
 use Rattle.esm_module_map.specs.Saying.{Begins}
 use Rattle.esm_fetch.specs.declared.posted.Posted.{Posted}
-use Rattle.esm_fetch.specs.Serving.{weight}
 
-module _ {G : Type 0} where
-  -- what a caller has seen begins with what its pass had
-  pub begins_enrolled : (seen now : List (MapEvent Posted G)) (n : ℕ) → Called weight seen None (λ found. (n ≡ (replay weight found).callers) × (now ≡ found ++ Enrol n ∷ [])) → Begins seen now
-  begins_enrolled seen now n (found, (legal, q), (number, is)) = (q.0 ++ Enrol n ∷ [], is ∙ ap (λ l. l ++ Enrol n ∷ []) q.1 ∙ append_assoc seen q.0 (Enrol n ∷ []))
+abbrev History : Type 0
+History = List (MapEvent Posted Maps)
+
+-- it is so where the map has just been made
+pub begun : (h : History) (g : Arc Maps Global) → h ≡ Begin g ∷ [] → arc_value g ≡ no_maps → guide_in h ≡ Some no_maps
+begun h g is by = ap guide_in is ∙ ap Some by
+
+pub begins_on : (a b c : History) → Begins a b → Begins b c → Begins a c
+begins_on a b c p q = (p.0 ++ q.0, q.1 ∙ ap (λ l. l ++ q.0) p.1 ∙ append_assoc a p.0 q.0)
+
+-- and for whoever has seen the same
+pub same_guide : (a b : History) → b ≡ a → guide_in a ≡ Some no_maps → guide_in b ≡ Some no_maps
+same_guide a b same guide = ap guide_in same ∙ guide
+
+-- as a call is given it
+pub as_given : (h : History) (maps : Maps) → maps ≡ no_maps → guide_in h ≡ Some no_maps → guide_in h ≡ Some maps
+as_given h maps is guide = guide ∙ ap Some (sym is)

@@ -1,3 +1,4 @@
 pub mod NewMakers
 pub mod Served
 pub mod OrderLemmas
+pub mod Guided

@@ -1,8 +1,9 @@
 // A turn, a worker on a shut map, and two workers beside a thread that leads them.
-ghost use Rattle.std.specs.Prelude.{◌≡◌, ◌<◌, ◌+◌, ◌≤◌, ◌∷◌, [], All, IfOk, OnOk, Some, vec_len};
+ghost use Rattle.std.specs.Prelude.{◌≡◌, ◌<◌, ◌+◌, ◌≤◌, ◌∷◌, [], All, None, Some, IfOk, OnOk, vec_len};
 ghost use Rattle.std.specs.Vec.{vec_capacity};
 ghost use Rattle.std.specs.Thread.{IsSync};
-ghost use Rattle.esm_import_map.specs.ImportMap.{Maps};
+ghost use Rattle.esm_hlock.specs.Words.{knows, IsPassOf};
+ghost use Rattle.esm_import_map.specs.ImportMap.{no_maps};
 ghost use Rattle.esm_module_map.specs.Leading.{guide_in};
 ghost use Rattle.esm_module_map.specs.Views.{view_in, table_of};
 ghost use Rattle.esm_module_map.specs.Saying.{SaysNothing};
@@ -12,8 +13,9 @@ ghost use Rattle.esm_fetch.specs.Pool.{IsToBegin, IsGuided};
 use esm_ast::Outcome;
 use esm_base::{Text, is_usable};
 use esm_fetch::{Bell, Done, Job, Pool, Posted, Turned, WorkerEnd, fetch_one, work_all, worker};
+use esm_hlock::Pass;
 use esm_import_map::ImportMap;
-use esm_module_map::{Caller, ModuleMap, Why, laws as map_laws};
+use esm_module_map::{Caller, MapState, ModuleMap, Why, laws};
 use esm_ports::{AskKind, MemSource, Source};
 use std::alloc::Global;
 use std::marker::{Send, Sync};
@@ -21,23 +23,42 @@ use std::sync::{Arc, Wait};
 use std::test::Fail;
 use std::thread::{Threads, join};
 
-// A map under this import map, and a caller with all shares.
-fn opened<R: Wait>(
+// A caller that has just enrolled; the guide of the map is the empty import map.
+fn enrolled<R: Wait>(
     rt: &R,
-    alloc: Global,
-    guide: ImportMap,
-) -> Result<(ModuleMap<Posted>, Caller<Posted>), Fail>
+    modules: &ModuleMap<Posted>,
+    pass: Pass<MapState<Posted>>,
+) -> Result<Caller<Posted>, Fail>
+    requires own { IsPassOf modules.now.lock pass }
+    requires none { (knows pass).number ≡ None }
+    requires guide { guide_in (knows pass).seen ≡ Some no_maps }
+    ensures own { IfOk result (λ c. table_of modules.now.lock.table.shared.table_id c.pass
+        ≡ modules.now.lock.table.shared.table_id) }
+    ensures shares { IfOk result (λ c. (view_in c.pass).shares ≡ (knows pass).shares) }
+    ensures numbers { IfOk result (λ c. (view_in c.pass).numbers
+        ≡ c.number ∷ (knows pass).numbers) }
+    ensures fresh { IfOk result (λ c. SaysNothing weight c.number (view_in c.pass).seen) }
+    ensures guide { IfOk result (λ c. guide_in (view_in c.pass).seen ≡ Some no_maps) }
+{
+    laws::guide_stays::<Posted>();
+    match modules.enrol(rt, pass) {
+        Ok(caller) => Ok(caller),
+        Err(_pass) => Err("no caller".into()),
+    }
+}
+
+// A map under the empty import map, and a caller with all shares.
+fn opened<R: Wait>(rt: &R, alloc: Global) -> Result<(ModuleMap<Posted>, Caller<Posted>), Fail>
     ensures own { IfOk result (λ made. table_of made.0.lock.table.shared.table_id made.1.pass
         ≡ made.0.lock.table.shared.table_id) }
     ensures shares { IfOk result (λ made. (view_in made.1.pass).shares ≡ 1024) }
-    ensures guide { IfOk result (λ made. guide_in (view_in made.1.pass).seen ≡ Some guide) }
+    ensures guide { IfOk result (λ made. guide_in (view_in made.1.pass).seen ≡ Some no_maps) }
 {
-    map_laws::guide_stays::<Posted>();
-    let guide = Arc::new(alloc, guide)?;
+    let guide = Arc::new(alloc, ImportMap::empty(alloc))?;
     let (modules, pass) = ModuleMap::new(alloc, guide)?;
-    match modules.enrol(rt, pass) {
+    match enrolled(rt, &modules, pass) {
         Ok(caller) => Ok((modules, caller)),
-        Err(_pass) => Err("no caller".into()),
+        Err(fail) => Err(fail),
     }
 }
 
@@ -50,26 +71,20 @@ fn another<R: Wait>(
     requires own { table_of modules.now.lock.table.shared.table_id caller.old.pass
         ≡ modules.now.lock.table.shared.table_id }
     requires shares { 1 < (view_in caller.old.pass).shares }
+    requires guide { guide_in (view_in caller.old.pass).seen ≡ Some no_maps }
     ensures own { table_of modules.now.lock.table.shared.table_id caller.new.pass
         ≡ modules.now.lock.table.shared.table_id }
     ensures shares { (view_in caller.new.pass).shares + 1 ≡ (view_in caller.old.pass).shares }
+    ensures guide { guide_in (view_in caller.new.pass).seen ≡ Some no_maps }
+    ensures guided { IfOk result (λ c. guide_in (view_in c.pass).seen ≡ Some no_maps) }
     ensures other { IfOk result (λ c. table_of modules.now.lock.table.shared.table_id c.pass
         ≡ modules.now.lock.table.shared.table_id) }
     ensures share { IfOk result (λ c. (view_in c.pass).shares ≡ 1) }
     ensures numbers { IfOk result (λ c. (view_in c.pass).numbers ≡ c.number ∷ []) }
     ensures fresh { IfOk result (λ c. SaysNothing weight c.number (view_in c.pass).seen) }
-    ensures guide { (maps : Maps) → guide_in (view_in caller.old.pass).seen ≡ Some maps
-        → guide_in (view_in caller.new.pass).seen ≡ Some maps }
-    ensures guided { IfOk result (λ c. (maps : Maps)
-        → guide_in (view_in caller.old.pass).seen ≡ Some maps
-        → guide_in (view_in c.pass).seen ≡ Some maps) }
 {
-    map_laws::guide_stays::<Posted>();
     let pass = modules.split(caller);
-    match modules.enrol(rt, pass) {
-        Ok(other) => Ok(other),
-        Err(_pass) => Err("no caller".into()),
-    }
+    enrolled(rt, modules, pass)
 }
 
 // A source of these files.
@@ -108,7 +123,7 @@ fn ask<R: Wait>(
     usable && modules.ask(rt, caller, &url, Why::Wanted).is_ok()
 }
 
-// A turn.
+// A turn, under the empty import map.
 fn turn<R: Wait, S: Source>(
     rt: &R,
     alloc: Global,
@@ -120,16 +135,17 @@ fn turn<R: Wait, S: Source>(
 ) -> Result<Turned, Fail>
     requires own { table_of modules.now.lock.table.shared.table_id caller.old.pass
         ≡ modules.now.lock.table.shared.table_id }
-    requires guide { guide_in (view_in caller.old.pass).seen ≡ Some guide.now }
+    requires map { guide.now ≡ no_maps }
+    requires guide { guide_in (view_in caller.old.pass).seen ≡ Some no_maps }
     requires served { Serves (S.holds source.old) (S.asked source.old) caller.old.number
         (view_in caller.old.pass).seen }
     ensures own { table_of modules.now.lock.table.shared.table_id caller.new.pass
         ≡ modules.now.lock.table.shared.table_id }
+    ensures guide { guide_in (view_in caller.new.pass).seen ≡ Some no_maps }
     ensures served { OnOk result (Serves (S.holds source.new) (S.asked source.new)
         caller.new.number (view_in caller.new.pass).seen) }
-    ensures guide { guide_in (view_in caller.new.pass).seen ≡ Some guide.now }
 {
-    map_laws::guide_stays::<Posted>();
+    laws::guide_stays::<Posted>();
     match fetch_one(rt, alloc, modules, bell, guide, caller, source) {
         Ok(turned) => Ok(turned),
         Err(_) => Err("memory ran out".into()),
@@ -161,16 +177,17 @@ fn absent_turns<R: Wait, S: Source>(
         ≡ modules.now.lock.table.shared.table_id }
     requires own { table_of modules.now.lock.table.shared.table_id caller.old.pass
         ≡ modules.now.lock.table.shared.table_id }
+    requires map { guide.now ≡ no_maps }
+    requires guide { guide_in (view_in caller.old.pass).seen ≡ Some no_maps }
     requires served { Serves (S.holds source.old) (S.asked source.old) caller.old.number
         (view_in caller.old.pass).seen }
-    requires guide { guide_in (view_in caller.old.pass).seen ≡ Some guide.now }
     ensures main { table_of modules.now.lock.table.shared.table_id main.new.pass
         ≡ modules.now.lock.table.shared.table_id }
     ensures own { table_of modules.now.lock.table.shared.table_id caller.new.pass
         ≡ modules.now.lock.table.shared.table_id }
+    ensures guide { guide_in (view_in caller.new.pass).seen ≡ Some no_maps }
     ensures served { OnOk result (Serves (S.holds source.new) (S.asked source.new)
         caller.new.number (view_in caller.new.pass).seen) }
-    ensures guide { guide_in (view_in caller.new.pass).seen ≡ Some guide.now }
 {
     if !ask(rt, alloc, modules, main, URL) {
         return Err("the URL isn't asked for".into());
@@ -211,9 +228,10 @@ fn absent_end<R: Wait>(
         ≡ modules.now.lock.table.shared.table_id }
     requires own { table_of modules.now.lock.table.shared.table_id caller.pass
         ≡ modules.now.lock.table.shared.table_id }
+    requires map { guide.now ≡ no_maps }
+    requires guide { guide_in (view_in caller.pass).seen ≡ Some no_maps }
     requires fresh { SaysNothing weight caller.number (view_in caller.pass).seen }
     requires unasked { source.asked ≡ [] }
-    requires guide { guide_in (view_in caller.pass).seen ≡ Some guide.now }
 {
     let bell = Bell::new();
     let mut caller = caller;
@@ -244,9 +262,9 @@ fn absent_end<R: Wait>(
 fn an_absent_url_and_a_shut_map(rt: HostRuntime) -> Result<(), Fail> {
     let alloc = rt.alloc();
     let source = source_of(alloc, &[])?;
-    let guide = ImportMap::empty(alloc);
-    let (modules, mut main) = opened(&rt, alloc, ImportMap::empty(alloc))?;
+    let (modules, mut main) = opened(&rt, alloc)?;
     let caller = another(&rt, &modules, &mut main)?;
+    let guide = ImportMap::empty(alloc);
     let end = absent_end(&rt, alloc, &modules, &guide, &mut main, caller, source)?;
     assert!(rt; end.turns.first == Turned::Posted(0));
     assert!(rt; end.turns.absent);
@@ -261,16 +279,19 @@ fn begin<R: Wait>(
     rt: &R,
     alloc: Global,
     modules: &ModuleMap<Posted>,
+    guide: &ImportMap,
     caller: Caller<Posted>,
     source: MemSource,
 ) -> WorkerEnd<MemSource>
     requires own { table_of modules.now.lock.table.shared.table_id caller.pass
         ≡ modules.now.lock.table.shared.table_id }
+    requires map { guide.now ≡ no_maps }
+    requires guide { guide_in (view_in caller.pass).seen ≡ Some no_maps }
     requires fresh { SaysNothing weight caller.number (view_in caller.pass).seen }
     requires unasked { source.asked ≡ [] }
 {
     let bell = Bell::new();
-    worker(rt, alloc, modules, &bell, caller, source)
+    worker(rt, alloc, modules, &bell, guide, caller, source)
 }
 
 #[test]
@@ -281,7 +302,8 @@ fn a_worker_asks_nothing_where_the_map_is_shut(rt: HostRuntime) -> Result<(), Fa
     let caller = another(&rt, &modules, &mut main)?;
     let asked = ask(&rt, alloc, &modules, &mut main, URL);
     modules.shut(&rt, &mut main);
-    let end = begin(&rt, alloc, &modules, caller, source);
+    let guide = ImportMap::empty(alloc);
+    let end = begin(&rt, alloc, &modules, &guide, caller, source);
     assert!(rt; asked);
     assert!(rt; !end.short && end.source.asked().is_empty());
     Ok(())
@@ -296,10 +318,10 @@ fn two_jobs<S: Source>(
 ) -> Result<Vec<Job<S>>, Fail>
     requires one { IsToBegin modules.now.lock.table.shared.table_id S.holds S.asked one }
     requires other { IsToBegin modules.now.lock.table.shared.table_id S.holds S.asked other }
+    requires guides { IsGuided no_maps one × IsGuided no_maps other }
     ensures jobs { IfOk result (λ v. All (IsToBegin modules.now.lock.table.shared.table_id S.holds
         S.asked) v.items) }
-    ensures guides { (maps : Maps) → IsGuided maps one → IsGuided maps other
-        → IfOk result (λ v. All (IsGuided maps) v.items) }
+    ensures guides { IfOk result (λ v. All (IsGuided no_maps) v.items) }
     ensures two { IfOk result (λ v. vec_len v ≡ 2) }
 {
     let mut jobs = Vec::with_capacity(alloc, 2)?;
@@ -314,11 +336,11 @@ fn job<S: Source>(modules: &ModuleMap<Posted>, caller: Caller<Posted>, source: S
         ≡ modules.now.lock.table.shared.table_id }
     requires share { (view_in caller.pass).shares ≡ 1 }
     requires numbers { (view_in caller.pass).numbers ≡ caller.number ∷ [] }
+    requires guide { guide_in (view_in caller.pass).seen ≡ Some no_maps }
     requires fresh { SaysNothing weight caller.number (view_in caller.pass).seen }
     requires unasked { S.asked source ≡ [] }
     ensures job { IsToBegin modules.now.lock.table.shared.table_id S.holds S.asked result }
-    ensures guide { (maps : Maps) → guide_in (view_in caller.pass).seen ≡ Some maps
-        → IsGuided maps result }
+    ensures guide { IsGuided no_maps result }
 {
     Job { caller, source }
 }
@@ -333,15 +355,14 @@ fn new_job<R: Wait, S: Source>(
     requires own { table_of modules.now.lock.table.shared.table_id main.old.pass
         ≡ modules.now.lock.table.shared.table_id }
     requires shares { 1 < (view_in main.old.pass).shares }
+    requires guide { guide_in (view_in main.old.pass).seen ≡ Some no_maps }
     requires unasked { S.asked source ≡ [] }
     ensures own { table_of modules.now.lock.table.shared.table_id main.new.pass
         ≡ modules.now.lock.table.shared.table_id }
     ensures shares { (view_in main.new.pass).shares + 1 ≡ (view_in main.old.pass).shares }
+    ensures guide { guide_in (view_in main.new.pass).seen ≡ Some no_maps }
+    ensures guided { IfOk result (IsGuided no_maps) }
     ensures job { IfOk result (IsToBegin modules.now.lock.table.shared.table_id S.holds S.asked) }
-    ensures guide { (maps : Maps) → guide_in (view_in main.old.pass).seen ≡ Some maps
-        → guide_in (view_in main.new.pass).seen ≡ Some maps }
-    ensures guided { (maps : Maps) → guide_in (view_in main.old.pass).seen ≡ Some maps
-        → IfOk result (IsGuided maps) }
 {
     match another(rt, modules, main) {
         Ok(caller) => Ok(job(modules, caller, source)),
@@ -361,15 +382,16 @@ fn new_jobs<R: Wait, S: Source>(
     requires own { table_of modules.now.lock.table.shared.table_id main.old.pass
         ≡ modules.now.lock.table.shared.table_id }
     requires shares { 2 < (view_in main.old.pass).shares }
+    requires guide { guide_in (view_in main.old.pass).seen ≡ Some no_maps }
     requires unasked { (S.asked first ≡ []) × (S.asked second ≡ []) }
     ensures own { table_of modules.now.lock.table.shared.table_id main.new.pass
         ≡ modules.now.lock.table.shared.table_id }
     ensures shares { OnOk result
         ((view_in main.new.pass).shares + 2 ≡ (view_in main.old.pass).shares) }
+    ensures guide { OnOk result (guide_in (view_in main.new.pass).seen ≡ Some no_maps) }
+    ensures guides { IfOk result (λ v. All (IsGuided no_maps) v.items) }
     ensures jobs { IfOk result (λ v. All (IsToBegin modules.now.lock.table.shared.table_id S.holds
         S.asked) v.items) }
-    ensures guides { (maps : Maps) → guide_in (view_in main.old.pass).seen ≡ Some maps
-        → IfOk result (λ v. All (IsGuided maps) v.items) }
     ensures two { IfOk result (λ v. vec_len v ≡ 2) }
 {
     let one = new_job(rt, modules, main, first)?;
@@ -434,7 +456,7 @@ fn work_and_lead<R: Threads + Wait + Sync, S: Source + Send>(
         ≡ modules.now.lock.table.shared.table_id }
     requires jobs { All (IsToBegin modules.now.lock.table.shared.table_id S.holds S.asked)
         jobs.items }
-    requires guide { All (IsGuided guide.now) jobs.items }
+    requires guides { All (IsGuided guide.now) jobs.items }
     requires none { done.items ≡ [] }
     requires room { vec_len done + vec_len jobs ≤ vec_capacity done }
     ensures { (table_of modules.now.lock.table.shared.table_id result.0.caller.pass
@@ -485,10 +507,10 @@ fn two_workers_fetch_what_is_asked_for(rt: HostRuntime) -> Result<(), Fail> {
     let done = Vec::with_capacity(alloc, 2)?;
     let files = source_of(alloc, &[(URLS[0], text), (URLS[1], text), (URLS[2], text)])?;
     let nothing = source_of(alloc, &[])?;
-    let guide = ImportMap::empty(alloc);
-    let (modules, mut main) = opened(&rt, alloc, ImportMap::empty(alloc))?;
+    let (modules, mut main) = opened(&rt, alloc)?;
     let jobs = new_jobs(&rt, alloc, &modules, &mut main, files, nothing)?;
     let spare = another(&rt, &modules, &mut main)?;
+    let guide = ImportMap::empty(alloc);
     let (pool, main) = work_and_lead(&rt, alloc, &modules, &bell, &guide, main, spare, jobs, done);
     let Pool { caller, done } = pool;
     let caller = modules.meet(caller, main);
