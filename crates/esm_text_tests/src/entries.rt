@@ -1,5 +1,5 @@
 // Module texts with their entries, and texts that are handed back, worked out from the rules.
-use crate::tokens::{is_heading, unmarked};
+use crate::tokens::{is_heading, rows_in, unmarked};
 use esm_ast::{Entries, Wanted};
 use esm_base::{ReadEnd, TextFault};
 use esm_script::read_script;
@@ -150,11 +150,10 @@ fn wrong_row(alloc: Global) -> Result<Option<&'static str>, AllocError> {
     Ok(None)
 }
 
-// Fifteen texts below four headings.
 #[test]
 fn texts_have_their_entries(rt: HostRuntime) -> Result<(), AllocError> {
     assert_eq!(rt; wrong_row(rt.alloc())?, None);
-    assert!(rt; ENTRIES.lines().count() == 19);
+    assert!(rt; rows_in(ENTRIES) == 15);
     Ok(())
 }
 

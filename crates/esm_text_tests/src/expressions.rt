@@ -45,7 +45,7 @@ fn is_row_told(alloc: Global, row: &str) -> Result<bool, AllocError> {
     let text = unmarked(alloc, text)?;
     let mut tree = Tree::new(alloc);
     match behind_first(alloc, &mut tree, text.as_bytes()) {
-        Some(place) => Ok(place == count_of(wanted)),
+        Some(place) => Ok(count_of(wanted) == Some(place)),
         None => Ok(false),
     }
 }

@@ -242,16 +242,22 @@ pub fn is_heading(row: &str) -> bool {
     }
 }
 
-/// The number that a text begins with.
-pub fn count_of(text: &str) -> usize {
-    let mut count = 0_usize;
-    for c in text.chars() {
-        match c.to_digit(10) {
-            Some(digit) => count = count.saturating_mul(10).saturating_add(digit as usize),
-            None => return count,
-        }
+/// How many rows of a table are no headings.
+pub fn rows_in(table: &str) -> usize {
+    table.lines().filter(|row| !is_heading(row)).count()
+}
+
+/// The number that some digits are; none where there are none, or another sign.
+pub fn count_of(digits: &str) -> Option<usize> {
+    if digits.is_empty() {
+        return None;
     }
-    count
+    let mut count = 0_usize;
+    for c in digits.chars() {
+        let digit = c.to_digit(10)?;
+        count = count.saturating_mul(10).saturating_add(digit as usize);
+    }
+    Some(count)
 }
 
 // Whether the repeated text of a row has the fault that the row says.
@@ -262,7 +268,10 @@ fn is_nested(alloc: Global, row: &str) -> Result<bool, AllocError> {
     let Some((count, wanted)) = wanted.split_once(' ') else {
         return Ok(false);
     };
-    Ok(repeated(alloc, unit, count_of(count), b"")? == wanted)
+    match count_of(count) {
+        Some(count) => Ok(repeated(alloc, unit, count, b"")? == wanted),
+        None => Ok(false),
+    }
 }
 
 // The first row of the three tables that isn't as it says, if there is one.

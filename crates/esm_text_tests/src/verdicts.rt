@@ -1,7 +1,7 @@
 // Module texts and their verdicts, worked out from the rules of the language: those of the grammar stand in
 // `grammar_rows`, those of the early errors, of nesting, and of the order of faults here.
 use crate::grammar_rows::GRAMMAR;
-use crate::tokens::is_heading;
+use crate::tokens::{is_heading, rows_in};
 use esm_base::{ReadEnd, TextFault};
 use esm_parse_mod::parse;
 use std::alloc::{AllocError, Global};
@@ -329,10 +329,9 @@ fn wrong_row(alloc: Global) -> Result<Option<&'static str>, AllocError> {
     Ok(None)
 }
 
-// 527 texts below 11 headings, and 201 below 9.
 #[test]
 fn texts_have_their_verdicts(rt: HostRuntime) -> Result<(), AllocError> {
     assert_eq!(rt; wrong_row(rt.alloc())?, None);
-    assert!(rt; GRAMMAR.lines().count() == 538 && ERRORS.lines().count() == 210);
+    assert!(rt; rows_in(GRAMMAR) == 527 && rows_in(ERRORS) == 201);
     Ok(())
 }
