@@ -1,6 +1,6 @@
 -- What a turn of a worker leads to.
-use Rattle.std.proofs.Common.{◌≡◌, ◌⊎◌, inl, inr, ℕ, true, List, [], ◌∷◌, ◌++◌, map, refl, sym, ap, ◌∙◌, subst, append_assoc, append-nil, Option, Some, Result, Ok, Err}
-use Rattle.std.specs.Prelude.{All, IfOk, OnOk}
+use Rattle.std.proofs.Common.{◌≡◌, ◌⊎◌, inl, inr, ℕ, true, List, [], ◌∷◌, ◌++◌, map, refl, sym, ap, ◌∙◌, subst, append_assoc, append-nil, Option, Some, None, Result, Ok, Err}
+use Rattle.std.specs.Prelude.{All, IfOk, IfSome, OnOk}
 use Rattle.std.proofs.lemmas.List.Elements.{All-nil, All-cons, All-append}
 use Rattle.std.proofs.lemmas.List.{map-append}
 use Rattle.esm_base.specs.declared.memory.Memory.{Memory}
@@ -16,6 +16,7 @@ use Rattle.esm_module_map.specs.Replies.{Called, TakeReply}
 use Rattle.std.specs.Arc.{arc_value}
 use Rattle.esm_import_map.specs.ImportMap.{Maps}
 use Rattle.esm_specifier.specs.Targets.{AreTargets}
+use Rattle.esm_specifier.specs.Laws.{TargetsAreTested}
 use Rattle.esm_specifier.specs.declared.targets.Targets.{Targets}
 use Rattle.esm_module_map.specs.declared.reply.Taken.TheVariants as taken
 use Rattle.esm_module_map.specs.Leading.{guide_in}
@@ -25,7 +26,7 @@ use Rattle.esm_fetch.specs.declared.posted.Posted.{Posted}
 use Rattle.esm_tree.specs.Syntax.{Item}
 use Rattle.esm_ast.specs.Entries.{EntryLists, entries_of, entries_with, requests_of}
 use Rattle.esm_ast.specs.Outcome.{outcome_view}
-use Rattle.esm_fetch.specs.Answered.{Contents, kind_of}
+use Rattle.esm_fetch.specs.Answered.{Contents, kind_of, is_ahead}
 use Rattle.esm_fetch.specs.declared.working.Turned.{Turned}
 use Rattle.esm_fetch.specs.declared.working.Turned.TheVariants as turned
 use Rattle.esm_fetch.specs.Serving.{weight, fits, outcome_in, url_in, ask_for, IsTrueAnswer, IsServed, IsCut, Serves, Served, ServedBy, ShutBy, TurnSays}
@@ -194,9 +195,15 @@ module _ {G : Type 0} where
   pub short_end : (holds held : Option Contents) (asked : List Asked) (c d : ℕ) (now : List (MapEvent Posted G)) → held ≡ holds → d ≡ c → Served held asked d now → Served holds asked c now
   short_end holds held asked c d now same number s = subst (λ h. Served h asked c now) same (subst (λ m. Served held asked m now) number s)
 
--- targets of the same requests, written in another way
-pub targets_as : (maps : Maps) (url : Url) (requests others : List Url) (r : Result Targets Memory) → requests ≡ others → IfOk r (AreTargets maps url requests) → IfOk r (AreTargets maps url others)
-targets_as maps url requests others r same are = subst (λ l. IfOk r (AreTargets maps url l)) same are
+-- what was resolved ahead of the same requests, written in another way
+pub ahead_as : (maps : Maps) (url : Url) (requests others : List Url) (r : Result (Option Targets) Memory) → requests ≡ others
+    → IfOk r (λ targets. is_ahead maps url requests targets ≡ true) → IfOk r (λ targets. is_ahead maps url others targets ≡ true)
+ahead_as maps url requests others r same are = subst (λ l. IfOk r (λ targets. is_ahead maps url l targets ≡ true)) same are
+
+-- what the test says of what was resolved ahead
+pub resolved_ahead : TargetsAreTested → (maps : Maps) (url : Url) (requests : List Url) (ahead : Option Targets) → is_ahead maps url requests ahead ≡ true → IfSome ahead (AreTargets maps url requests)
+resolved_ahead tested maps url requests (Some targets) ok = (tested maps url requests targets).0 ok
+resolved_ahead tested maps url requests None ok = tt
 
 -- the requests of the entries are those of the tree
 pub requests_are : (e : EntryLists) (items : List Item) → e ≡ entries_of items → e.requests ≡ requests_of items

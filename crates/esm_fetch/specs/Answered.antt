@@ -1,5 +1,5 @@
 -- What a fetch comes to: how the source was asked, and what its answer is read as.
-use Rattle.std.specs.Prelude.{◌≡◌, ℕ, Bool, false, List, [], Option, None, Result, Ok, Err, IsSomeAnd, take, length, bytes_eq, ⊤}
+use Rattle.std.specs.Prelude.{◌≡◌, ℕ, Bool, true, false, List, [], Option, Some, None, Result, Ok, Err, IsSomeAnd, take, length, bytes_eq, ⊤}
 use Rattle.std.specs.List.{list_any}
 use Rattle.esm_base.specs.declared.limits.TheConstants.{MAX_BODY_BYTES}
 use Rattle.esm_base.specs.Urls.{Text, Url}
@@ -12,6 +12,8 @@ use Rattle.esm_ast.specs.Outcome.{OutcomeView}
 use Rattle.esm_import_map.specs.ImportMap.{Maps}
 use Rattle.esm_specifier.specs.Resolution.{resolution_of_specifier}
 use Rattle.esm_specifier.specs.declared.fault.SpecFault.{SpecFault}
+use Rattle.esm_specifier.specs.declared.targets.Targets.{Targets}
+use Rattle.esm_specifier.specs.Targets.{are_targets}
 
 -- how the ask was answered
 abbrev pub kind_of : OutcomeView → AskKind
@@ -55,6 +57,11 @@ requests_in (fetched.Script text) = requests_of text.items
 requests_in (fetched.Broken broken) = []
 requests_in fetched.Absent = []
 requests_in fetched.Failed = []
+
+-- own: what was resolved ahead is what these requests of the module at this URL resolve to, as a test
+abbrev pub is_ahead : Maps → Url → List Text → Option Targets → Bool
+is_ahead maps url requests (Some targets) = are_targets maps url requests targets
+is_ahead maps url requests None = true
 
 -- HTML, "fetch the descendants of a module script": what was fetched at the URL `from` is a module with a request that
 -- resolves to the URL `to` under the import map

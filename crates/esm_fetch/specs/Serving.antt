@@ -15,16 +15,15 @@ use Rattle.esm_fetch.specs.declared.posted.Posted.{Posted}
 use Rattle.esm_fetch.specs.declared.working.Turned.{Turned}
 use Rattle.esm_fetch.specs.declared.working.Turned.TheVariants as turned
 use Rattle.esm_import_map.specs.ImportMap.{Maps}
-use Rattle.esm_specifier.specs.Targets.{are_targets}
-use Rattle.esm_fetch.specs.Answered.{Contents, kind_of, size_of, requests_in, IsToldOutcome, IsRead}
+use Rattle.esm_fetch.specs.Answered.{Contents, kind_of, size_of, requests_in, is_ahead, IsToldOutcome, IsRead}
 
 -- own: how much a payload weighs
 abbrev pub weight : Posted → ℕ
 weight p = size_of (outcome_view p.outcome)
 
--- own: by the import map, its targets are what the requests of its outcome resolve to at the URL
+-- own: by the import map, its targets, if it has them, are what the requests of its outcome resolve to at the URL
 abbrev pub fits : Maps → Posted → Url → Bool
-fits maps p url = are_targets maps url (requests_in (outcome_view p.outcome)) p.targets
+fits maps p url = is_ahead maps url (requests_in (outcome_view p.outcome)) p.targets
 
 abbrev pub outcome_in : Answer Posted → OutcomeView
 outcome_in a = outcome_view a.payload.outcome

@@ -1,18 +1,17 @@
 // One fetch, what its body is read as, and what its requests resolve to.
-ghost use Rattle.std.specs.Prelude.{◌≡◌, ◌⊎◌, IfOk, OnErr, IfSome};
+ghost use Rattle.std.specs.Prelude.{◌≡◌, ◌⊎◌, true, IfOk, OnErr, IfSome};
 ghost use Rattle.esm_ports.specs.declared.asked.AskKind.TheVariants.{Body};
 ghost use Rattle.esm_ports.specs.Asks.{asks_with};
 ghost use Rattle.esm_ast.specs.Outcome.{outcome_view, OutcomeOf};
 ghost use Rattle.esm_base.specs.Urls.{IsUsable};
-ghost use Rattle.esm_specifier.specs.Targets.{AreTargets};
-ghost use Rattle.esm_fetch.specs.Answered.{kind_of, requests_in, IsRead, IsToldOutcome};
+ghost use Rattle.esm_fetch.specs.Answered.{kind_of, requests_in, is_ahead, IsRead, IsToldOutcome};
 
 use esm_ast::{BrokenText, Outcome};
 use esm_base::{Memory, ReadEnd, Text};
 use esm_import_map::ImportMap;
 use esm_ports::{FetchEnd, Source};
 use esm_script::read_script;
-use esm_specifier::{Targets, targets_of};
+use esm_specifier::{Targets, laws as specifier_laws, targets_of};
 use std::alloc::Global;
 use std::sync::Arc;
 
@@ -53,21 +52,47 @@ pub fn fetch_outcome<S: Source>(
     }
 }
 
-// What the requests of what was fetched at a URL resolve to; where it is no module there are none.
-pub(crate) fn targets_in(
+// How many bytes the targets of a module may take that are resolved ahead, at the most, where specifiers are short: as many
+// URLs as it has requests, each as long as its own. They are held twice, and up to the end of the run, so this is bounded.
+// Specifiers that are long themselves stand in the body, whose bytes are counted.
+const MAX_AHEAD: usize = 16 * 1024;
+
+// What these requests of the module at the URL resolve to, unless that may take more than is resolved ahead.
+fn resolve_few(
+    alloc: Global,
+    guide: &ImportMap,
+    url: &Text,
+    requests: &[Text],
+) -> Result<Option<Targets>, Memory>
+    requires { IsUsable url.now }
+    ensures { IfOk result
+        (λ targets. is_ahead guide.now url.now requests.now targets ≡ true) }
+{
+    specifier_laws::targets_are_tested();
+    if requests.len().saturating_mul(url.as_str().len()) > MAX_AHEAD {
+        return Ok(None);
+    }
+    match targets_of(alloc, guide, url, requests) {
+        Ok(targets) => Ok(Some(targets)),
+        Err(_) => Err(Memory),
+    }
+}
+
+// What the requests of what was fetched at a URL resolve to, where they are resolved ahead.
+pub(crate) fn resolve_ahead(
     alloc: Global,
     guide: &ImportMap,
     url: &Text,
     outcome: &Outcome,
-) -> Result<Targets, Memory>
+) -> Result<Option<Targets>, Memory>
     requires { IsUsable url.now }
-    ensures { IfOk result
-        (AreTargets guide.now url.now (requests_in (outcome_view outcome.now))) }
+    ensures { IfOk result (λ targets.
+        is_ahead guide.now url.now (requests_in (outcome_view outcome.now)) targets ≡ true) }
 {
     match outcome {
-        Outcome::Script(script) => targets_of(alloc, guide, url, script.entries().requests()),
-        Outcome::Broken(_broken) => Ok(Targets::Found(Vec::new(alloc))),
-        Outcome::Absent => Ok(Targets::Found(Vec::new(alloc))),
-        Outcome::Failed => Ok(Targets::Found(Vec::new(alloc))),
+        Outcome::Script(script) => resolve_few(alloc, guide, url, script.entries().requests()),
+        Outcome::Broken(_broken) => Ok(None),
+        Outcome::Absent => Ok(None),
+        Outcome::Failed => Ok(None),
     }
 }

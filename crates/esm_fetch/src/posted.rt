@@ -13,8 +13,8 @@ use esm_specifier::Targets;
 pub struct Posted {
     /// What it came to.
     pub outcome: Outcome,
-    /// What its requests resolve to.
-    pub targets: Targets,
+    /// What its requests resolve to, where they were resolved ahead.
+    pub targets: Option<Targets>,
 }
 
 // How many bytes an outcome keeps.
@@ -33,15 +33,14 @@ impl Payload for Posted {
     type Guide = ImportMap;
 
     ghost use Rattle.esm_ast.specs.Outcome.{outcome_view};
-    ghost use Rattle.esm_specifier.specs.Targets.{are_targets};
-    ghost use Rattle.esm_fetch.specs.Answered.{size_of, requests_in, requests_url};
+    ghost use Rattle.esm_fetch.specs.Answered.{size_of, requests_in, is_ahead, requests_url};
 
     ghost weight = { λ p. size_of (outcome_view p.outcome) };
 
     ghost leads = { λ maps p from to. requests_url maps from (outcome_view p.outcome) to };
 
     ghost fits = { λ maps p url.
-        are_targets maps url (requests_in (outcome_view p.outcome)) p.targets };
+        is_ahead maps url (requests_in (outcome_view p.outcome)) p.targets };
 
     fn size(&self) -> usize {
         size_of_outcome(&self.outcome)

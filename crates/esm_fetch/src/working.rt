@@ -16,13 +16,12 @@ ghost use Rattle.esm_fetch.specs.Serving.{weight, fits, IsTrueAnswer, Serves, Se
 ghost use Rattle.esm_fetch.specs.Inner.Asking.{IsAsking, FilledBy, HasTaken, TakenBy, closed};
 
 use crate::bell::Bell;
-use crate::fetch::{fetch_outcome, targets_in};
+use crate::fetch::{fetch_outcome, resolve_ahead};
 use crate::posted::Posted;
 use esm_base::Memory;
 use esm_import_map::ImportMap;
 use esm_module_map::{Caller, ModuleMap, Order, Taken, laws as map_laws};
 use esm_ports::Source;
-use esm_specifier::laws as specifier_laws;
 use std::alloc::Global;
 use std::sync::{Arc, Wait};
 
@@ -90,11 +89,10 @@ fn fetch_order<S: Source>(
         ⊎ ((kind : AskKind)
         × (S.asked source.new ≡ asks_with (S.asked source.old) order.now.url kind))) }
 {
-    specifier_laws::targets_are_tested();
     let Ok(outcome) = fetch_outcome(alloc, source, order.url()) else {
         return Err(Memory);
     };
-    let Ok(targets) = targets_in(alloc, guide, order.url(), &outcome) else {
+    let Ok(targets) = resolve_ahead(alloc, guide, order.url(), &outcome) else {
         return Err(Memory);
     };
     let Ok(payload) = Arc::new(alloc, Posted { outcome, targets }) else {
