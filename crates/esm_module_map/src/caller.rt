@@ -184,7 +184,8 @@ impl<P: Payload> ModuleMap<P> {
     }
 
     /// Asks for URLs as wanted, one after the other in one turn. `Ok` has an answer for each. The first refusal ends it, and
-    /// what was asked for before it stays so. All copies are made before the lock is taken.
+    /// what was asked for before it stays so. The copies that events and the list of URLs keep are made before the lock is
+    /// taken.
     pub fn ask_all<R: Wait>(
         &self,
         rt: &R,
