@@ -13,7 +13,6 @@ use Rattle.esm_module_map.specs.declared.event.MapEvent.{MapEvent}
 use Rattle.esm_module_map.specs.declared.reply.Taken.{Taken}
 use Rattle.esm_module_map.specs.Histories.{Answer, asks_by, takes_by, answers_by, shuts_by}
 use Rattle.esm_module_map.specs.Replies.{Called, TakeReply}
-use Rattle.std.specs.Arc.{arc_value}
 use Rattle.esm_import_map.specs.ImportMap.{Maps}
 use Rattle.esm_specifier.specs.Targets.{AreTargets}
 use Rattle.esm_specifier.specs.Laws.{TargetsAreTested}

@@ -1,5 +1,4 @@
-use Rattle.std.proofs.Common.{ap, ◌∙◌, sym, subst, inr}
-use Rattle.std.specs.Arc.{arc_value}
+use Rattle.std.proofs.Common.{ap, ◌∙◌, inr}
 use Rattle.esm_ports.specs.Asks.{asks_with}
 use Rattle.esm_fetch.specs.Answered.{kind_of}
 use Rattle.esm_ast.specs.Outcome.{outcome_view}
