@@ -5,23 +5,23 @@ ghost use Rattle.std.specs.Arc.{arc_value};
 ghost use Rattle.esm_hlock.specs.Views.{HasAllMakers};
 ghost use Rattle.esm_base.specs.Urls.{has, is_usable};
 ghost use Rattle.esm_import_map.specs.ImportMap.{Maps};
+ghost use Rattle.esm_module_map.specs.Leading.{guide_in};
 ghost use Rattle.esm_module_map.specs.Replay.{maker_of};
 ghost use Rattle.esm_module_map.specs.Views.{view_in, table_of, Same};
-ghost use Rattle.esm_module_map.specs.Saying.{Begins, Stays, IsShut};
-ghost use Rattle.esm_module_map.specs.Histories.{asks_by};
+ghost use Rattle.esm_module_map.specs.Saying.{Begins, IsShut};
+ghost use Rattle.esm_module_map.specs.Histories.{IsPostIn, asks_by};
 ghost use Rattle.esm_fetch.specs.Serving.{weight, Serves, Served, ServedBy};
 ghost use Rattle.esm_ast.specs.Outcome.{outcome_view};
 ghost use Rattle.esm_machine.specs.Machine.{state_of};
-ghost use Rattle.esm_machine.specs.Represents.{Represents, RepresentsOn, asks_of};
+ghost use Rattle.esm_machine.specs.Represents.{Represents, RepresentsOn, TakesDelivery, asks_of, maps_of};
 ghost use Rattle.esm_record.specs.Delivered.{deliveries_of};
-ghost use Rattle.esm_run.specs.Inner.Leading.{HasTicket, IsLed, IsNew, IsShared, Leads, LeadsOn};
+ghost use Rattle.esm_run.specs.Inner.Leading.{IsResolved, HasTicket, History, IsHeard, IsLed, IsNew, IsShared, Leads, LeadsOn};
 
-use crate::tickets::{Queue, Ticket, ask_open, choose, hear_next};
-use esm_ast::Outcome;
+use crate::tickets::{Chosen, Queue, Ticket, ask_open, choose, hear_next};
 use esm_base::{Memory, Text};
-use esm_fetch::{Bell, Posted, Turned, fetch_one};
+use esm_fetch::{Bell, Posted, Turned, fetch_one, laws as fetch_laws};
 use esm_import_map::ImportMap;
-use esm_machine::{Machine, TurnEnd};
+use esm_machine::{Machine, TurnEnd, laws as machine_laws};
 use esm_module_map::{Caller, ModuleMap, laws as map_laws};
 use esm_ports::Source;
 use esm_record::Delivery;
@@ -32,23 +32,38 @@ use std::sync::{Arc, Wait};
 // A machine under this import map that has asked for the entry.
 fn start(
     alloc: Global,
-    map: Arc<ImportMap, Global>,
+    map: &Arc<ImportMap, Global>,
     entry: &Text,
     trace: bool,
 ) -> Result<Machine, Memory>
     requires { is_usable entry.now ≡ true }
-    ensures { IfOk result (λ m. Represents (arc_value map) entry.now trace (state_of m) []) }
+    ensures { IfOk result (λ m. Represents (arc_value map.now) entry.now trace (state_of m) []) }
 {
+    let map = Arc::try_clone(map)?;
     Machine::new(alloc, map, entry.clone()?, trace)
 }
 
-// Delivers one completed fetch to the machine. A limit that is reached stops the machine and is no error here.
-fn hand_over(machine: &mut Machine, url: &Text, outcome: &Outcome) -> Result<(), Memory>
-    requires { has (asks_of (state_of machine.old)) url.now ≡ true }
-    ensures { OnOk result
-        (RepresentsOn (state_of machine.old) url.now (outcome_view outcome.now) (state_of machine.new)) }
+// Delivers one completed fetch to the machine, with what its requests resolve to where that was posted too.
+fn turn(machine: &mut Machine, url: &Text, posted: &Posted) -> Result<(), TurnEnd>
+    requires asked { has (asks_of (state_of machine.old)) url.now ≡ true }
+    requires targets { IsResolved (state_of machine.old) url.now posted.now }
+    ensures { TakesDelivery (state_of machine.old) url.now (outcome_view posted.now.outcome) result
+        (state_of machine.new) }
 {
-    match machine.deliver(url, outcome) {
+    match &posted.targets {
+        Some(targets) => machine.deliver_resolved(url, &posted.outcome, targets),
+        None => machine.deliver(url, &posted.outcome),
+    }
+}
+
+// The same. A limit that is reached stops the machine and is no error here.
+fn hand_over(machine: &mut Machine, url: &Text, posted: &Posted) -> Result<(), Memory>
+    requires asked { has (asks_of (state_of machine.old)) url.now ≡ true }
+    requires targets { IsResolved (state_of machine.old) url.now posted.now }
+    ensures { OnOk result (RepresentsOn (state_of machine.old) url.now
+        (outcome_view posted.now.outcome) (state_of machine.new)) }
+{
+    match turn(machine, url, posted) {
         Ok(()) => Ok(()),
         Err(TurnEnd::Fault(_limit)) => Ok(()),
         Err(TurnEnd::Memory) => Err(Memory),
@@ -65,45 +80,29 @@ fn has_no_ask(machine: &Machine) -> bool
     }
 }
 
-// Delivers what is posted for a ticket. One whose URL isn't an open ask is passed over.
-fn deliver<R: Wait>(
-    rt: &R,
-    modules: &ModuleMap<Posted>,
-    caller: &mut Caller<Posted>,
-    machine: &mut Machine,
-    ticket: Ticket,
-    taken: &mut Vec<Delivery>,
-) -> Result<(), Memory>
-    requires own { table_of modules.now.lock.table.shared.table_id caller.old.pass
-        ≡ modules.now.lock.table.shared.table_id }
-    requires ticket { HasTicket (view_in caller.old.pass).seen ticket }
-    ensures own { table_of modules.now.lock.table.shared.table_id caller.new.pass
-        ≡ modules.now.lock.table.shared.table_id }
-    ensures same { Same (view_in caller.old.pass) (view_in caller.new.pass)
-        × (caller.new.number ≡ caller.old.number) }
-    ensures says { Stays weight caller.old.number (view_in caller.old.pass).seen
-        (view_in caller.new.pass).seen }
-    ensures led { (maps : Maps) (entry : List ℕ) (trace : Bool)
-        → IsLed maps entry trace caller.old.number (view_in caller.old.pass).seen machine.old
-        (deliveries_of taken.old.items)
-        → LeadsOn maps entry trace result caller.old.number (view_in caller.new.pass).seen machine.new
-        (deliveries_of taken.new.items) }
+// Delivers what was posted for a ticket. One whose URL isn't an open ask is passed over.
+fn deliver(machine: &mut Machine, chosen: Chosen, taken: &mut Vec<Delivery>) -> Result<(), Memory>
+    requires { IsResolved (state_of machine.old) chosen.ticket.url (arc_value chosen.payload) }
+    ensures { (maps : Maps) (entry : List ℕ) (trace : Bool) (c : ℕ) (h : History)
+        → HasTicket h chosen.ticket
+        → IsPostIn h chosen.ticket.number (arc_value chosen.payload)
+        → IsLed maps entry trace c h machine.old (deliveries_of taken.old.items)
+        → LeadsOn maps entry trace result c h machine.new (deliveries_of taken.new.items) }
 {
-    map_laws::urls_stay::<Posted>();
-    map_laws::posts_stay::<Posted>();
     laws::asks_stay();
     laws::has_standard_run();
-    let Ticket { url, number } = ticket;
+    let Chosen { ticket, payload } = chosen;
+    let Ticket {
+        url,
+        number: _number,
+    } = ticket;
     if !machine.is_open(&url) {
         return Ok(());
     }
-    let Ok(Some(payload)) = modules.entry(rt, caller, number) else {
-        return Err(Memory);
-    };
     let Ok(outcome) = payload.outcome.share() else {
         return Err(Memory);
     };
-    let Ok(()) = hand_over(machine, &url, &outcome) else {
+    let Ok(()) = hand_over(machine, &url, &payload) else {
         return Err(Memory);
     };
     let Ok(()) = taken.push(Delivery { url, outcome }) else {
@@ -118,12 +117,14 @@ fn fetch_or_wait<R: Wait, S: Source>(
     alloc: Global,
     modules: &ModuleMap<Posted>,
     bell: &Bell,
+    guide: &ImportMap,
     caller: &mut Caller<Posted>,
     source: &mut S,
     queue: &mut Queue,
 ) -> Result<(), Memory>
     requires own { table_of modules.now.lock.table.shared.table_id caller.old.pass
         ≡ modules.now.lock.table.shared.table_id }
+    requires guide { guide_in (view_in caller.old.pass).seen ≡ Some guide.now }
     requires served { Serves (S.holds source.old) (S.asked source.old) caller.old.number
         (view_in caller.old.pass).seen }
     ensures own { table_of modules.now.lock.table.shared.table_id caller.new.pass
@@ -137,8 +138,9 @@ fn fetch_or_wait<R: Wait, S: Source>(
     ensures served { ServedBy result (S.holds source.old) (S.asked source.new) caller.old.number
         (view_in caller.new.pass).seen }
     ensures tickets { queue.new.tickets ≡ queue.old.tickets }
+    ensures posted { queue.new.posted ≡ queue.old.posted }
 {
-    let Ok(turned) = fetch_one(rt, alloc, modules, bell, caller, source) else {
+    let Ok(turned) = fetch_one(rt, alloc, modules, bell, guide, caller, source) else {
         return Err(Memory);
     };
     match turned {
@@ -157,6 +159,7 @@ fn advance<R: Wait, S: Source>(
     alloc: Global,
     modules: &ModuleMap<Posted>,
     bell: &Bell,
+    guide: &ImportMap,
     caller: &mut Caller<Posted>,
     source: &mut S,
     machine: &mut Machine,
@@ -167,7 +170,11 @@ fn advance<R: Wait, S: Source>(
         ≡ modules.now.lock.table.shared.table_id }
     requires served { Serves (S.holds source.old) (S.asked source.old) caller.old.number
         (view_in caller.old.pass).seen }
+    requires guide { guide_in (view_in caller.old.pass).seen ≡ Some guide.now }
+    requires maps { (state_of machine.old).stopped ≡ None
+        → maps_of (state_of machine.old) ≡ guide.now }
     requires tickets { All (HasTicket (view_in caller.old.pass).seen) queue.old.tickets.items }
+    requires posted { All (IsHeard (view_in caller.old.pass).seen) queue.old.posted.items }
     ensures own { table_of modules.now.lock.table.shared.table_id caller.new.pass
         ≡ modules.now.lock.table.shared.table_id }
     ensures same { Same (view_in caller.old.pass) (view_in caller.new.pass)
@@ -178,6 +185,8 @@ fn advance<R: Wait, S: Source>(
         (view_in caller.new.pass).seen }
     ensures tickets { OnOk result (All (HasTicket (view_in caller.new.pass).seen)
         queue.new.tickets.items) }
+    ensures posted { OnOk result (All (IsHeard (view_in caller.new.pass).seen)
+        queue.new.posted.items) }
     ensures window { length queue.old.tickets.items ≤ 32 → length queue.new.tickets.items ≤ 32 }
     ensures led { (maps : Maps) (entry : List ℕ) (trace : Bool)
         → IsLed maps entry trace caller.old.number (view_in caller.old.pass).seen machine.old
@@ -187,15 +196,25 @@ fn advance<R: Wait, S: Source>(
 {
     map_laws::urls_stay::<Posted>();
     map_laws::posts_stay::<Posted>();
-    let Ok(()) = ask_open(rt, modules, bell, caller, machine, &mut queue.tickets) else {
+    map_laws::guide_stays::<Posted>();
+    fetch_laws::posts_resolve();
+    let Ok(()) = ask_open(
+        rt,
+        alloc,
+        modules,
+        bell,
+        caller,
+        machine,
+        &mut queue.tickets,
+    ) else {
         return Err(Memory);
     };
     let Ok(()) = hear_next(rt, modules, caller, queue) else {
         return Err(Memory);
     };
     match choose(queue) {
-        Some(ticket) => deliver(rt, modules, caller, machine, ticket, taken),
-        None => fetch_or_wait(rt, alloc, modules, bell, caller, source, queue),
+        Some(chosen) => deliver(machine, chosen, taken),
+        None => fetch_or_wait(rt, alloc, modules, bell, guide, caller, source, queue),
     }
 }
 
@@ -206,7 +225,7 @@ fn drive<R: Wait, S: Source>(
     alloc: Global,
     modules: &ModuleMap<Posted>,
     bell: &Bell,
-    map: Arc<ImportMap, Global>,
+    map: &Arc<ImportMap, Global>,
     entry: &Text,
     trace: bool,
     caller: &mut Caller<Posted>,
@@ -216,6 +235,7 @@ fn drive<R: Wait, S: Source>(
     requires usable { is_usable entry.now ≡ true }
     requires own { table_of modules.now.lock.table.shared.table_id caller.old.pass
         ≡ modules.now.lock.table.shared.table_id }
+    requires guide { guide_in (view_in caller.old.pass).seen ≡ Some (arc_value map.now) }
     requires served { Serves (S.holds source.old) (S.asked source.old) caller.old.number
         (view_in caller.old.pass).seen }
     requires unasked { asks_by weight caller.old.number (view_in caller.old.pass).seen ≡ [] }
@@ -227,9 +247,11 @@ fn drive<R: Wait, S: Source>(
     ensures holds { S.holds source.new ≡ S.holds source.old }
     ensures served { Served (S.holds source.old) (S.asked source.new) caller.old.number
         (view_in caller.new.pass).seen }
-    ensures ends { Leads (arc_value map) entry.now trace result caller.old.number
+    ensures ends { Leads (arc_value map.now) entry.now trace result caller.old.number
         (view_in caller.new.pass).seen (deliveries_of taken.new.items) }
 {
+    machine_laws::keeps_its_map();
+    map_laws::guide_stays::<Posted>();
     let Ok(mut machine) = start(alloc, map, entry, trace) else {
         return Err(Memory);
     };
@@ -243,6 +265,7 @@ fn drive<R: Wait, S: Source>(
             alloc,
             modules,
             bell,
+            map,
             caller,
             source,
             &mut machine,
@@ -270,7 +293,7 @@ pub(crate) fn lead<R: Wait, S: Source>(
     alloc: Global,
     modules: &ModuleMap<Posted>,
     bell: &Bell,
-    import_map: Arc<ImportMap, Global>,
+    import_map: &Arc<ImportMap, Global>,
     entry: &Text,
     trace: bool,
     caller: Caller<Posted>,
@@ -279,6 +302,7 @@ pub(crate) fn lead<R: Wait, S: Source>(
     requires usable { is_usable entry.now ≡ true }
     requires own { table_of modules.now.lock.table.shared.table_id caller.pass
         ≡ modules.now.lock.table.shared.table_id }
+    requires guide { guide_in (view_in caller.pass).seen ≡ Some (arc_value import_map.now) }
     requires new { IsNew caller.number (view_in caller.pass) }
     requires one { length sources.items ≡ 1 }
     requires fresh { All (λ s. S.asked s ≡ []) sources.items }
@@ -289,8 +313,9 @@ pub(crate) fn lead<R: Wait, S: Source>(
     ensures makers { HasAllMakers maker_of (view_in result.caller.pass) }
     ensures kept { map S.holds result.sources.items ≡ map S.holds sources.items }
     ensures room { vec_capacity result.sources ≡ vec_capacity sources }
-    ensures led { IsShared S.holds S.asked (arc_value import_map) entry.now trace
-        (view_in result.caller.pass) result.machine (deliveries_of result.taken.items) result.sources.items }
+    ensures led { IsShared S.holds S.asked (arc_value import_map.now) entry.now trace
+        (view_in result.caller.pass) result.machine (deliveries_of result.taken.items)
+        result.sources.items }
 {
     map_laws::urls_stay::<Posted>();
     map_laws::posts_stay::<Posted>();

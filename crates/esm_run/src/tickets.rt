@@ -1,26 +1,24 @@
 // What the calling thread has asked of the module map and not delivered.
-ghost use Rattle.std.specs.Prelude.{◌≡◌, ◌≤◌, [], ◌+◌, ℕ, List, length, All, IfOk, IfSome, None, OnErr, OnOk, Contains, position, slice_get, true, Bool};
-ghost use Rattle.esm_base.specs.Urls.{IsUsable, is_usable};
+ghost use Rattle.std.specs.Prelude.{◌≡◌, ◌≤◌, ◌++◌, [], ◌∷◌, ◌+◌, ◌-◌, ℕ, List, length, map, take, drop, All, IfSome, None, Some, OnErr, OnOk, Contains, position, slice_get, Bool};
 ghost use Rattle.esm_machine.specs.Machine.{state_of};
 ghost use Rattle.esm_machine.specs.Represents.{Represents};
 ghost use Rattle.esm_import_map.specs.ImportMap.{Maps};
 ghost use Rattle.esm_module_map.specs.Views.{view_in, table_of, Same};
 ghost use Rattle.esm_module_map.specs.Saying.{Begins, Stays};
-ghost use Rattle.esm_module_map.specs.Histories.{takes_by, answers_by};
 ghost use Rattle.esm_module_map.specs.Replay.{replay};
 ghost use Rattle.esm_module_map.specs.Replies.{number_in};
 ghost use Rattle.esm_fetch.specs.Serving.{weight};
 ghost use Rattle.esm_ast.specs.Deliveries.{Delivery};
 ghost use Rattle.esm_run.specs.Inner.Leading as spec;
-ghost use Rattle.esm_run.specs.Inner.Leading.{AsksOn, HasTicket, HearsMore, IsFirstPosted, IsOpenAsk, IsStandardAsk, KeepsServing};
+ghost use Rattle.esm_run.specs.Inner.Leading.{AsksOn, HasTicket, HearsMore, History, IsFirstPosted, KeepsServing};
 
 use esm_base::{Memory, Text};
 use esm_fetch::{Bell, Posted};
 use esm_machine::Machine;
-use esm_module_map::{Asked, Caller, ModuleMap, Why, laws as map_laws};
+use esm_module_map::{Asked, Caller, Heard, ModuleMap, laws as map_laws};
 use esm_world::laws;
 use std::alloc::Global;
-use std::sync::Wait;
+use std::sync::{Arc, Wait};
 
 /// How many URLs are asked of the map and not delivered, at the most.
 pub(crate) const WINDOW: usize = 32;
@@ -35,11 +33,18 @@ pub(crate) struct Ticket {
     pub number: u32,
 }
 
-/// The tickets of what isn't delivered, and the posted numbers that are known and not delivered, in order of their posts.
+/// A ticket with what was posted for it.
+#[derive(Drop)]
+pub(crate) struct Chosen {
+    pub ticket: Ticket,
+    pub payload: Arc<Posted, Global>,
+}
+
+/// The tickets of what isn't delivered, and the posts that are known and not delivered, in their order.
 #[derive(Drop)]
 pub(crate) struct Queue {
     pub tickets: Vec<Ticket>,
-    pub posted: Vec<u32>,
+    pub posted: Vec<Heard<Posted>>,
     pub known: usize,
     pub heard: u64,
 }
@@ -59,77 +64,67 @@ impl Queue {
 }
 
 // The number that an answer has.
-fn number_of(asked: Asked) -> u32
-    ensures { result ≡ number_in asked }
+fn number_of(asked: &Asked) -> u32
+    ensures { result ≡ number_in asked.now }
 {
     match asked {
-        Asked::New(number) => number,
-        Asked::Waiting(number) => number,
-        Asked::Here(number) => number,
+        Asked::New(number) => *number,
+        Asked::Waiting(number) => *number,
+        Asked::Here(number) => *number,
     }
 }
 
-// Asks the map for one URL more, which is one that the standard run asks for.
-fn ask_one<R: Wait>(
-    rt: &R,
-    modules: &ModuleMap<Posted>,
-    caller: &mut Caller<Posted>,
-    url: Text,
-    tickets: &mut Vec<Ticket>,
-) -> Result<(), Memory>
-    requires own { table_of modules.now.lock.table.shared.table_id caller.old.pass
-        ≡ modules.now.lock.table.shared.table_id }
-    requires usable { is_usable url ≡ true }
-    ensures own { table_of modules.now.lock.table.shared.table_id caller.new.pass
-        ≡ modules.now.lock.table.shared.table_id }
-    ensures same { Same (view_in caller.old.pass) (view_in caller.new.pass)
-        × (caller.new.number ≡ caller.old.number) }
-    ensures begins { Begins (view_in caller.old.pass).seen (view_in caller.new.pass).seen }
-    ensures kept { KeepsServing caller.old.number (view_in caller.old.pass).seen
-        (view_in caller.new.pass).seen }
-    ensures asks { (maps : Maps) (entry : List ℕ) (trace : Bool) (taken : List Delivery)
-        → IsStandardAsk maps entry trace taken url
-        → AsksOn maps entry trace taken caller.old.number (view_in caller.old.pass).seen
-        (view_in caller.new.pass).seen }
-    ensures tickets { All (HasTicket (view_in caller.old.pass).seen) tickets.old.items
-        → OnOk result (All (HasTicket (view_in caller.new.pass).seen) tickets.new.items) }
-    ensures more { OnOk result (length tickets.new.items ≡ length tickets.old.items + 1) }
+// Adds a ticket.
+fn add_ticket(tickets: &mut Vec<Ticket>, url: &Text, number: u32) -> Result<(), Memory>
+    ensures more { OnOk result (tickets.new.items
+        ≡ tickets.old.items ++ record { url = url.now; number = number } ∷ []) }
     ensures none { OnErr result (tickets.new.items ≡ tickets.old.items) }
 {
-    map_laws::urls_stay::<Posted>();
-    let Ok(asked) = modules.ask(rt, caller, &url, Why::Wanted) else {
+    let Ok(url) = url.clone() else {
         return Err(Memory);
     };
-    let ticket = Ticket {
-        url,
-        number: number_of(asked),
-    };
-    let Ok(()) = tickets.push(ticket) else {
+    let Ok(()) = tickets.push(Ticket { url, number }) else {
         return Err(Memory);
     };
     Ok(())
 }
 
-// The open ask at a place, if there are so many.
-fn ask_at(machine: &Machine, place: usize) -> Result<Option<Text>, Memory>
-    ensures usable { IfOk result (λ found. IfSome found IsUsable) }
-    ensures open { IfOk result (λ found. IfSome found (IsOpenAsk machine.now)) }
+// Adds a ticket for each of these URLs, with the number that the map has answered.
+fn add_tickets(tickets: &mut Vec<Ticket>, urls: &[Text], asked: &[Asked]) -> Result<(), Memory>
+    requires { length asked.now ≡ length urls.now }
+    ensures tickets { (h : History)
+        → map (λ a. slice_get (replay weight h).urls (number_in a)) asked.now ≡ map Some urls.now
+        → All (HasTicket h) tickets.old.items → OnOk result (All (HasTicket h) tickets.new.items) }
+    ensures few { length tickets.new.items ≤ length tickets.old.items + length urls.now }
 {
-    let asks = machine.asks();
-    if place >= asks.len() {
-        return Ok(None);
+    for at in 0..urls.len() {
+        let Ok(()) = add_ticket(tickets, &urls[at], number_of(&asked[at])) else {
+            return Err(Memory);
+        };
     }
-    Ok(Some(asks[place].clone()?))
+    Ok(())
 }
 
-// Asks the map for the first open ask without a ticket, unless the window is full or there is none: whether it did.
-fn ask_next<R: Wait>(
+// The texts from one place up to another, as far as they are there.
+fn between(texts: &[Text], from: usize, to: usize) -> &[Text]
+    ensures { result.now ≡ take (to - from) (drop from texts.now) }
+{
+    let start = from.min(texts.len());
+    let behind = &texts[start..];
+    let many = to.saturating_sub(from);
+    let count = many.min(behind.len());
+    &behind[..count]
+}
+
+// Asks the map for the machine's open asks in their order, up to the window, in one turn.
+fn ask_more<R: Wait>(
     rt: &R,
+    alloc: Global,
     modules: &ModuleMap<Posted>,
     caller: &mut Caller<Posted>,
     machine: &Machine,
     tickets: &mut Vec<Ticket>,
-) -> Result<bool, Memory>
+) -> Result<(), Memory>
     requires own { table_of modules.now.lock.table.shared.table_id caller.old.pass
         ≡ modules.now.lock.table.shared.table_id }
     requires tickets { All (HasTicket (view_in caller.old.pass).seen) tickets.old.items }
@@ -149,62 +144,22 @@ fn ask_next<R: Wait>(
     ensures window { length tickets.old.items ≤ 32 → length tickets.new.items ≤ 32 }
 {
     laws::open_asks();
-    if tickets.len() >= WINDOW {
-        return Ok(false);
+    map_laws::urls_stay::<Posted>();
+    let urls = between(machine.asks(), tickets.len(), WINDOW);
+    if urls.is_empty() {
+        return Ok(());
     }
-    let Ok(found) = ask_at(machine, tickets.len()) else {
+    let Ok(asked) = modules.ask_all(rt, alloc, caller, urls) else {
         return Err(Memory);
     };
-    let Some(url) = found else {
-        return Ok(false);
-    };
-    let Ok(()) = ask_one(rt, modules, caller, url, tickets) else {
-        return Err(Memory);
-    };
-    Ok(true)
-}
-
-// Asks the map for the machine's open asks in their order, up to the window.
-fn ask_more<R: Wait>(
-    rt: &R,
-    modules: &ModuleMap<Posted>,
-    caller: &mut Caller<Posted>,
-    machine: &Machine,
-    tickets: &mut Vec<Ticket>,
-) -> Result<(), Memory>
-    requires own { table_of modules.now.lock.table.shared.table_id caller.old.pass
-        ≡ modules.now.lock.table.shared.table_id }
-    requires tickets { All (HasTicket (view_in caller.old.pass).seen) tickets.old.items }
-    ensures own { table_of modules.now.lock.table.shared.table_id caller.new.pass
-        ≡ modules.now.lock.table.shared.table_id }
-    ensures same { Same (view_in caller.old.pass) (view_in caller.new.pass)
-        × (caller.new.number ≡ caller.old.number) }
-    ensures begins { Begins (view_in caller.old.pass).seen (view_in caller.new.pass).seen }
-    ensures kept { KeepsServing caller.old.number (view_in caller.old.pass).seen
-        (view_in caller.new.pass).seen }
-    ensures asks { (maps : Maps) (entry : List ℕ) (trace : Bool) (taken : List Delivery)
-        → Represents maps entry trace (state_of machine.now) taken
-        → AsksOn maps entry trace taken caller.old.number (view_in caller.old.pass).seen
-        (view_in caller.new.pass).seen }
-    ensures tickets { OnOk result (All (HasTicket (view_in caller.new.pass).seen)
-        tickets.new.items) }
-    ensures window { length tickets.old.items ≤ 32 → length tickets.new.items ≤ 32 }
-{
-    for _ in 0..WINDOW {
-        let Ok(more) = ask_next(rt, modules, caller, machine, tickets) else {
-            return Err(Memory);
-        };
-        if !more {
-            return Ok(());
-        }
-    }
-    Ok(())
+    add_tickets(tickets, urls, asked.as_slice())
 }
 
 /// The same, where no more than half of the window is full, and rings the bell once for all that was asked. The tickets are
 /// those of the first open asks.
 pub(crate) fn ask_open<R: Wait>(
     rt: &R,
+    alloc: Global,
     modules: &ModuleMap<Posted>,
     bell: &Bell,
     caller: &mut Caller<Posted>,
@@ -233,7 +188,7 @@ pub(crate) fn ask_open<R: Wait>(
     if before > REFILL {
         return Ok(());
     }
-    let asked = ask_more(rt, modules, caller, machine, tickets);
+    let asked = ask_more(rt, alloc, modules, caller, machine, tickets);
     bell.ring_for_orders(rt, tickets.len().saturating_sub(before));
     asked
 }
@@ -252,31 +207,36 @@ fn place_of(tickets: &[Ticket], number: u32) -> Option<usize>
     tickets.iter().position(|ticket| ticket.number == number)
 }
 
-// The place of the number that was posted first of those with a ticket.
-fn first_posted(posted: &[u32], tickets: &[Ticket]) -> Option<usize>
-    ensures { result ≡ position (spec.has_ticket tickets.now) posted.now }
+// The place of the post that came first of those with a ticket.
+fn first_posted(posted: &[Heard<Posted>], tickets: &[Ticket]) -> Option<usize>
+    ensures { result ≡ position (spec.is_awaited tickets.now) posted.now }
 {
     posted
         .iter()
-        .position(|number| has_ticket(tickets, *number))
+        .position(|post| has_ticket(tickets, post.number))
 }
 
-/// The ticket of the number that was posted first of those that have one; ticket and number leave the queue.
-pub(crate) fn choose(queue: &mut Queue) -> Option<Ticket>
+/// The ticket of the post that came first of those that have one, with what was posted; ticket and post leave the queue.
+pub(crate) fn choose(queue: &mut Queue) -> Option<Chosen>
     ensures first { IsFirstPosted queue.old.tickets.items queue.old.posted.items result
         queue.new.posted.items }
-    ensures among { IfSome result (Contains queue.old.tickets.items) }
+    ensures among { IfSome result (λ chosen. Contains queue.old.tickets.items chosen.ticket) }
     ensures left { All (Contains queue.old.tickets.items) queue.new.tickets.items }
+    ensures left_posted { All (Contains queue.old.posted.items) queue.new.posted.items }
     ensures shorter { length queue.new.tickets.items ≤ length queue.old.tickets.items }
 {
     let Some(at) = first_posted(&queue.posted, &queue.tickets) else {
         return None;
     };
-    let number = queue.posted.remove(at);
-    let Some(place) = place_of(&queue.tickets, number) else {
+    let post = queue.posted.remove(at);
+    let Some(place) = place_of(&queue.tickets, post.number) else {
         unreachable!()
     };
-    Some(queue.tickets.remove(place))
+    let ticket = queue.tickets.remove(place);
+    Some(Chosen {
+        ticket,
+        payload: post.payload,
+    })
 }
 
 /// Puts what was posted behind the posts that are known into the queue, in order. Where memory runs out it may be a part
@@ -301,23 +261,23 @@ pub(crate) fn hear<R: Wait>(
     ensures all { OnOk result (slice_get (replay weight (view_in caller.new.pass).seen).posts
         queue.new.known ≡ None) }
 {
+    map_laws::posts_stay::<Posted>();
     for _ in rt.forever() {
-        let Some(number) = modules.post_at(rt, caller, queue.known) else {
+        let Ok(()) = queue.posted.reserve(WINDOW) else {
+            return Err(Memory);
+        };
+        let Ok(()) = modules.hear(rt, caller, &mut queue.known, &mut queue.posted) else {
+            return Err(Memory);
+        };
+        if queue.posted.len() < queue.posted.capacity() {
             return Ok(());
-        };
-        let Some(known) = queue.known.checked_add(1) else {
-            return Err(Memory);
-        };
-        let Ok(()) = queue.posted.push(number) else {
-            return Err(Memory);
-        };
-        queue.known = known;
+        }
     }
     unreachable!()
 }
 
-/// The same where nothing is known that isn't delivered. Else nothing is done, so that what was posted meanwhile is heard
-/// in a row: the lock is entered once for each number, and once more.
+/// The same where nothing is known that isn't delivered. Else nothing is done, so that the lock is entered once for all that
+/// was posted meanwhile.
 pub(crate) fn hear_next<R: Wait>(
     rt: &R,
     modules: &ModuleMap<Posted>,

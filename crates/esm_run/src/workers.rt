@@ -7,10 +7,12 @@ ghost use Rattle.esm_hlock.specs.Views.{HasAllMakers};
 ghost use Rattle.esm_hlock.specs.Words.{knows, IsPassOf};
 ghost use Rattle.esm_base.specs.Urls.{is_usable};
 ghost use Rattle.esm_import_map.specs.ImportMap.{Maps};
+ghost use Rattle.esm_module_map.specs.Leading.{guide_in};
 ghost use Rattle.esm_module_map.specs.Replay.{maker_of};
 ghost use Rattle.esm_module_map.specs.Histories.{asks_by};
-ghost use Rattle.esm_module_map.specs.Views.{view_in, table_of, Same};
-ghost use Rattle.esm_fetch.specs.Serving.{weight, Serves, ServedIf};
+ghost use Rattle.esm_module_map.specs.Saying.{Begins};
+ghost use Rattle.esm_module_map.specs.Views.{view_in, table_of};
+ghost use Rattle.esm_fetch.specs.Serving.{weight, ServedIf};
 ghost use Rattle.esm_record.specs.Delivered.{deliveries_of};
 ghost use Rattle.esm_run.specs.Inner.Leading.{IsNew, IsShared};
 ghost use Rattle.esm_run.specs.Report.{IsGraphRun};
@@ -108,11 +110,13 @@ fn begin_worker<R: Wait, S: Source>(
     alloc: Global,
     modules: &ModuleMap<Posted>,
     bell: &Bell,
+    import_map: &Arc<ImportMap, Global>,
     caller: Caller<Posted>,
     source: S,
 ) -> WorkerEnd<S>
     requires own { table_of modules.now.lock.table.shared.table_id caller.pass
         ≡ modules.now.lock.table.shared.table_id }
+    requires guide { guide_in (view_in caller.pass).seen ≡ Some (arc_value import_map.now) }
     requires new { IsNew caller.number (view_in caller.pass) }
     requires fresh { S.asked source ≡ [] }
     ensures own { table_of modules.now.lock.table.shared.table_id result.caller.pass
@@ -124,7 +128,7 @@ fn begin_worker<R: Wait, S: Source>(
     ensures unasked { asks_by weight result.caller.number (view_in result.caller.pass).seen ≡ [] }
     ensures holds { S.holds result.source ≡ S.holds source }
 {
-    worker(rt, alloc, modules, bell, caller, source)
+    worker(rt, alloc, modules, bell, import_map, caller, source)
 }
 
 // The run with a worker for each of these callers, and for each source but the first. Threads nest, the last worker's
@@ -135,7 +139,7 @@ fn with_workers<R: Threads + Wait + Sync, S: Source + Send>(
     alloc: Global,
     modules: &ModuleMap<Posted>,
     bell: &Bell,
-    import_map: Arc<ImportMap, Global>,
+    import_map: &Arc<ImportMap, Global>,
     entry: &Text,
     trace: bool,
     caller: Caller<Posted>,
@@ -145,6 +149,9 @@ fn with_workers<R: Threads + Wait + Sync, S: Source + Send>(
     requires usable { is_usable entry.now ≡ true }
     requires own { table_of modules.now.lock.table.shared.table_id caller.pass
         ≡ modules.now.lock.table.shared.table_id }
+    requires guide { guide_in (view_in caller.pass).seen ≡ Some (arc_value import_map.now) }
+    requires guides { All (λ w. guide_in (view_in w.pass).seen ≡ Some (arc_value import_map.now))
+        workers.items }
     requires new { IsNew caller.number (view_in caller.pass) }
     requires workers { All (λ w. (table_of modules.now.lock.table.shared.table_id w.pass
         ≡ modules.now.lock.table.shared.table_id) × ((view_in w.pass).shares ≡ 1)
@@ -158,8 +165,9 @@ fn with_workers<R: Threads + Wait + Sync, S: Source + Send>(
     ensures makers { HasAllMakers maker_of (view_in result.caller.pass) }
     ensures kept { map S.holds result.sources.items ≡ map S.holds sources.items }
     ensures room { vec_capacity result.sources ≡ vec_capacity sources }
-    ensures led { IsShared S.holds S.asked (arc_value import_map) entry.now trace
-        (view_in result.caller.pass) result.machine (deliveries_of result.taken.items) result.sources.items }
+    ensures led { IsShared S.holds S.asked (arc_value import_map.now) entry.now trace
+        (view_in result.caller.pass) result.machine (deliveries_of result.taken.items)
+        result.sources.items }
 {
     let mut workers = workers;
     let mut sources = sources;
@@ -177,6 +185,7 @@ fn with_workers<R: Threads + Wait + Sync, S: Source + Send>(
                     requires { IsSync R.row
                         × (table_of modules.now.lock.table.shared.table_id mine.pass
                         ≡ modules.now.lock.table.shared.table_id)
+                        × (guide_in (view_in mine.pass).seen ≡ Some (arc_value import_map.now))
                         × IsNew mine.number (view_in mine.pass) × (S.asked source ≡ []) }
                     ensures { (table_of modules.entry.now.lock.table.shared.table_id
                         result.caller.pass ≡ modules.entry.now.lock.table.shared.table_id)
@@ -185,11 +194,13 @@ fn with_workers<R: Threads + Wait + Sync, S: Source + Send>(
                         × ServedIf result.short (S.holds result.source) (S.asked result.source) result.caller.number (view_in result.caller.pass).seen
                         × (asks_by weight result.caller.number (view_in result.caller.pass).seen ≡ [])
                         × (S.holds result.source ≡ S.holds source) }
-                { begin_worker(rt, alloc, modules, bell, mine, source) },
+                { begin_worker(rt, alloc, modules, bell, import_map, mine, source) },
                 || -> Led<S>
                     requires { IsSync R.row × (is_usable entry.now ≡ true)
                         × (table_of modules.now.lock.table.shared.table_id caller.pass
                         ≡ modules.now.lock.table.shared.table_id)
+                        × (guide_in (view_in caller.pass).seen ≡ Some (arc_value import_map.now))
+                        × All (λ w. guide_in (view_in w.pass).seen ≡ Some (arc_value import_map.now)) workers.items
                         × IsNew caller.number (view_in caller.pass)
                         × All (λ w. (table_of modules.now.lock.table.shared.table_id w.pass
                         ≡ modules.now.lock.table.shared.table_id) × ((view_in w.pass).shares ≡ 1)
@@ -201,7 +212,7 @@ fn with_workers<R: Threads + Wait + Sync, S: Source + Send>(
                         × ((view_in result.caller.pass).shares ≡ (view_in caller.pass).shares + length workers.items)
                         × (map S.holds result.sources.items ≡ map S.holds sources.items)
                         × (vec_capacity result.sources ≡ vec_capacity sources)
-                        × IsShared S.holds S.asked (arc_value import_map) entry.entry.now trace (view_in result.caller.pass) result.machine (deliveries_of result.taken.items) result.sources.items }
+                        × IsShared S.holds S.asked (arc_value import_map.entry.now) entry.entry.now trace (view_in result.caller.pass) result.machine (deliveries_of result.taken.items) result.sources.items }
                 {
                     with_workers(
                         rt, alloc, modules, bell, import_map, entry, trace, caller, workers,
@@ -226,6 +237,7 @@ fn enrol_one<R: Wait>(
     ensures own { IfOk result (λ w. table_of modules.now.lock.table.shared.table_id w.pass
         ≡ modules.now.lock.table.shared.table_id) }
     ensures shares { IfOk result (λ w. (view_in w.pass).shares ≡ (knows pass).shares) }
+    ensures begins { IfOk result (λ w. Begins (knows pass).seen (view_in w.pass).seen) }
     ensures new { IfOk result (λ w. IsNew w.number (view_in w.pass)) }
 {
     match modules.enrol(rt, pass) {
@@ -251,12 +263,16 @@ fn enrol_workers<R: Wait>(
     ensures shares { OnOk result ((view_in caller.new.pass).shares + count
         ≡ (view_in caller.old.pass).shares) }
     ensures new { IsNew caller.new.number (view_in caller.new.pass) }
+    ensures seen { (view_in caller.new.pass).seen ≡ (view_in caller.old.pass).seen }
+    ensures guides { (maps : Maps) → guide_in (view_in caller.old.pass).seen ≡ Some maps
+        → IfOk result (λ v. All (λ w. guide_in (view_in w.pass).seen ≡ Some maps) v.items) }
     ensures workers { IfOk result (λ v. All (λ w.
         (table_of modules.now.lock.table.shared.table_id w.pass
         ≡ modules.now.lock.table.shared.table_id) × ((view_in w.pass).shares ≡ 1)
         × IsNew w.number (view_in w.pass)) v.items) }
     ensures many { IfOk result (λ v. length v.items ≡ count) }
 {
+    map_laws::guide_stays::<Posted>();
     let mut workers = Vec::new(alloc);
     while workers.len() < count {
         let pass = modules.split(caller);
@@ -274,6 +290,9 @@ fn enrol_workers<R: Wait>(
 fn prepare<R: Wait>(rt: &R, alloc: Global, map: ImportMap, count: usize) -> Result<Ready, Memory>
     requires few { count < 1024 }
     ensures map { IfOk result (λ r. arc_value r.map ≡ map) }
+    ensures guide { IfOk result (λ r. guide_in (view_in r.caller.pass).seen ≡ Some map) }
+    ensures guides { IfOk result
+        (λ r. All (λ w. guide_in (view_in w.pass).seen ≡ Some map) r.workers.items) }
     ensures own { IfOk result (λ r. table_of r.modules.lock.table.shared.table_id r.caller.pass
         ≡ r.modules.lock.table.shared.table_id) }
     ensures shares { IfOk result (λ r. (view_in r.caller.pass).shares + count ≡ 1024) }
@@ -284,6 +303,7 @@ fn prepare<R: Wait>(rt: &R, alloc: Global, map: ImportMap, count: usize) -> Resu
         × IsNew w.number (view_in w.pass)) r.workers.items) }
     ensures many { IfOk result (λ r. length r.workers.items ≡ count) }
 {
+    map_laws::guide_stays::<Posted>();
     let Ok(map) = Arc::new(alloc, map) else {
         return Err(Memory);
     };
@@ -358,7 +378,7 @@ pub(crate) fn run_graph<R: Threads + Wait + Sync, S: Source + Send>(
     } = ready;
     let bell = Bell::new();
     let led = with_workers(
-        rt, alloc, &modules, &bell, map, entry, trace, caller, callers, sources,
+        rt, alloc, &modules, &bell, &map, entry, trace, caller, callers, sources,
     );
     let Led {
         machine,

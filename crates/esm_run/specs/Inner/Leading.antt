@@ -1,5 +1,6 @@
 -- How far the calling thread has come: what it has asked of the module map, and what it has taken.
-use Rattle.std.specs.Prelude.{◌≡◌, ℕ, ◌+◌, ◌==◌, Bool, true, List, [], ◌∷◌, ◌++◌, length, Option, Some, None, All, Result, Ok, Err, slice_get, position, remove}
+use Rattle.std.specs.Prelude.{◌≡◌, ℕ, ◌==◌, Bool, true, List, [], ◌∷◌, Option, Some, None, IfSome, All, Result, Ok, Err, slice_get, position, remove}
+use Rattle.std.specs.Arc.{arc_value}
 use Rattle.std.specs.List.{list_any}
 use Rattle.esm_hlock.specs.declared.view.View.{View}
 use Rattle.esm_base.specs.declared.memory.Memory.{Memory}
@@ -8,17 +9,21 @@ use Rattle.esm_ports.specs.declared.asked.Asked.{Asked}
 use Rattle.esm_ast.specs.Outcome.{outcome_view}
 use Rattle.esm_import_map.specs.ImportMap.{Maps}
 use Rattle.esm_module_map.specs.declared.event.MapEvent.{MapEvent}
+use Rattle.esm_module_map.specs.declared.reply.Heard.{Heard}
+use Rattle.esm_module_map.specs.Hearing.{HearsPosts}
 use Rattle.esm_module_map.specs.Replay.{replay}
 use Rattle.esm_module_map.specs.Histories.{IsPostIn, asks_by, takes_by, answers_by}
 use Rattle.esm_fetch.specs.declared.posted.Posted.{Posted}
 use Rattle.esm_fetch.specs.Answered.{Contents}
 use Rattle.esm_fetch.specs.Serving.{weight, Served}
+use Rattle.esm_loads.specs.Arrival.{AreResolved}
 use Rattle.esm_loads.specs.LoadsView.{every_form}
 use Rattle.esm_world.specs.World.{World, opening}
 use Rattle.esm_world.specs.Run.{Runs, Shown, StandardRun}
 use Rattle.esm_ast.specs.Deliveries.{Delivery}
 use Rattle.esm_machine.specs.Machine.{MachineParts, state_of}
-use Rattle.esm_machine.specs.Represents.{Represents, ShownBy, asks_of}
+use Rattle.esm_machine.specs.Represents.{MachineState, Represents, ShownBy, asks_of, maps_of}
+use Rattle.esm_run.specs.declared.tickets.Chosen.{Chosen}
 use Rattle.esm_run.specs.declared.tickets.Ticket.{Ticket}
 
 -- ---- tickets
@@ -31,12 +36,16 @@ is_for n ticket = ticket.number == n
 abbrev pub has_ticket : List Ticket → ℕ → Bool
 has_ticket tickets n = list_any (is_for n) tickets
 
--- own: the ticket is for the number that was posted first of those that have one, and that number leaves the posted ones
-abbrev pub IsFirstPosted : List Ticket → List ℕ → Option Ticket → List ℕ → Type 0
-IsFirstPosted tickets posted None left = (position (has_ticket tickets) posted ≡ None) × (left ≡ posted)
-IsFirstPosted tickets posted (Some ticket) left =
-    (place : ℕ) × (position (has_ticket tickets) posted ≡ Some place) × (slice_get posted place ≡ Some ticket.number)
-    × (left ≡ remove posted place)
+-- some ticket has the post's
+abbrev pub is_awaited : List Ticket → Heard Posted → Bool
+is_awaited tickets post = has_ticket tickets post.number
+
+-- own: the ticket is for the post that came first of those that have one, what was posted is with it, and that post leaves the others
+abbrev pub IsFirstPosted : List Ticket → List (Heard Posted) → Option Chosen → List (Heard Posted) → Type 0
+IsFirstPosted tickets posted None left = (position (is_awaited tickets) posted ≡ None) × (left ≡ posted)
+IsFirstPosted tickets posted (Some chosen) left =
+    (place : ℕ) × (post : Heard Posted) × (position (is_awaited tickets) posted ≡ Some place) × (slice_get posted place ≡ Some post)
+    × (post.number ≡ chosen.ticket.number) × (post.payload ≡ chosen.payload) × (left ≡ remove posted place)
 
 -- ---- what is taken
 
@@ -62,6 +71,15 @@ EndsDriven Delivered maps entry trace None taken = IsCutShort Delivered maps ent
 abbrev pub IsOpenAsk : MachineParts → Url → Type 0
 IsOpenAsk m url = ShownBy (state_of m) (λ what. has what.asks url ≡ true)
 
+-- as long as the machine goes on, targets that were posted under the URL are by its import map
+abbrev pub IsResolved : MachineState → Url → Posted → Type 0
+IsResolved m url posted =
+    m.stopped ≡ None → IfSome posted.targets (AreResolved (maps_of m) url (outcome_view posted.outcome))
+
+-- a history of a run's module map: its guide is the import map
+abbrev pub History : Type 0
+History = List (MapEvent Posted Maps)
+
 -- the standard run of what was taken has asked for the URL
 abbrev pub IsStandardAsk : Maps → Url → Bool → List Delivery → Url → Type 0
 IsStandardAsk maps entry trace taken url = (what : Shown) → StandardRun maps every_form entry trace taken what → has what.asked url ≡ true
@@ -71,13 +89,13 @@ module _ {G : Type 0} where
   abbrev pub HasTicket : List (MapEvent Posted G) → Ticket → Type 0
   HasTicket h ticket = slice_get (replay weight h).urls ticket.number ≡ Some ticket.url
 
-  -- own: further numbers stand behind those that were heard of, and so many more are known: those of the posts from `known` on, in
-  -- their order
-  pub record HearsMore (h : List (MapEvent Posted G)) (known : ℕ) (heard : List ℕ) (known_now : ℕ) (heard_now : List ℕ) : Type 0 where
-    pub more : List ℕ
-    pub behind : heard_now ≡ heard ++ more
-    pub counted : known_now ≡ known + length more
-    pub in_order : (i number : ℕ) → slice_get more i ≡ Some number → slice_get (replay weight h).posts (known + i) ≡ Some number
+  -- further posts were heard of: those of the history from `known` on, in their order
+  abbrev pub HearsMore : List (MapEvent Posted G) → ℕ → List (Heard Posted) → ℕ → List (Heard Posted) → Type 0
+  HearsMore h known heard known_now heard_now = HearsPosts weight h known heard known_now heard_now
+
+  -- the history has the post
+  abbrev pub IsHeard : List (MapEvent Posted G) → Heard Posted → Type 0
+  IsHeard h post = IsPostIn h post.number (arc_value post.payload)
 
   -- the delivery is what was posted under a number that has its URL
   pub record WasPosted (h : List (MapEvent Posted G)) (delivery : Delivery) : Type 0 where

@@ -1,10 +1,11 @@
-use Rattle.std.proofs.Common.{◌∙◌, ap, sym, subst, refl, inl, arith, length}
+use Rattle.std.proofs.Common.{◌∙◌, Some, ap, sym, subst, refl, inl, arith, length}
 use Rattle.std.specs.Prelude.{All}
 use Rattle.std.specs.Arc.{arc_value}
 use Rattle.std.proofs.lemmas.List.Elements.{All-nil}
 use Rattle.esm_module_map.specs.Views.{view_in}
 use Rattle.esm_record.specs.Delivered.{deliveries_of}
-use Rattle.esm_run.specs.Inner.Leading.{HasTicket, IsLed, IsLedShort}
+use Rattle.esm_machine.specs.Machine.{state_of}
+use Rattle.esm_run.specs.Inner.Leading.{HasTicket, IsHeard, IsLed, IsLedShort}
 use Rattle.esm_run.proofs.LeadLemmas.{led_new, short_new, serves_next, served_next}
 use Rattle.esm_run.proofs.lead.drive.Goals as goal
 
@@ -21,15 +22,23 @@ loop-init g c = record {
   number = refl;
   holds = refl;
   served = c.requires.served;
+  guide = c.requires.guide;
   tickets = subst (All (HasTicket (view_in c.args.caller.now.pass).seen)) (sym c.new-queue.ensures.0) (All-nil (HasTicket (view_in c.args.caller.now.pass).seen));
+  posted = subst (All (IsHeard (view_in c.args.caller.now.pass).seen)) (sym c.new-queue.ensures.1) (All-nil (IsHeard (view_in c.args.caller.now.pass).seen));
   window = (let e = ap length c.new-queue.ensures.0 in omega (arith, e));
   led = led_new _ _ _ _ _ c.in-Ok.machine _ c.in-Ok.ensures (ap deliveries_of c.requires.nothing) c.requires.unasked;
 }
 
+pub advance-requires-clause-guide : goal.advance-requires-clause-guide
+advance-requires-clause-guide g c = c.loop.invariant.guide ∙ ap Some (sym c.deref.ensures)
+
+pub advance-requires-clause-maps : goal.advance-requires-clause-maps
+advance-requires-clause-maps g c = λ live. c.keeps_its_map.ensures (arc_value c.args.map.now) c.args.entry.now c.args.trace (state_of c.loop.machine) (deliveries_of c.loop.taken.items) c.loop.invariant.led.driven.represents live ∙ sym c.deref.ensures
+
 pub loop-preserved : goal.loop-preserved
 loop-preserved g c =
     let inv = c.loop.invariant in let n0 = c.args.caller.now.number in
-    let M = arc_value c.args.map in let E = c.args.entry.now in
+    let M = arc_value c.args.map.now in let E = c.args.entry.now in
     let old = (view_in c.loop.caller.pass).seen in let new = (view_in c.advance.new.caller.pass).seen in
     record {
       own = c.advance.ensures.own;
@@ -37,7 +46,9 @@ loop-preserved g c =
       number = c.advance.ensures.same.1 ∙ inv.number;
       holds = c.advance.ensures.holds ∙ inv.holds;
       served = serves_next (g.S.Source.holds c.loop.source) (g.S.Source.holds c.advance.new.source) (g.S.Source.asked c.advance.new.source) c.loop.caller.number c.advance.new.caller.number new c.advance.ensures.holds c.advance.ensures.same.1 c.in-Ok-advance.ensures.served;
+      guide = c.guide_stays.ensures M old new c.advance.ensures.begins inv.guide;
       tickets = c.in-Ok-advance.ensures.tickets;
+      posted = c.in-Ok-advance.ensures.posted;
       window = c.advance.ensures.window inv.window;
       led = subst (λ m. IsLed M E c.args.trace m new c.advance.new.machine (deliveries_of c.advance.new.taken.items)) inv.number
           (c.in-Ok-advance.ensures.led M E c.args.trace (subst (λ m. IsLed M E c.args.trace m old c.loop.machine (deliveries_of c.loop.taken.items)) (sym inv.number) inv.led));
@@ -57,7 +68,7 @@ returns-in_default-advance-clause-served g c = served_next (g.S.Source.holds c.a
 pub returns-in_default-advance-clause-ends : goal.returns-in_default-advance-clause-ends
 returns-in_default-advance-clause-ends g c =
     let inv = c.loop.invariant in
-    let M = arc_value c.args.map in let E = c.args.entry.now in
+    let M = arc_value c.args.map.now in let E = c.args.entry.now in
     let old = (view_in c.loop.caller.pass).seen in let new = (view_in c.advance.new.caller.pass).seen in
     subst (λ m. IsLedShort M E c.args.trace m new (deliveries_of c.advance.new.taken.items)) inv.number
     (c.in_default-advance.ensures.led M E c.args.trace (subst (λ m. IsLed M E c.args.trace m old c.loop.machine (deliveries_of c.loop.taken.items)) (sym inv.number) inv.led))

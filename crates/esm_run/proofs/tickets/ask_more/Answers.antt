@@ -1,66 +1,62 @@
-use Rattle.std.proofs.Common.{◌∙◌, subst, refl, ℕ}
+use Rattle.std.proofs.Common.{◌≡◌, ◌-◌, ap, sym, subst, arith, length, map, take, Some, slice_get}
+use Rattle.std.proofs.lemmas.List.{length-map}
+use Rattle.std.proofs.lemmas.List.Elements.{All-take}
+use Rattle.esm_base.specs.Urls.{Url, IsUsable}
+use Rattle.esm_module_map.specs.declared.reply.Asked.{Asked}
+use Rattle.esm_module_map.specs.Replay.{replay}
+use Rattle.esm_module_map.specs.Replies.{number_in}
 use Rattle.esm_module_map.specs.Views.{view_in}
-use Rattle.esm_run.specs.Inner.Leading.{AsksOn}
-use Rattle.esm_run.proofs.LeadLemmas.{begins_on, begins_same, keeps_at}
+use Rattle.esm_fetch.specs.Serving.{weight}
+use Rattle.esm_run.specs.Inner.Leading.{IsStandardAsk}
+use Rattle.esm_run.proofs.LeadLemmas.{asks_these, cut_all, few_cut, open_urls, tickets_stay}
 use Rattle.esm_run.proofs.tickets.ask_more.Goals as goal
 
-pub loop-init : goal.loop-init
-loop-init g c = record { own = c.requires.own; same = (refl, refl, refl); number = refl; begins = begins_same _; kept = (refl, refl); asks = λ maps entry trace taken represents all. all; tickets = c.requires.tickets; window = λ few. few }
-
-pub loop-preserved : goal.loop-preserved
-loop-preserved g c =
-    let old = (view_in c.args.caller.now.pass).seen in let mid = (view_in c.loop.caller.pass).seen in let now = (view_in c.ask_next.new.caller.pass).seen in let n = c.args.caller.now.number in let m = c.loop.caller.number in
-    record { own = c.ask_next.ensures.own; same = (c.ask_next.ensures.same.0.0 ∙ c.loop.invariant.same.0, c.ask_next.ensures.same.0.1 ∙ c.loop.invariant.same.1, c.ask_next.ensures.same.0.2 ∙ c.loop.invariant.same.2); number = c.ask_next.ensures.same.1 ∙ c.loop.invariant.number; begins = begins_on old mid now c.loop.invariant.begins c.ask_next.ensures.begins; kept = keeps_at n m old mid now c.loop.invariant.number c.loop.invariant.kept c.ask_next.ensures.kept; asks = λ maps entry trace taken represents all. subst (λ (k : ℕ). AsksOn maps entry trace taken k mid now) c.loop.invariant.number (c.ask_next.ensures.asks maps entry trace taken represents) (c.loop.invariant.asks maps entry trace taken represents all); tickets = c.in-Ok.ensures.tickets; window = λ few. c.ask_next.ensures.window (c.loop.invariant.window few) }
-
-pub returns-in_default-clause-same : goal.returns-in_default-clause-same
-returns-in_default-clause-same g c =
-    let old = (view_in c.args.caller.now.pass).seen in let mid = (view_in c.loop.caller.pass).seen in let now = (view_in c.ask_next.new.caller.pass).seen in let n = c.args.caller.now.number in let m = c.loop.caller.number in
-    ((c.ask_next.ensures.same.0.0 ∙ c.loop.invariant.same.0, c.ask_next.ensures.same.0.1 ∙ c.loop.invariant.same.1, c.ask_next.ensures.same.0.2 ∙ c.loop.invariant.same.2), c.ask_next.ensures.same.1 ∙ c.loop.invariant.number)
+pub ask_all-requires-clause-usable : goal.ask_all-requires-clause-usable
+ask_all-requires-clause-usable g c = cut_all IsUsable c.asks.result.now c.between-urls.result.now c.len.result (32 - c.len.result) c.between-urls.ensures c.asks.ensures.usable
 
 pub returns-in_default-clause-begins : goal.returns-in_default-clause-begins
-returns-in_default-clause-begins g c =
-    let old = (view_in c.args.caller.now.pass).seen in let mid = (view_in c.loop.caller.pass).seen in let now = (view_in c.ask_next.new.caller.pass).seen in let n = c.args.caller.now.number in let m = c.loop.caller.number in
-    begins_on old mid now c.loop.invariant.begins c.ask_next.ensures.begins
+returns-in_default-clause-begins g c = c.in_default.ensures.says.begins
 
 pub returns-in_default-clause-kept : goal.returns-in_default-clause-kept
-returns-in_default-clause-kept g c =
-    let old = (view_in c.args.caller.now.pass).seen in let mid = (view_in c.loop.caller.pass).seen in let now = (view_in c.ask_next.new.caller.pass).seen in let n = c.args.caller.now.number in let m = c.loop.caller.number in
-    keeps_at n m old mid now c.loop.invariant.number c.loop.invariant.kept c.ask_next.ensures.kept
+returns-in_default-clause-kept g c = (c.in_default.ensures.says.takes, c.in_default.ensures.says.answers)
 
 pub returns-in_default-clause-asks : goal.returns-in_default-clause-asks
-returns-in_default-clause-asks g c =
-    let old = (view_in c.args.caller.now.pass).seen in let mid = (view_in c.loop.caller.pass).seen in let now = (view_in c.ask_next.new.caller.pass).seen in let n = c.args.caller.now.number in let m = c.loop.caller.number in
-    λ maps entry trace taken represents all. subst (λ (k : ℕ). AsksOn maps entry trace taken k mid now) c.loop.invariant.number (c.ask_next.ensures.asks maps entry trace taken represents) (c.loop.invariant.asks maps entry trace taken represents all)
+returns-in_default-clause-asks g c = λ maps entry trace taken represents.
+    let says = c.in_default.ensures.says in let urls = c.between-urls.result.now in
+    let Q : Url → Type 0 = IsStandardAsk maps entry trace taken in
+    let all = cut_all Q c.asks.result.now urls c.len.result (32 - c.len.result) c.between-urls.ensures (open_urls c.open_asks.ensures maps entry trace c.args.machine.now taken c.asks.result.now represents c.asks.ensures.standard) in
+    asks_these maps entry trace taken c.args.caller.now.number (view_in c.args.caller.now.pass).seen (view_in c.ask_all.new.caller.pass).seen (take says.many urls) says.asks (All-take Q says.many urls all)
 
-pub returns-in_default-clause-window : goal.returns-in_default-clause-window
-returns-in_default-clause-window g c =
-    let old = (view_in c.args.caller.now.pass).seen in let mid = (view_in c.loop.caller.pass).seen in let now = (view_in c.ask_next.new.caller.pass).seen in let n = c.args.caller.now.number in let m = c.loop.caller.number in
-    λ few. c.ask_next.ensures.window (c.loop.invariant.window few)
+pub add_tickets-requires : goal.add_tickets-requires
+add_tickets-requires g c =
+    let same = ap length c.in-Ok.ensures.says.have_urls in
+    let a = length-map c.in-Ok.asked.items (λ (a : Asked). slice_get (replay weight (view_in c.ask_all.new.caller.pass).seen).urls (number_in a)) in
+    let b = length-map c.between-urls.result.now (λ (u : Url). Some u) in
+    let e = ap length c.as_slice.ensures.value in
+    omega (arith, same, a, b, e)
 
-pub returns-then-not-more-clause-same : goal.returns-then-not-more-clause-same
-returns-then-not-more-clause-same g c =
-    let old = (view_in c.args.caller.now.pass).seen in let mid = (view_in c.loop.caller.pass).seen in let now = (view_in c.ask_next.new.caller.pass).seen in let n = c.args.caller.now.number in let m = c.loop.caller.number in
-    ((c.ask_next.ensures.same.0.0 ∙ c.loop.invariant.same.0, c.ask_next.ensures.same.0.1 ∙ c.loop.invariant.same.1, c.ask_next.ensures.same.0.2 ∙ c.loop.invariant.same.2), c.ask_next.ensures.same.1 ∙ c.loop.invariant.number)
+pub returns-clause-begins : goal.returns-clause-begins
+returns-clause-begins g c = c.in-Ok.ensures.says.begins
 
-pub returns-then-not-more-clause-begins : goal.returns-then-not-more-clause-begins
-returns-then-not-more-clause-begins g c =
-    let old = (view_in c.args.caller.now.pass).seen in let mid = (view_in c.loop.caller.pass).seen in let now = (view_in c.ask_next.new.caller.pass).seen in let n = c.args.caller.now.number in let m = c.loop.caller.number in
-    begins_on old mid now c.loop.invariant.begins c.ask_next.ensures.begins
+pub returns-clause-kept : goal.returns-clause-kept
+returns-clause-kept g c = (c.in-Ok.ensures.says.takes, c.in-Ok.ensures.says.answers)
 
-pub returns-then-not-more-clause-kept : goal.returns-then-not-more-clause-kept
-returns-then-not-more-clause-kept g c =
-    let old = (view_in c.args.caller.now.pass).seen in let mid = (view_in c.loop.caller.pass).seen in let now = (view_in c.ask_next.new.caller.pass).seen in let n = c.args.caller.now.number in let m = c.loop.caller.number in
-    keeps_at n m old mid now c.loop.invariant.number c.loop.invariant.kept c.ask_next.ensures.kept
+pub returns-clause-asks : goal.returns-clause-asks
+returns-clause-asks g c = λ maps entry trace taken represents.
+    let urls = c.between-urls.result.now in
+    let Q : Url → Type 0 = IsStandardAsk maps entry trace taken in
+    let all = cut_all Q c.asks.result.now urls c.len.result (32 - c.len.result) c.between-urls.ensures (open_urls c.open_asks.ensures maps entry trace c.args.machine.now taken c.asks.result.now represents c.asks.ensures.standard) in
+    asks_these maps entry trace taken c.args.caller.now.number (view_in c.args.caller.now.pass).seen (view_in c.ask_all.new.caller.pass).seen urls c.in-Ok.ensures.says.asks all
 
-pub returns-then-not-more-clause-asks : goal.returns-then-not-more-clause-asks
-returns-then-not-more-clause-asks g c =
-    let old = (view_in c.args.caller.now.pass).seen in let mid = (view_in c.loop.caller.pass).seen in let now = (view_in c.ask_next.new.caller.pass).seen in let n = c.args.caller.now.number in let m = c.loop.caller.number in
-    λ maps entry trace taken represents all. subst (λ (k : ℕ). AsksOn maps entry trace taken k mid now) c.loop.invariant.number (c.ask_next.ensures.asks maps entry trace taken represents) (c.loop.invariant.asks maps entry trace taken represents all)
+pub returns-clause-tickets : goal.returns-clause-tickets
+returns-clause-tickets g c =
+    let old = (view_in c.args.caller.now.pass).seen in let new = (view_in c.ask_all.new.caller.pass).seen in
+    c.add_tickets.ensures.tickets new
+    (subst (λ l. map (λ (a : Asked). slice_get (replay weight new).urls (number_in a)) l ≡ map Some c.between-urls.result.now) (sym c.as_slice.ensures.value) c.in-Ok.ensures.says.have_urls)
+    (tickets_stay c.urls_stay.ensures old new c.args.tickets.now.items c.in-Ok.ensures.says.begins c.requires.tickets)
 
-pub returns-then-not-more-clause-window : goal.returns-then-not-more-clause-window
-returns-then-not-more-clause-window g c =
-    let old = (view_in c.args.caller.now.pass).seen in let mid = (view_in c.loop.caller.pass).seen in let now = (view_in c.ask_next.new.caller.pass).seen in let n = c.args.caller.now.number in let m = c.loop.caller.number in
-    λ few. c.ask_next.ensures.window (c.loop.invariant.window few)
-
-pub returns-then-not-more-clause-tickets : goal.returns-then-not-more-clause-tickets
-returns-then-not-more-clause-tickets g c = c.in-Ok.ensures.tickets
+pub returns-clause-window : goal.returns-clause-window
+returns-clause-window g c = λ few.
+    let more = c.add_tickets.ensures.few in let len = c.len.ensures in
+    let room = few_cut c.asks.result.now c.between-urls.result.now c.len.result (32 - c.len.result) c.between-urls.ensures in
+    omega (arith, few, more, room, len)

@@ -1,4 +1,4 @@
-use Rattle.std.proofs.Common.{◌≡◌, ◌∙◌, ap, sym, subst, arith, length, drop, ◌++◌, []}
+use Rattle.std.proofs.Common.{◌≡◌, ◌∙◌, Some, ap, sym, subst, arith, length, drop, ◌++◌, []}
 use Rattle.std.specs.Prelude.{All}
 use Rattle.std.proofs.lemmas.List.{length-map, take-append-drop}
 use Rattle.std.proofs.lemmas.List.Elements.{All-take, All-drop}
@@ -19,6 +19,12 @@ with_workers-led-requires-clause-many g c = let a = c.in-Ok-split_off.ensures.le
 
 pub with_workers-led-requires-clause-fresh : goal.with_workers-led-requires-clause-fresh
 with_workers-led-requires-clause-fresh g c = λ κs lives. subst (All (λ s. g.S.Source.asked s ≡ [])) (sym c.in-Ok-split_off.ensures.items) (All-take (λ s. g.S.Source.asked s ≡ []) c.args.workers c.args.sources.items c.requires.fresh)
+
+pub with_workers-led-requires-clause-guide : goal.with_workers-led-requires-clause-guide
+with_workers-led-requires-clause-guide g c = c.in-Ok.ensures.guide ∙ ap Some (sym c.in-Ok.ensures.map)
+
+pub with_workers-led-requires-clause-guides : goal.with_workers-led-requires-clause-guides
+with_workers-led-requires-clause-guides g c = rw (← c.in-Ok.ensures.map) at c.in-Ok.ensures.guides
 
 pub returns : goal.returns
 returns g c =
