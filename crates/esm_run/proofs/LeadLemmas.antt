@@ -136,12 +136,15 @@ few_taken (suc many) (x ∷ xs) = let few = few_taken many xs in omega (arith, f
 pub few_cut : {X : Type 0} (xs some : List X) (from many : ℕ) → some ≡ take many (drop from xs) → length some ≤ many
 few_cut xs some from many is = let same = ap length is in let few = few_taken many (drop from xs) in omega (arith, same, few)
 
--- the answer to one of the asks has the number of its URL
-pub numbered_at : {A : Type 0} (f : A → Option Url) (answers : List A) (urls : List Url) (k : ℕ) (a : A) (u : Url) → k < length urls → map f answers ≡ map Some urls → a ≡ get_or answers k a → u ≡ get_or urls k u → f a ≡ Some u
-numbered_at f answers [] k a u within e a_is u_is = absurd (omega arith)
-numbered_at f [] (v ∷ urls) k a u within e a_is u_is = cc
-numbered_at f (b ∷ answers) (v ∷ urls) zero a u within e a_is u_is = let first : f b ≡ Some v = cc in ap f a_is ∙ first ∙ ap Some (sym u_is)
-numbered_at f (b ∷ answers) (v ∷ urls) (suc k) a u within e a_is u_is = let rest : map f answers ≡ map Some urls = cc in numbered_at f answers urls k a u (omega arith) rest a_is u_is
+no_cons : {A : Type 0} {x : A} {xs : List A} → [] ≡ x ∷ xs → ⊥
+no_cons e = cc
+
+-- the answer to one of the asks has its URL
+pub numbered_at : {A : Type 0} (f : A → Option Url) (answers : List A) (urls : List Url) (k : ℕ) (u : Url) → k < length urls → map f answers ≡ map Some urls → u ≡ get_or urls k u → (a : A) × (slice_get answers k ≡ Some a) × (f a ≡ Some u)
+numbered_at f answers [] k u within e u_is = absurd (omega arith)
+numbered_at f [] (v ∷ urls) k u within e u_is = absurd (no_cons e)
+numbered_at f (b ∷ answers) (v ∷ urls) zero u within e u_is = let first : f b ≡ Some v = cc in (b, refl, first ∙ ap Some (sym u_is))
+numbered_at f (b ∷ answers) (v ∷ urls) (suc k) u within e u_is = let rest : map f answers ≡ map Some urls = cc in numbered_at f answers urls k u (omega arith) rest u_is
 
 -- ---- one call behind another
 

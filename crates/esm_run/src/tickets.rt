@@ -1,8 +1,9 @@
 // What the calling thread has asked of the module map and not delivered.
-ghost use Rattle.std.specs.Prelude.{◌≡◌, ◌≤◌, ◌++◌, [], ◌∷◌, ◌+◌, ◌-◌, ℕ, List, length, map, take, drop, All, IfSome, None, Some, OnErr, OnOk, Contains, position, slice_get, Bool};
+ghost use Rattle.std.specs.Prelude.{◌≡◌, ◌≤◌, ◌<◌, ◌++◌, [], ◌∷◌, ◌+◌, ◌-◌, ℕ, List, length, map, take, drop, All, IfSome, None, Some, OnErr, OnOk, Contains, position, slice_get, Bool};
 ghost use Rattle.esm_machine.specs.Machine.{state_of};
 ghost use Rattle.esm_machine.specs.Represents.{Represents};
 ghost use Rattle.esm_import_map.specs.ImportMap.{Maps};
+ghost use Rattle.esm_module_map.specs.declared.reply.Asked.{Asked as AskedAs};
 ghost use Rattle.esm_module_map.specs.Views.{view_in, table_of, Same};
 ghost use Rattle.esm_module_map.specs.Saying.{Begins, Stays};
 ghost use Rattle.esm_module_map.specs.Replay.{replay};
@@ -64,14 +65,23 @@ impl Queue {
 }
 
 // The number that an answer has.
-fn number_of(asked: &Asked) -> u32
-    ensures { result ≡ number_in asked.now }
+fn number_of(asked: Asked) -> u32
+    ensures { result ≡ number_in asked }
 {
     match asked {
-        Asked::New(number) => *number,
-        Asked::Waiting(number) => *number,
-        Asked::Here(number) => *number,
+        Asked::New(number) => number,
+        Asked::Waiting(number) => number,
+        Asked::Here(number) => number,
     }
+}
+
+// The number that the answer at a place has.
+fn number_at(asked: &[Asked], place: usize) -> u32
+    requires { place < length asked.now }
+    ensures { (answer : AskedAs) → slice_get asked.now place ≡ Some answer
+        → result ≡ number_in answer }
+{
+    number_of(asked[place])
 }
 
 // Adds a ticket.
@@ -98,7 +108,7 @@ fn add_tickets(tickets: &mut Vec<Ticket>, urls: &[Text], asked: &[Asked]) -> Res
     ensures few { length tickets.new.items ≤ length tickets.old.items + length urls.now }
 {
     for at in 0..urls.len() {
-        let Ok(()) = add_ticket(tickets, &urls[at], number_of(&asked[at])) else {
+        let Ok(()) = add_ticket(tickets, &urls[at], number_at(asked, at)) else {
             return Err(Memory);
         };
     }

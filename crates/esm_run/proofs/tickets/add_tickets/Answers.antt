@@ -1,8 +1,9 @@
-use Rattle.std.proofs.Common.{◌∙◌, ap, length, slice_get, arith}
+use Rattle.std.proofs.Common.{◌∙◌, [], ◌∷◌, ap, length, length-append, slice_get, arith}
 use Rattle.esm_module_map.specs.Replay.{replay}
 use Rattle.esm_module_map.specs.Replies.{number_in}
 use Rattle.esm_module_map.specs.declared.reply.Asked.{Asked}
 use Rattle.esm_fetch.specs.Serving.{weight}
+use Rattle.esm_run.specs.declared.tickets.Ticket.{Ticket}
 use Rattle.esm_run.proofs.LeadLemmas.{numbered_at, ticket_of}
 use Rattle.esm_run.proofs.tickets.add_tickets.Goals as goal
 
@@ -11,12 +12,13 @@ loop-at-init c = record { tickets = λ h same all. all; few = omega arith }
 
 pub loop-at-preserved : goal.loop-at-preserved
 loop-at-preserved c =
-    let ts = c.loop-at.tickets.items in let url = c.index-urls-at.result in let answer = c.index-asked-at.result in
+    let ts = c.loop-at.tickets.items in let url = c.index-urls-at.result in
+    let t : Ticket = record { url = url; number = c.number_at.result } in
     record {
       tickets = λ h same all.
-          let f = λ (a : Asked). slice_get (replay weight h).urls (number_in a) in
-          ticket_of h ts c.add_ticket.new.tickets.items (record { url = url; number = c.number_of.result }) c.in-Ok.ensures.more
-          (ap (slice_get (replay weight h).urls) c.number_of.ensures ∙ numbered_at f c.args.asked.now c.args.urls.now c.loop-at.at answer url (omega arith) same c.index-asked-at.is c.index-urls-at.is)
+          let found = numbered_at (λ (a : Asked). slice_get (replay weight h).urls (number_in a)) c.args.asked.now c.args.urls.now c.loop-at.at url (omega arith) same c.index-urls-at.is in
+          ticket_of h ts c.add_ticket.new.tickets.items t c.in-Ok.ensures.more
+          (ap (slice_get (replay weight h).urls) (c.number_at.ensures found.0 found.1) ∙ found.2)
           (c.loop-at.invariant.tickets h same all);
-      few = let more = ap length c.in-Ok.ensures.more in let old = c.loop-at.invariant.few in omega (arith, more, old);
+      few = let more = ap length c.in-Ok.ensures.more in let one = length-append ts (t ∷ []) in let old = c.loop-at.invariant.few in omega (arith, more, one, old);
     }

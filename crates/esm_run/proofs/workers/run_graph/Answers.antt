@@ -21,10 +21,10 @@ pub with_workers-led-requires-clause-fresh : goal.with_workers-led-requires-clau
 with_workers-led-requires-clause-fresh g c = λ κs lives. subst (All (λ s. g.S.Source.asked s ≡ [])) (sym c.in-Ok-split_off.ensures.items) (All-take (λ s. g.S.Source.asked s ≡ []) c.args.workers c.args.sources.items c.requires.fresh)
 
 pub with_workers-led-requires-clause-guide : goal.with_workers-led-requires-clause-guide
-with_workers-led-requires-clause-guide g c = c.in-Ok.ensures.guide ∙ ap Some (sym c.in-Ok.ensures.map)
+with_workers-led-requires-clause-guide g c = λ κs lives. c.in-Ok.ensures.guide ∙ ap Some (sym c.in-Ok.ensures.map)
 
 pub with_workers-led-requires-clause-guides : goal.with_workers-led-requires-clause-guides
-with_workers-led-requires-clause-guides g c = rw (← c.in-Ok.ensures.map) at c.in-Ok.ensures.guides
+with_workers-led-requires-clause-guides g c = λ κs lives. rw (← c.in-Ok.ensures.map) at c.in-Ok.ensures.guides
 
 pub returns : goal.returns
 returns g c =
