@@ -84,7 +84,10 @@ fn another<R: Wait>(
     ensures fresh { IfOk result (λ c. SaysNothing weight c.number (view_in c.pass).seen) }
 {
     let pass = modules.split(caller);
-    enrolled(rt, modules, pass)
+    match enrolled(rt, modules, pass) {
+        Ok(other) => Ok(other),
+        Err(fail) => Err(fail),
+    }
 }
 
 // A source of these files.
