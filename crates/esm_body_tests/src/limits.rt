@@ -172,9 +172,10 @@ fn holds<R: Threads + Wait + Sync>(rt: &R, alloc: Global, row: &str) -> Result<b
     let (long, _) = counted(row.lines().nth(2).unwrap_or(""));
     let end = wanted_of(row);
     let output = output_of(alloc, long, end.lines)?;
+    let lines = output.as_str().strip_suffix('\n');
     let wanted = Wanted {
         status: end.status,
-        lines: output.as_str().strip_suffix('\n'),
+        lines,
     };
     let what = row.lines().nth(1).unwrap_or("");
     let (word, rest) = what.split_once(' ').unwrap_or((what, ""));
