@@ -172,10 +172,15 @@ fn holds<R: Threads + Wait + Sync>(rt: &R, alloc: Global, row: &str) -> Result<b
     let (long, _) = counted(row.lines().nth(2).unwrap_or(""));
     let end = wanted_of(row);
     let output = output_of(alloc, long, end.lines)?;
-    let lines = output.as_str().strip_suffix('\n');
-    let wanted = Wanted {
-        status: end.status,
-        lines,
+    let wanted = match output.as_str().strip_suffix('\n') {
+        Some(lines) => Wanted {
+            status: end.status,
+            lines: Some(lines),
+        },
+        None => Wanted {
+            status: end.status,
+            lines: None,
+        },
     };
     let what = row.lines().nth(1).unwrap_or("");
     let (word, rest) = what.split_once(' ').unwrap_or((what, ""));
