@@ -1,6 +1,5 @@
 -- That the guide of a map is the empty import map.
-use Rattle.std.proofs.Common.{◌≡◌, ◌∙◌, ap, sym, subst, List, [], ◌∷◌, ◌++◌, append_assoc, Option, Some}
-use Rattle.std.specs.Prelude.{All}
+use Rattle.std.proofs.Common.{◌≡◌, ◌∙◌, ap, sym, List, [], ◌∷◌, ◌++◌, append_assoc, Option, Some}
 use Rattle.std.specs.Arc.{arc_value}
 use Rattle.std.specs.declared.sync.Arc.{Arc}
 use Rattle.std.specs.declared.alloc.Global.{Global}
@@ -10,8 +9,6 @@ use Rattle.esm_module_map.specs.declared.event.MapEvent.TheVariants.{Begin}
 use Rattle.esm_module_map.specs.Leading.{guide_in}
 use Rattle.esm_module_map.specs.Saying.{Begins}
 use Rattle.esm_fetch.specs.declared.posted.Posted.{Posted}
-use Rattle.esm_fetch.specs.declared.pool.Job.{Job}
-use Rattle.esm_fetch.specs.Pool.{IsGuided}
 
 abbrev History : Type 0
 History = List (MapEvent Posted Maps)
@@ -30,7 +27,3 @@ same_guide a b same guide = ap guide_in same ∙ guide
 -- as a call is given it
 pub as_given : (h : History) (maps : Maps) → maps ≡ no_maps → guide_in h ≡ Some no_maps → guide_in h ≡ Some maps
 as_given h maps is guide = guide ∙ ap Some (sym is)
-
-module _ {S : Type 0} where
-  pub all_as_given : (jobs : List (Job S)) (maps : Maps) → maps ≡ no_maps → All (IsGuided no_maps) jobs → All (IsGuided maps) jobs
-  all_as_given jobs maps is guided = subst (λ m. All (IsGuided m) jobs) (sym is) guided

@@ -316,15 +316,17 @@ fn a_worker_asks_nothing_where_the_map_is_shut(rt: HostRuntime) -> Result<(), Fa
 fn two_jobs<S: Source>(
     alloc: Global,
     modules: &ModuleMap<Posted>,
+    guide: &ImportMap,
     one: Job<S>,
     other: Job<S>,
 ) -> Result<Vec<Job<S>>, Fail>
     requires one { IsToBegin modules.now.lock.table.shared.table_id S.holds S.asked one }
     requires other { IsToBegin modules.now.lock.table.shared.table_id S.holds S.asked other }
+    requires map { guide.now ≡ no_maps }
     requires guides { IsGuided no_maps one × IsGuided no_maps other }
     ensures jobs { IfOk result (λ v. All (IsToBegin modules.now.lock.table.shared.table_id S.holds
         S.asked) v.items) }
-    ensures guides { IfOk result (λ v. All (IsGuided no_maps) v.items) }
+    ensures guides { IfOk result (λ v. All (IsGuided guide.now) v.items) }
     ensures two { IfOk result (λ v. vec_len v ≡ 2) }
 {
     let mut jobs = Vec::with_capacity(alloc, 2)?;
@@ -378,6 +380,7 @@ fn new_jobs<R: Wait, S: Source>(
     rt: &R,
     alloc: Global,
     modules: &ModuleMap<Posted>,
+    guide: &ImportMap,
     main: &mut Caller<Posted>,
     first: S,
     second: S,
@@ -385,6 +388,7 @@ fn new_jobs<R: Wait, S: Source>(
     requires own { table_of modules.now.lock.table.shared.table_id main.old.pass
         ≡ modules.now.lock.table.shared.table_id }
     requires shares { 2 < (view_in main.old.pass).shares }
+    requires map { guide.now ≡ no_maps }
     requires guide { guide_in (view_in main.old.pass).seen ≡ Some no_maps }
     requires unasked { (S.asked first ≡ []) × (S.asked second ≡ []) }
     ensures own { table_of modules.now.lock.table.shared.table_id main.new.pass
@@ -392,14 +396,14 @@ fn new_jobs<R: Wait, S: Source>(
     ensures shares { OnOk result
         ((view_in main.new.pass).shares + 2 ≡ (view_in main.old.pass).shares) }
     ensures guide { OnOk result (guide_in (view_in main.new.pass).seen ≡ Some no_maps) }
-    ensures guides { IfOk result (λ v. All (IsGuided no_maps) v.items) }
+    ensures guides { IfOk result (λ v. All (IsGuided guide.now) v.items) }
     ensures jobs { IfOk result (λ v. All (IsToBegin modules.now.lock.table.shared.table_id S.holds
         S.asked) v.items) }
     ensures two { IfOk result (λ v. vec_len v ≡ 2) }
 {
     let one = new_job(rt, modules, main, first)?;
     let other = new_job(rt, modules, main, second)?;
-    two_jobs(alloc, modules, one, other)
+    two_jobs(alloc, modules, guide, one, other)
 }
 
 const URLS: [&str; 3] = [
@@ -506,14 +510,14 @@ fn have_shared(done: &[Done<MemSource>]) -> bool {
 fn two_workers_fetch_what_is_asked_for(rt: HostRuntime) -> Result<(), Fail> {
     let alloc = rt.alloc();
     let bell = Bell::new();
+    let guide = ImportMap::empty(alloc);
     let text = "print(\"m\");";
     let done = Vec::with_capacity(alloc, 2)?;
     let files = source_of(alloc, &[(URLS[0], text), (URLS[1], text), (URLS[2], text)])?;
     let nothing = source_of(alloc, &[])?;
     let (modules, mut main) = opened(&rt, alloc)?;
-    let jobs = new_jobs(&rt, alloc, &modules, &mut main, files, nothing)?;
+    let jobs = new_jobs(&rt, alloc, &modules, &guide, &mut main, files, nothing)?;
     let spare = another(&rt, &modules, &mut main)?;
-    let guide = ImportMap::empty(alloc);
     let (pool, main) = work_and_lead(&rt, alloc, &modules, &bell, &guide, main, spare, jobs, done);
     let Pool { caller, done } = pool;
     let caller = modules.meet(caller, main);
