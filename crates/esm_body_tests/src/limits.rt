@@ -157,31 +157,25 @@ fn files_of(alloc: Global, word: &str, rest: &str) -> Result<Vec<(Text, Vec<u8>)
     many_calls(alloc, many)
 }
 
-// All that is written: so many long lines, and these.
-fn output_of(alloc: Global, long: u64, lines: Option<&str>) -> Result<String, Memory> {
-    let mut output = long_lines(alloc, long)?;
-    if let Some(lines) = lines {
-        output.push_str(lines)?;
-        output.push_str("\n")?;
+// What a run comes to: its status, and on the lines below so many long lines and those that are named.
+fn ending_of(alloc: Global, long: u64, end: Wanted<'_>) -> Result<String, Memory> {
+    let lines = long_lines(alloc, long)?;
+    let mut text = String::new(alloc);
+    text.push_str(end.status)?;
+    text.push_str("\n")?;
+    text.push_str(lines.as_str())?;
+    if let Some(named) = end.lines {
+        text.push_str(named)?;
+        text.push_str("\n")?;
     }
-    Ok(output)
+    Ok(text)
 }
 
 // Whether the run of a site ends as it says.
 fn holds<R: Threads + Wait + Sync>(rt: &R, alloc: Global, row: &str) -> Result<bool, Memory> {
     let (long, _) = counted(row.lines().nth(2).unwrap_or(""));
-    let end = wanted_of(row);
-    let output = output_of(alloc, long, end.lines)?;
-    let wanted = match output.as_str().strip_suffix('\n') {
-        Some(lines) => Wanted {
-            status: end.status,
-            lines: Some(lines),
-        },
-        None => Wanted {
-            status: end.status,
-            lines: None,
-        },
-    };
+    let text = ending_of(alloc, long, wanted_of(row))?;
+    let wanted = ending(text.as_str().strip_suffix('\n').unwrap_or(""));
     let what = row.lines().nth(1).unwrap_or("");
     let (word, rest) = what.split_once(' ').unwrap_or((what, ""));
     match files_of(alloc, word, rest) {
