@@ -36,7 +36,7 @@ pub const MAX_CALL_DEPTH: u32 = 256;
 /// The longest text that an evaluated `+` may give, in bytes.
 pub const MAX_TEXT_BYTES: usize = 65_536;
 
-/// How many sources a run may be given.
+/// How many workers a run may have: it is given a source for each.
 pub const MAX_SOURCES: usize = 16;
 
 /// A bound of the loader that stops a run.
