@@ -1,4 +1,4 @@
-//! Texts in order, each once, found by comparisons and not by a hash.
+//! Texts in order, each once, found by marks of them, whatever texts are chosen.
 #![tactic(auto)]
 
 mod text_table;
