@@ -74,8 +74,8 @@ impl<T: Story + Drop> Hlock<T> {
 
     /// Waits for its turn, and takes the state out. The state's entries begin with what the pass
     /// has seen, and none behind that has a number in the pass's list as its maker. It looks
-    /// again for a while, then yields, and then sleeps. Once 2^64 - 1 tickets were drawn it waits
-    /// for ever. It doesn't allocate.
+    /// again for a while, and then sleeps. Once 2^64 - 1 tickets were drawn it waits for ever. It
+    /// doesn't allocate.
     pub fn enter<R: Wait>(&self, rt: &R, pass: Pass<T>) -> Held<T>
         requires { IsPassOf self.now pass }
         ensures own { IsHeldOf self.now result }
