@@ -1,11 +1,11 @@
 -- What each call does to a replay: the event may come, and the step leads to the new state.
-use Rattle.std.proofs.Common.{◌≡◌, ℕ, zero, suc, ◌+◌, ◌<◌, ◌≤◌, ◌&&◌, ◌||◌, Bool, true, false, cond, nat_lt, min, List, [], ◌∷◌, ◌++◌, length, sym, refl, ap, ◌∙◌, subst, arith, Option, Some, None, is_some, slice_get, slice_index_or, not, bytes_eq, position, ◌⊎◌, inl, inr, if◌then◌else◌, ◌==◌}
+use Rattle.std.proofs.Common.{◌≡◌, ℕ, zero, suc, ◌+◌, ◌<◌, ◌≤◌, ◌&&◌, ◌||◌, Bool, true, false, cond, nat_lt, min, List, [], ◌∷◌, ◌++◌, length, sym, refl, ap, ◌∙◌, subst, arith, Option, Some, None, is_some, slice_get, slice_index_or, not, bytes_eq, position, ◌⊎◌, inl, inr, ◌==◌}
 use Rattle.std.proofs.lemmas.Option.{slice_get_within}
 use Rattle.std.specs.List.{position_or_len, list_any}
 use Rattle.std.specs.Arc.{arc_value}
 use Rattle.std.specs.declared.sync.Arc.{Arc}
 use Rattle.std.specs.declared.alloc.Global.{Global}
-use Rattle.esm_text_table.specs.TextTable.{with_text}
+use Rattle.std.specs.Prelude.{Result, Ok, Err, OnOk, OnErr, MatchResult}
 use Rattle.esm_base.specs.Urls.{Url, is_usable}
 use Rattle.esm_module_map.specs.declared.event.Why.{Why}
 use Rattle.esm_module_map.specs.declared.event.Why.TheVariants.{Wanted, Ahead}
@@ -77,9 +77,13 @@ get_within (x ∷ xs) (suc n) d less = get_within xs n d (omega arith)
 
 -- ---- an ask
 
--- a URL that has no number is put behind the others
-pub insert_fresh : (urls : List Url) (u : Url) → position_or_len (bytes_eq u) urls ≡ length urls → with_text urls u ≡ urls ++ u ∷ []
-insert_fresh urls u fresh = ap (λ b. if b then urls else urls ++ u ∷ []) (any_within (bytes_eq u) urls ∙ lt_none (position_or_len (bytes_eq u) urls) (length urls) (omega arith))
+-- a URL that has no number isn't among those that have one
+pub no_number : (urls : List Url) (u : Url) → position_or_len (bytes_eq u) urls ≡ length urls → list_any (bytes_eq u) urls ≡ false
+no_number urls u fresh = any_within (bytes_eq u) urls ∙ lt_none (position_or_len (bytes_eq u) urls) (length urls) (omega arith)
+
+pub put_either : {T E : Type 0} (A B : Type 0) (r : Result T E) → OnOk r A → OnErr r B → MatchResult r (λ _. A) (λ _. B)
+put_either A B (Ok done) a b = a
+put_either A B (Err want) a b = b
 
 module _ {P G : Type 0} (weight : P → ℕ) where
   -- one event more: the history is legal, comes to this state, and is the old one with the event

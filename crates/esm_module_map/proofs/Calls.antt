@@ -202,6 +202,14 @@ at_order s c k e = by_get (slice_get s.numbers k) refl e
 pub one_at : (xs : List Number) (k : ℕ) (x y : Number) → slice_get xs k ≡ Some x → slice_get xs k ≡ Some y → x ≡ y
 one_at xs k x y a b = let both : Some x ≡ Some y = sym a ∙ b in cc
 
+-- what is taken next is no order, and orders stay orders
+pub not_next : (k c n : ℕ) (s : Replay) → next_order s ≡ Some n → At (is_out_of c) k s → n ≢ k
+not_next k c n s next h same = let f = next_free s n next in
+    taken_not_free h.0.taker (not (is_some h.0.place)) (subst (λ x. is_free x ≡ true) (one_at s.numbers k f.0 h.0 (subst (λ m. slice_get s.numbers m ≡ Some f.0) same f.1) h.1) f.2) (the_some c h.0.taker (not (is_some h.0.place)) h.2)
+
+pub taken_beside : (k c d n : ℕ) (s : Replay) → next_order s ≡ Some n → At (is_out_of c) k s → At (is_out_of c) k (record s { events = s.events + 1; numbers = change_at s.numbers n (taken_by d) })
+taken_beside k c d n s next h = changed_at (is_out_of c) k n s.numbers (taken_by d) h.0 h.1 h.2 (λ same. absurd (not_next k c n s next h same))
+
 module _ {P G : Type 0} (weight : P → ℕ) where
   pub posted_step : (k c : ℕ) (s : Replay) (e : MapEvent P G) → may_come s e ≡ true → is_maker c (maker_of e) ≡ false → At is_done k s → At is_done k (step weight s e)
   posted_step k c s (Begin g) ok other h = h
@@ -216,8 +224,7 @@ module _ {P G : Type 0} (weight : P → ℕ) where
   order_step k c s (Begin g) ok other h = h
   order_step k c s (Enrol d) ok other h = h
   order_step k c s (Ask d n u why) ok other h = asked_keeps (is_out_of c) (again_out c) k (is_numbered s u) s n u why h
-  order_step k c s (Take d n) ok other h = let f = next_free s n (the_is n (next_order s) (both_true (not s.shut) _ (both_true (nat_lt d s.callers) _ ok).1).1) in
-      changed_at (is_out_of c) k n s.numbers (taken_by d) h.0 h.1 h.2 (λ same. absurd (taken_not_free h.0.taker (not (is_some h.0.place)) (subst (λ x. is_free x ≡ true) (one_at s.numbers k f.0 h.0 (subst (λ m. slice_get s.numbers m ≡ Some f.0) same f.1) h.1) f.2) (the_some c h.0.taker (not (is_some h.0.place)) h.2)))
+  order_step k c s (Take d n) ok other h = taken_beside k c d n s (the_is n (next_order s) (both_true (not s.shut) _ (both_true (nat_lt d s.callers) _ ok).1).1) h
   order_step k c s (Post d n p) ok other h = let o = at_order s d n (both_true (nat_lt d s.callers) _ ok).1 in
       changed_at (is_out_of c) k n s.numbers (posted_at s.events) h.0 h.1 h.2 (λ same. absurd (false_true other (eq_true d c (same_taker d c h.0.taker
       (subst (λ (x : Number). is_the d x.taker ≡ true) (one_at s.numbers k o.0 h.0 (subst (λ m. slice_get s.numbers m ≡ Some o.0) same o.1) h.1) (both_true (is_the d o.0.taker) (not (is_some o.0.place)) o.2).0)

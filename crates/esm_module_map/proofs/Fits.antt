@@ -18,7 +18,7 @@ use Rattle.esm_module_map.proofs.Staying.{url_stays}
 
 module _ {P G : Type 0} (weight : P → ℕ) where
   -- a legal history in which a caller has enrolled begins with its guide
-  guide_there : (h : List (MapEvent P G)) → is_legal weight h ≡ true → 0 < (replay weight h).callers → (guide : G) × (guide_in h ≡ Some guide)
+  pub guide_there : (h : List (MapEvent P G)) → is_legal weight h ≡ true → 0 < (replay weight h).callers → (guide : G) × (guide_in h ≡ Some guide)
   guide_there [] ok some = absurd (omega (arith, some))
   guide_there (Begin g ∷ es) ok some = (arc_value g, refl)
   guide_there (Enrol c ∷ es) ok some = let none = (both_true (c == 0) (nat_lt 0 0) (both_true (may_come {P = P} {G = G} opening (Enrol c)) _ ok).0).1 in absurd (omega (arith, lt_from 0 0 none))

@@ -8,7 +8,7 @@ use Rattle.esm_module_map.specs.declared.event.Why.TheVariants.{Wanted, Ahead}
 use Rattle.esm_module_map.specs.declared.event.MapEvent.{MapEvent}
 use Rattle.esm_module_map.specs.declared.event.MapEvent.TheVariants.{Begin, Enrol, Ask, Take, Post, Shut}
 use Rattle.esm_module_map.specs.declared.number.Number.{Number}
-use Rattle.esm_module_map.specs.Replay.{Replay, opening, asked_again, taken_by, posted_at, is_numbered, is_free, is_the, is_order, next_order, step, replay_from, is_legal_from, may_come, maker_of}
+use Rattle.esm_module_map.specs.Replay.{Replay, opening, asked_again, taken_by, posted_at, is_numbered, is_free, is_the, is_order, next_order, step, replay, replay_from, is_legal_from, may_come, maker_of}
 use Rattle.esm_module_map.specs.Histories.{is_post_of}
 use Rattle.esm_module_map.specs.Laws.{is_take_of, TakenOnce, PostedOnce, UrlsDiffer}
 use Rattle.esm_module_map.proofs.Replays.{both_true, true_both, eq_from}
@@ -154,5 +154,8 @@ module _ {P G : Type 0} (weight : P → ℕ) where
   numbered_all s [] is = is
   numbered_all s (e ∷ es) is = numbered_all (step weight s e) es (numbered_step weight s e is)
 
+  pub numbered_by : (h : List (MapEvent P G)) → IsNumbered (replay weight h)
+  numbered_by h = numbered_all opening h ((λ v. omega arith), refl)
+
   pub urls_differ : UrlsDiffer P G weight
-  urls_differ u h = (numbered_all opening h ((λ v. omega arith), refl)).0 u
+  urls_differ u h = (numbered_by h).0 u

@@ -119,11 +119,13 @@ module _ {P G : Type 0} (weight : P → ℕ) where
 
   -- ---- the events of a caller
 
-  -- what was taken is an order
+  -- what was taken was the next, and is an order
+  pub taken_next : (c n : ℕ) (found now : List (MapEvent P G)) → is_legal weight now ≡ true → now ≡ found ++ Take c n ∷ [] → next_order (replay weight found) ≡ Some n
+  taken_next c n found now ok more = let l = legal_split weight opening found (Take c n ∷ []) (subst (λ h. is_legal weight h ≡ true) more ok) in let s = replay weight found in
+      let may = (both_true (may_come {P = P} {G = G} s (Take c n)) true l.1).0 in the_is n (next_order s) (both_true (not s.shut) _ (both_true (nat_lt c s.callers) _ may).1).1
+
   pub order_taken : (c n : ℕ) (found now : List (MapEvent P G)) → is_legal weight now ≡ true → now ≡ found ++ Take c n ∷ [] → is_order (replay weight now) c n ≡ true
-  order_taken c n found now ok more = let l = legal_split weight opening found (Take c n ∷ []) (subst (λ h. is_legal weight h ≡ true) more ok) in let s = replay weight found in
-      let may = (both_true (may_come {P = P} {G = G} s (Take c n)) true l.1).0 in
-      let f = next_free s n (the_is n (next_order s) (both_true (not s.shut) _ (both_true (nat_lt c s.callers) _ may).1).1) in
+  order_taken c n found now ok more = let s = replay weight found in let f = next_free s n (taken_next c n found now ok more) in
       ap (λ (r : Replay). is_order r c n) (ap (replay weight) more ∙ replay_more weight opening found (Take c n)) ∙ ap (is_out_with c) (get_changed s.numbers n (taken_by c) f.0 f.1) ∙ true_both (c == c) true (eq_true c c refl) refl
 
   takes_one : (e : MapEvent P G) (c n : ℕ) (s : Replay) (u : Url) → e ≡ Take c n → HasUrl n u s → takes_in c s e ≡ u ∷ []

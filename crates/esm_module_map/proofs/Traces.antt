@@ -54,7 +54,7 @@ module _ {P G : Type 0} (weight : P → ℕ) where
 one_url : (s : Replay) (n : ℕ) (u w : Url) → HasUrl n u s → HasUrl n w s → w ≡ u
 one_url s n u w a b = let both : Some w ≡ Some u = sym b ∙ a in cc
 
-order_has_url : (s : Replay) (c n : ℕ) → IsNumbered s → is_order s c n ≡ true → (w : Url) × HasUrl n w s
+pub order_has_url : (s : Replay) (c n : ℕ) → IsNumbered s → is_order s c n ≡ true → (w : Url) × HasUrl n w s
 order_has_url s c n is ok = let o = at_order s c n ok in let less = slice_get_within s.numbers n o.0 o.1 in let same = is.1 in (slice_index_or s.urls n [], get_within s.urls n [] (omega (arith, less, same)))
 
 module _ {P G : Type 0} (weight : P → ℕ) where

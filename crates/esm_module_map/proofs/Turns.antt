@@ -2,37 +2,31 @@
 use Rattle.std.proofs.Common.{◌≡◌, inl, inr, ℕ, zero, suc, true, List, [], ◌∷◌, ◌++◌, length, map, take, sym, refl, ap, ◌∙◌, subst, arith, append_assoc, append-nil, Option, Some, slice_get, Result, Ok, Err, MatchResult, Vec, Global}
 use Rattle.std.specs.Prelude.{All}
 use Rattle.std.proofs.lemmas.List.Elements.{All-head, All-tail}
-use Rattle.std.specs.Arc.{arc_value}
-use Rattle.std.specs.declared.sync.Arc.{Arc}
-use Rattle.esm_base.specs.declared.memory.Memory.{Memory}
 use Rattle.esm_base.specs.Urls.{Url}
 use Rattle.esm_hlock.specs.Makers.{AreOf, AreSteps}
 use Rattle.esm_module_map.specs.declared.event.Why.TheVariants.{Wanted}
 use Rattle.esm_module_map.specs.declared.event.MapEvent.{MapEvent}
-use Rattle.esm_module_map.specs.declared.event.MapEvent.TheVariants.{Ask, Take, Post}
+use Rattle.esm_module_map.specs.declared.event.MapEvent.TheVariants.{Ask}
 use Rattle.esm_module_map.specs.declared.reply.Asked.{Asked}
 use Rattle.esm_module_map.specs.declared.reply.MapEnd.{MapEnd}
 use Rattle.esm_module_map.specs.declared.reply.MapEnd.TheVariants as end
-use Rattle.esm_module_map.specs.declared.reply.Taken.{Taken}
-use Rattle.esm_module_map.specs.declared.reply.Taken.TheVariants as taken
 use Rattle.esm_module_map.specs.declared.state.Wish.{Wish}
-use Rattle.esm_module_map.specs.Replay.{opening, replay, is_legal, maker_of, number_for}
-use Rattle.esm_module_map.specs.Replies.{ContinuesFor, number_in, Called, AskReply, TakeReply}
+use Rattle.esm_module_map.specs.Replay.{replay, is_legal, maker_of, number_for}
+use Rattle.esm_module_map.specs.Replies.{ContinuesFor, number_in, Called, AskReply}
 use Rattle.esm_module_map.specs.Histories.{asks_by}
-use Rattle.esm_module_map.specs.Saying.{Begins, Stays, AskedOne, IsOrderIn, PostTakeSays}
+use Rattle.esm_module_map.specs.Saying.{Begins, Stays, AskedOne}
 use Rattle.esm_module_map.specs.Asking.{AskedAll, AskedUntil, AskedThese, AskedFirst}
 use Rattle.esm_module_map.specs.Inner.Wishes.{wished, IsWish}
-use Rattle.esm_module_map.proofs.Calls.{legal_split}
-use Rattle.esm_module_map.proofs.Says.{stays, asked_one, post_says, take_says}
+use Rattle.esm_module_map.proofs.Says.{stays, asked_one}
 use Rattle.esm_module_map.proofs.AskedNumbers.{ask_numbers}
 use Rattle.esm_module_map.proofs.Staying.{url_stays}
 
 module _ {P G : Type 0} where
-  begins_on : (a b c : List (MapEvent P G)) → Begins a b → Begins b c → Begins a c
+  pub begins_on : (a b c : List (MapEvent P G)) → Begins a b → Begins b c → Begins a c
   begins_on a b c p q = (p.0 ++ q.0, q.1 ∙ ap (λ l. l ++ q.0) p.1 ∙ append_assoc a p.0 q.0)
 
   -- who has seen a history finds it, where nothing came behind
-  continues_itself : (h : List (MapEvent P G)) (number : Option ℕ) → ContinuesFor maker_of h h number
+  pub continues_itself : (h : List (MapEvent P G)) (number : Option ℕ) → ContinuesFor maker_of h h number
   continues_itself h number = ([], sym (append-nil h), λ k e. refl)
 
   -- ---- what is left behind in the lock
@@ -47,18 +41,19 @@ module _ {P G : Type 0} where
   pub grown_steps : (c : ℕ) (number : Option ℕ) (before found now : List (MapEvent P G)) → number ≡ Some c → found ≡ before → Grown c found now → AreSteps maker_of number before now
   grown_steps c number before found now has same g = steps_of c number before found now g.0 has same g.1 g.2
 
-  grown_none : (c : ℕ) (found now : List (MapEvent P G)) → now ≡ found → Grown c found now
+  pub grown_none : (c : ℕ) (found now : List (MapEvent P G)) → now ≡ found → Grown c found now
   grown_none c found now is = ([], is ∙ sym (append-nil found), tt)
 
-  grown_more : (c n : ℕ) (u : Url) (found mid now : List (MapEvent P G)) → mid ≡ found ++ Ask c n u Wanted ∷ [] → Grown c mid now → Grown c found now
-  grown_more c n u found mid now one g = (Ask c n u Wanted ∷ g.0, g.1 ∙ ap (λ l. l ++ g.0) one ∙ append_assoc found (Ask c n u Wanted ∷ []) g.0, (inr refl, g.2))
+  -- one event more of the caller
+  pub grown_more : (c : ℕ) (e : MapEvent P G) (found mid now : List (MapEvent P G)) → maker_of e ≡ Some c → mid ≡ found ++ e ∷ [] → Grown c mid now → Grown c found now
+  grown_more c e found mid now own one g = (e ∷ g.0, g.1 ∙ ap (λ l. l ++ g.0) one ∙ append_assoc found (e ∷ []) g.0, (inr own, g.2))
 
   module _ (weight : P → ℕ) where
     pub all_grown : (c : ℕ) (found : List (MapEvent P G)) (us : List Url) (bs : List Asked) (now : List (MapEvent P G)) → AskedAll weight found c us bs now → Grown c found now
     all_grown c found [] [] now is = grown_none c found now is
     all_grown c found [] (a ∷ bs) now is = absurd is
     all_grown c found (u ∷ us) [] now is = absurd is
-    all_grown c found (u ∷ us) (a ∷ bs) now (mid, reply, rest) = grown_more c (number_for (replay weight found) u) u found mid now reply.0 (all_grown c mid us bs now rest)
+    all_grown c found (u ∷ us) (a ∷ bs) now (mid, reply, rest) = grown_more c (Ask c (number_for (replay weight found) u) u Wanted) found mid now refl reply.0 (all_grown c mid us bs now rest)
 
     refused : (c : ℕ) (found : List (MapEvent P G)) (u : Url) (e : MapEnd) (now : List (MapEvent P G)) → AskReply weight found c u Wanted (Err e) now → now ≡ found
     refused c found u end.Full now r = r.0
@@ -68,7 +63,7 @@ module _ {P G : Type 0} where
     pub until_grown : (c : ℕ) (found : List (MapEvent P G)) (us : List Url) (e : MapEnd) (now : List (MapEvent P G)) → AskedUntil weight found c us e now → Grown c found now
     until_grown c found [] e now r = grown_none c found now r.1
     until_grown c found (u ∷ us) e now (inl r) = grown_none c found now (refused c found u e now r)
-    until_grown c found (u ∷ us) e now (inr (a, mid, reply, rest)) = grown_more c (number_for (replay weight found) u) u found mid now reply.0 (until_grown c mid us e now rest)
+    until_grown c found (u ∷ us) e now (inr (a, mid, reply, rest)) = grown_more c (Ask c (number_for (replay weight found) u) u Wanted) found mid now refl reply.0 (until_grown c mid us e now rest)
 
     -- whatever came of it
     abbrev pub AskedSome : List (MapEvent P G) → ℕ → List Url → Result (Vec Asked Global) MapEnd → List (MapEvent P G) → Type 0
@@ -157,26 +152,6 @@ module _ {P G : Type 0} where
 
     pub nothing_said : (c : ℕ) (seen : List (MapEvent P G)) (us : List Url) → AskedFirst weight c us seen seen
     nothing_said c seen us = nothing_asked c us seen seen (stays weight c seen seen seen (continues_itself seen (Some c)) refl)
-
-    -- ---- a post and a take
-
-    pub post_take_grown : (c n : ℕ) (p : Arc P Global) (found now : List (MapEvent P G)) (r : Result Taken Memory) → TakeReply weight (found ++ Post c n p ∷ []) c r now → Grown c found now
-    post_take_grown c n p found now (Ok (taken.Order order)) r = (Post c n p ∷ Take c order.number ∷ [], r.0 ∙ append_assoc found (Post c n p ∷ []) (Take c order.number ∷ []), (inr refl, (inr refl, tt)))
-    post_take_grown c n p found now (Ok taken.NotYet) r = (Post c n p ∷ [], r.0, (inr refl, tt))
-    post_take_grown c n p found now (Ok taken.Closed) r = (Post c n p ∷ [], r.0, (inr refl, tt))
-    post_take_grown c n p found now (Err want) r = (Post c n p ∷ [], r, (inr refl, tt))
-
-    pub post_take_says : (c n : ℕ) (url : Url) (p : Arc P Global) (seen found now : List (MapEvent P G)) (r : Result Taken Memory) → IsOrderIn weight seen c n url → is_legal weight found ≡ true → is_legal weight now ≡ true → ContinuesFor maker_of found seen (Some c)
-        → TakeReply weight (found ++ Post c n p ∷ []) c r now → PostTakeSays weight c n url (arc_value p) seen r now
-    post_take_says c n url p seen found now r order ok legal q reply =
-        let mid : List (MapEvent P G) = found ++ Post c n p ∷ [] in
-        (mid, post_says weight c n url p seen mid order (found, (ok, q), refl), take_says weight c mid now r legal (mid, (mid_legal r reply, continues_itself mid (Some c)), reply))
-      where
-        mid_legal : (r : Result Taken Memory) → TakeReply weight (found ++ Post c n p ∷ []) c r now → is_legal weight (found ++ Post c n p ∷ []) ≡ true
-        mid_legal (Ok (taken.Order o)) reply = (legal_split weight opening (found ++ Post c n p ∷ []) (Take c o.number ∷ []) (subst (λ h. is_legal weight h ≡ true) reply.0 legal)).0
-        mid_legal (Ok taken.NotYet) reply = subst (λ h. is_legal weight h ≡ true) reply.0 legal
-        mid_legal (Ok taken.Closed) reply = subst (λ h. is_legal weight h ≡ true) reply.0 legal
-        mid_legal (Err want) reply = subst (λ h. is_legal weight h ≡ true) reply legal
 
 -- ---- wishes are asked for one by one
 

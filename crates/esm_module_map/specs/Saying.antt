@@ -80,10 +80,6 @@ module _ {P G : Type 0} where
     TakeSays c seen (Ok taken.Closed) now = Stays c seen now × IsShut now
     TakeSays c seen (Err want) now = Stays c seen now
 
-    -- what a post changes, and the take behind it
-    abbrev pub PostTakeSays : ℕ → ℕ → Url → P → List (MapEvent P G) → Result Taken Memory → List (MapEvent P G) → Type 0
-    PostTakeSays c n url p seen result now = (mid : List (MapEvent P G)) × PostedOne c n url p seen mid × TakeSays c mid result now
-
     -- what an ask changes, by its answer
     abbrev pub AskSays : ℕ → List (MapEvent P G) → Url → Result Asked MapEnd → List (MapEvent P G) → Type 0
     AskSays c seen url (Ok asked) now = AskedOne c url asked seen now

@@ -13,15 +13,16 @@ ghost use Rattle.esm_module_map.specs.Fitting.{are_fit, FitsIn};
 ghost use Rattle.esm_module_map.specs.Replies.{AskReply, TakeReply, ShutReply, Called, Found};
 ghost use Rattle.esm_module_map.specs.Inner.Wishes.{wished, IsWish};
 ghost use Rattle.esm_module_map.specs.Asking.{AskedAll, AskedUntil, AskedThese, AskedFirst};
+ghost use Rattle.esm_module_map.specs.Batches.{AreFilled, TakesUpTo, TookThese, posts_of};
 ghost use Rattle.esm_module_map.specs.Hearing.{HearsPosts};
 ghost use Rattle.esm_module_map.specs.Histories.{IsPostIn};
 ghost use Rattle.esm_module_map.specs.Counts.{AreTakenOnce};
-ghost use Rattle.esm_module_map.specs.Saying.{SaysNothing, Stays, ShutSays, IsShut, IsOrderIn, PostedOne, PostTakeSays, TakeSays, AskSays};
+ghost use Rattle.esm_module_map.specs.Saying.{SaysNothing, Stays, ShutSays, IsShut, IsOrderIn, PostedOne, TakeSays, AskSays};
 ghost use Rattle.esm_module_map.specs.Closing.{ClosedBy};
 ghost use Rattle.esm_module_map.specs.Views.{is_there, view_in, table_of, Same};
 
 use crate::event::{MapEvent, Payload, Why};
-use crate::reply::{Asked, Heard, MapEnd, Order, Taken};
+use crate::reply::{Asked, Filled, Heard, MapEnd, Order, Taken};
 use crate::state::{MapState, Wish};
 use esm_base::{MAX_URL_BYTES, Memory, Text};
 use esm_hlock::{Busy, Hlock, Pass};
@@ -346,42 +347,49 @@ impl<P: Payload> ModuleMap<P> {
         caller.pass = Some(self.lock.leave(held));
     }
 
-    /// Posts what came of an order of this caller and fits its URL, and takes the next, in one turn: as `post` and `take`,
-    /// with no other event between. The order's text is the room for the next URL. Where memory runs out the post stands,
-    /// and nothing is taken.
-    pub fn post_and_take<R: Wait>(
+    /// Posts what came of orders of this caller and fits their URLs, and takes at most one order for each room, all in one
+    /// turn: as `post` for each and then `take` once and more, with no other event between. It takes a share of what is free,
+    /// so that the other callers have something to do. `true`: a take found the map shut. `false`: it found nothing, or the
+    /// share is taken. Each room is empty, with room for a URL; those that weren't needed stay, but for one. Where memory runs
+    /// out the posts stand, and `orders` has what was taken before. With such rooms it allocates nothing but what the history
+    /// needs.
+    pub fn post_and_take_all<R: Wait>(
         &self,
         rt: &R,
         caller: &mut Caller<P>,
-        order: Order,
-        payload: Arc<P, Global>,
-    ) -> Result<Taken, Memory>
+        filled: Vec<Filled<P>>,
+        rooms: &mut Vec<String>,
+        orders: &mut Vec<Order>,
+    ) -> Result<bool, Memory>
         requires own { table_of self.now.lock.table.shared.table_id caller.old.pass
             ≡ self.now.lock.table.shared.table_id }
-        requires order { IsOrderIn P.weight (view_in caller.old.pass).seen caller.old.number
-            order.number order.url }
-        requires fits { FitsIn P.fits (view_in caller.old.pass).seen (arc_value payload) order.url }
+        requires filled { AreFilled P.weight P.fits (view_in caller.old.pass).seen caller.old.number
+            filled.items }
+        requires empty { All (λ r. string_bytes r ≡ []) rooms.old.items }
+        requires none { orders.old.items ≡ [] }
+        requires room { vec_len orders.old + vec_len rooms.old ≤ vec_capacity orders.old }
         ensures own { table_of self.now.lock.table.shared.table_id caller.new.pass
             ≡ self.now.lock.table.shared.table_id }
         ensures call { Called P.weight (view_in caller.old.pass).seen (Some caller.old.number)
-            (λ found. TakeReply P.weight
-            (found ++ MapEvent.Post caller.old.number order.number payload ∷ []) caller.old.number result
+            (λ found. TakesUpTo P.weight caller.old.number
+            (found ++ posts_of caller.old.number filled.items) (vec_len rooms.old) orders.new.items result
             (view_in caller.new.pass).seen) }
-        ensures says { PostTakeSays P.weight caller.old.number order.number order.url
-            (arc_value payload) (view_in caller.old.pass).seen result (view_in caller.new.pass).seen }
+        ensures says { TookThese P.weight caller.old.number filled.items orders.new.items
+            (view_in caller.old.pass).seen (view_in caller.new.pass).seen }
+        ensures shut { result ≡ Ok true → IsShut P.weight (view_in caller.new.pass).seen }
+        ensures empty { All (λ r. string_bytes r ≡ []) rooms.new.items }
+        ensures rooms { vec_len rooms.new + vec_len orders.new ≤ vec_len rooms.old }
+        ensures kept { vec_len rooms.old ≤ vec_len rooms.new + vec_len orders.new + 1 }
         ensures same { Same (view_in caller.old.pass) (view_in caller.new.pass)
             × (caller.new.number ≡ caller.old.number) }
     {
-        let Order { number, url } = order;
-        let mut room = url.into_string();
-        room.clear();
         let Some(pass) = caller.pass.take() else {
             unreachable!()
         };
         let mut held = self.lock.enter(rt, pass);
         let reply = held
             .state()
-            .post_and_take(caller.number, number, payload, room);
+            .post_and_take_all(caller.number, filled, rooms, orders);
         caller.pass = Some(self.lock.leave_with_several(held));
         reply
     }

@@ -15,13 +15,14 @@ ghost use Rattle.esm_module_map.specs.Leading.{is_led, leads_to};
 ghost use Rattle.esm_module_map.specs.Fitting.{are_fit, may_fit};
 ghost use Rattle.esm_module_map.specs.Replies.{AskReply, TakeReply, ShutReply, answer_by};
 ghost use Rattle.esm_module_map.specs.Asking.{AskedAll, AskedUntil};
+ghost use Rattle.esm_module_map.specs.Batches.{AreFilled, TakesUpTo, posts_of};
 ghost use Rattle.esm_module_map.specs.Hearing.{HearsPosts, number_heard};
 
 use crate::event::{MapEvent, Payload, Why};
 use crate::number::{
     Number, ask_again, free_from, set_place, set_taker, taken_up_to, wanted_and_free_from,
 };
-use crate::reply::{Asked, Heard, MapEnd, Order, Taken};
+use crate::reply::{Asked, Filled, Heard, MapEnd, Order, Taken};
 use esm_base::{MAX_DELIVERED_BYTES, MAX_URLS, Memory, Text};
 use esm_hlock::Story;
 use esm_text_table::TextTable;
@@ -391,26 +392,94 @@ impl<P: Payload> MapState<P> {
         events.push_reserved(MapEvent::Post(caller, number, payload));
     }
 
-    // The caller posts what it has taken, and takes what is to be taken next.
-    pub(crate) fn post_and_take(
-        &mut self,
-        caller: u64,
-        number: u32,
-        payload: Arc<P, Global>,
-        room: String,
-    ) -> Result<Taken, Memory>
+    // The caller posts what it has filled, in order.
+    fn post_all(&mut self, caller: u64, filled: Vec<Filled<P>>)
         requires is_in { caller < (replay P.weight self.old.events.items).callers }
-        requires order { is_order (replay P.weight self.old.events.items) caller number ≡ true }
-        requires fits { may_fit P.weight P.fits self.old.events.items
-            (MapEvent.Post caller number payload) ≡ true }
-        requires room { string_bytes room ≡ [] }
-        ensures reply { TakeReply P.weight
-            (self.old.events.items ++ MapEvent.Post caller number payload ∷ []) caller result
-            (self.new.events.items) }
+        requires filled { AreFilled P.weight P.fits self.old.events.items caller filled.items }
+        ensures reply { self.new.events.items
+            ≡ self.old.events.items ++ posts_of caller filled.items }
         ensures callers { self.new.callers ≡ self.old.callers }
     {
-        self.post(caller, number, payload);
-        self.take(caller, room)
+        for one in filled {
+            let Filled { number, payload } = one;
+            self.post(caller, number, payload);
+        }
+    }
+
+    // How often a caller that has so many rooms takes in one turn: a share of what is free, so that the other callers have
+    // something to do, and once at the least.
+    fn share(&self, rooms: usize) -> usize
+        requires { 0 < self.now.callers }
+        ensures most { result ≤ rooms }
+        ensures least { 0 < rooms → 0 < result }
+    {
+        let free = self
+            .numbers
+            .len()
+            .saturating_sub(self.out)
+            .saturating_sub(self.posts.len());
+        let share = free / self.callers as usize;
+        share.max(1).min(rooms)
+    }
+
+    // The caller takes what is to be taken next, up to its share, until there is nothing: whether the map was shut then.
+    fn take_all(
+        &mut self,
+        caller: u64,
+        rooms: &mut Vec<String>,
+        orders: &mut Vec<Order>,
+    ) -> Result<bool, Memory>
+        requires is_in { caller < (replay P.weight self.old.events.items).callers }
+        requires empty { All (λ r. string_bytes r ≡ []) rooms.old.items }
+        requires none { orders.old.items ≡ [] }
+        requires room { vec_len orders.old + vec_len rooms.old ≤ vec_capacity orders.old }
+        ensures reply { TakesUpTo P.weight caller self.old.events.items (vec_len rooms.old)
+            orders.new.items result self.new.events.items }
+        ensures callers { self.new.callers ≡ self.old.callers }
+        ensures empty { All (λ r. string_bytes r ≡ []) rooms.new.items }
+        ensures rooms { vec_len rooms.new + vec_len orders.new ≤ vec_len rooms.old }
+        ensures kept { vec_len rooms.old ≤ vec_len rooms.new + vec_len orders.new + 1 }
+    {
+        let most = self.share(rooms.len());
+        while orders.len() < most {
+            let Some(room) = rooms.pop() else {
+                unreachable!()
+            };
+            let Ok(taken) = self.take(caller, room) else {
+                return Err(Memory);
+            };
+            match taken {
+                Taken::Order(order) => orders.push_reserved(order),
+                Taken::NotYet => return Ok(false),
+                Taken::Closed => return Ok(true),
+            }
+        }
+        Ok(false)
+    }
+
+    // The caller posts what it has filled, and takes its share.
+    pub(crate) fn post_and_take_all(
+        &mut self,
+        caller: u64,
+        filled: Vec<Filled<P>>,
+        rooms: &mut Vec<String>,
+        orders: &mut Vec<Order>,
+    ) -> Result<bool, Memory>
+        requires is_in { caller < (replay P.weight self.old.events.items).callers }
+        requires filled { AreFilled P.weight P.fits self.old.events.items caller filled.items }
+        requires empty { All (λ r. string_bytes r ≡ []) rooms.old.items }
+        requires none { orders.old.items ≡ [] }
+        requires room { vec_len orders.old + vec_len rooms.old ≤ vec_capacity orders.old }
+        ensures reply { TakesUpTo P.weight caller
+            (self.old.events.items ++ posts_of caller filled.items) (vec_len rooms.old)
+            orders.new.items result self.new.events.items }
+        ensures callers { self.new.callers ≡ self.old.callers }
+        ensures empty { All (λ r. string_bytes r ≡ []) rooms.new.items }
+        ensures rooms { vec_len rooms.new + vec_len orders.new ≤ vec_len rooms.old }
+        ensures kept { vec_len rooms.old ≤ vec_len rooms.new + vec_len orders.new + 1 }
+    {
+        self.post_all(caller, filled);
+        self.take_all(caller, rooms, orders)
     }
 
     // The number of the post behind the first so many.
@@ -512,10 +581,7 @@ fn add_key(urls: &mut TextTable, key: Text) -> Result<(), Memory>
     ensures { MatchResult result (λ _. urls.new ≡ urls.old ++ key ∷ [])
         (λ _. urls.new ≡ urls.old) }
 {
-    let Ok(_added) = urls.insert(key) else {
-        return Err(Memory);
-    };
-    Ok(())
+    urls.insert_new(key)
 }
 
 // Whether an ask can make one number more.
