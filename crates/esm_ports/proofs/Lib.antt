@@ -1,3 +1,4 @@
 pub mod AskLemmas
+pub mod AnswerLemmas
 pub mod PutLemmas
 pub mod FileLemmas

@@ -1,8 +1,9 @@
 // The record of what a source was asked.
 ghost use Rattle.std.specs.Prelude.{◌≡◌, ◌+◌, [], ◌∷◌, ◌++◌, ◌≤◌, ◌<◌, ◌^◌, OnOk, OnErr, length};
 ghost use Rattle.esm_ports.specs.Asks.{failed_count, failed_kind, asks_with};
+ghost use Rattle.esm_ports.specs.Source.{HandsOn, asked_after, kind_of};
 
-use crate::{AskKind, Asked};
+use crate::{AskKind, Asked, FetchEnd};
 use esm_base::{Memory, Text};
 use std::alloc::Global;
 use std::marker::Model;
@@ -15,6 +16,18 @@ fn failures(kind: AskKind) -> u64
         AskKind::Body => 0,
         AskKind::Absent => 0,
         AskKind::Failed => 1,
+    }
+}
+
+// How an answer is recorded, if it is.
+fn kind_of(answer: &Result<Vec<u8>, FetchEnd>) -> Option<AskKind>
+    ensures { result ≡ kind_of answer.now }
+{
+    match answer {
+        Ok(_) => Some(AskKind::Body),
+        Err(FetchEnd::Absent) => Some(AskKind::Absent),
+        Err(FetchEnd::Failed) => Some(AskKind::Failed),
+        Err(FetchEnd::Memory) => None,
     }
 }
 
@@ -58,6 +71,25 @@ impl Asks {
         self.items.push(Asked { url, kind })?;
         self.failed += failures(kind);
         Ok(())
+    }
+
+    /// Adds how a fetch was answered, unless memory ran out, and hands the answer on. Where memory runs out here, that is
+    /// the answer, and the record is as before.
+    pub fn note(
+        &mut self,
+        url: Text,
+        answer: Result<Vec<u8>, FetchEnd>,
+    ) -> Result<Vec<u8>, FetchEnd>
+        ensures asked { self.new ≡ asked_after self.old url result }
+        ensures answer { HandsOn answer result }
+    {
+        let Some(kind) = kind_of(&answer) else {
+            return answer;
+        };
+        match self.add(url, kind) {
+            Ok(()) => answer,
+            Err(Memory) => Err(FetchEnd::Memory),
+        }
     }
 
     /// How many fetches were answered.

@@ -1,9 +1,10 @@
 // Module texts in files.
-ghost use Rattle.std.specs.Prelude.{◌≡◌, [], None, refl};
+ghost use Rattle.std.specs.Prelude.{◌≡◌, ◌≤◌, [], All, None, IfOk, length, refl, vec_len};
+ghost use Rattle.esm_base.specs.declared.limits.TheConstants.{MAX_BODY_BYTES, MAX_SOURCES};
 ghost use Rattle.esm_ports.specs.Asks.{failed_count};
 
-use crate::{AskKind, Asks, FetchEnd, Source};
-use esm_base::{MAX_BODY_BYTES, Memory, Text, parse_absolute};
+use crate::{Asks, FetchEnd, Source};
+use esm_base::{MAX_BODY_BYTES, MAX_SOURCES, Memory, Text, parse_absolute};
 use percent_encoding::{DecodeError, percent_decode};
 use std::alloc::Global;
 use std::io::{ErrorKind, Read};
@@ -16,8 +17,9 @@ use url::Url;
 ///
 /// Query and fragment are cut. A URL of `http` or `https` has the path: the root, the host (with `:port` where the URL
 /// has one), the segments of its path, each percent-decoded; one of `file` without a host has the root and the
-/// segments. Any other URL is absent, and so is one with a decoded segment that is empty, is `..`, holds `/` or a zero
-/// byte, or isn't UTF-8, and one whose file isn't found. Any other fault of the file is a failure.
+/// segments. Any other URL is absent, and so is one whose host is `.` or `..`, one with a decoded segment that is empty,
+/// is `..`, holds `/` or a zero byte, or isn't UTF-8, and one whose file isn't found. Any other fault of the file is a
+/// failure.
 #[derive(Drop)]
 pub struct FileSource<R> {
     rt: R,
@@ -47,6 +49,29 @@ impl<R: Files> FileSource<R> {
     }
 }
 
+impl<R: Files + Clone + Drop> FileSource<R> {
+    /// The files below the folder in which the program runs, of which none was asked for.
+    pub fn here(rt: &R, alloc: Global) -> Result<FileSource<R>, Memory>
+        ensures { IfOk result (λ s. s ≡ []) }
+    {
+        let root = Text::copy(alloc, ".")?;
+        Ok(FileSource::new(rt.clone()?, alloc, root))
+    }
+
+    /// As many sources as a run may have, each over the files below the folder in which the program runs.
+    pub fn all_here(rt: &R, alloc: Global) -> Result<Vec<FileSource<R>>, Memory>
+        ensures all { IfOk result (λ v. vec_len v ≡ MAX_SOURCES) }
+        ensures fresh { IfOk result (λ v. All (λ s. s ≡ []) v.items) }
+    {
+        let mut sources = Vec::new(alloc);
+        for _ in 0..MAX_SOURCES {
+            let source = FileSource::here(rt, alloc)?;
+            sources.push(source)?;
+        }
+        Ok(sources)
+    }
+}
+
 // Adds a slash and a segment, and says whether the segment may be part of a path.
 fn add_segment(alloc: Global, path: &mut String, segment: &str) -> Result<bool, Memory> {
     let decoded = match percent_decode(segment.as_bytes()).decode_utf8(alloc) {
@@ -67,6 +92,9 @@ fn add_segment(alloc: Global, path: &mut String, segment: &str) -> Result<bool, 
 fn add_host(alloc: Global, path: &mut String, url: &Url) -> Result<bool, Memory> {
     match (url.scheme(), url.host_str()) {
         ("http" | "https", Some(host)) => {
+            if host == "." || host == ".." {
+                return Ok(false);
+            }
             path.push('/')?;
             path.push_str(host)?;
             if let Some(port) = url.port() {
@@ -110,18 +138,33 @@ fn end_of(fault: &io::Error) -> FetchEnd {
 }
 
 // The first bytes of a file.
-fn read_file<R: Files>(rt: &R, alloc: Global, path: &str) -> Result<Vec<u8>, FetchEnd> {
+fn read_file<R: Files>(rt: &R, alloc: Global, path: &str) -> Result<Vec<u8>, FetchEnd>
+    ensures { IfOk result (λ body. length body.items ≤ MAX_BODY_BYTES) }
+{
     let file = match fs::open(rt, path) {
         Ok(file) => file,
         Err(fault) => return Err(end_of(&fault)),
     };
     let mut body = Vec::new(alloc);
     match file.take(MAX_BODY_BYTES as u64).read_to_end(&mut body) {
-        Ok(_) => Ok(body),
+        Ok(_) => {
+            body.truncate(MAX_BODY_BYTES);
+            Ok(body)
+        }
         Err(fault) => match end_of(&fault) {
             FetchEnd::Memory => Err(FetchEnd::Memory),
             _ => Err(FetchEnd::Failed),
         },
+    }
+}
+
+// The first bytes of the file of a URL below a folder.
+fn read_at<R: Files>(rt: &R, alloc: Global, root: &str, url: &str) -> Result<Vec<u8>, FetchEnd>
+    ensures { IfOk result (λ body. length body.items ≤ MAX_BODY_BYTES) }
+{
+    match path_of(alloc, root, url)? {
+        Some(path) => read_file(rt, alloc, path.as_str()),
+        None => Err(FetchEnd::Absent),
     }
 }
 
@@ -136,27 +179,8 @@ impl<R: Files + Drop> Source for FileSource<R> {
 
     fn fetch(&mut self, alloc: Global, url: &str) -> Result<Vec<u8>, FetchEnd> {
         let copy = Text::copy(alloc, url)?;
-        let Some(path) = path_of(alloc, self.root.as_str(), url)? else {
-            self.asked.add(copy, AskKind::Absent)?;
-            return Err(FetchEnd::Absent);
-        };
-        match read_file(&self.rt, alloc, path.as_str()) {
-            Ok(body) => {
-                let mut body = body;
-                body.truncate(MAX_BODY_BYTES);
-                self.asked.add(copy, AskKind::Body)?;
-                Ok(body)
-            }
-            Err(FetchEnd::Absent) => {
-                self.asked.add(copy, AskKind::Absent)?;
-                Err(FetchEnd::Absent)
-            }
-            Err(FetchEnd::Failed) => {
-                self.asked.add(copy, AskKind::Failed)?;
-                Err(FetchEnd::Failed)
-            }
-            Err(FetchEnd::Memory) => Err(FetchEnd::Memory),
-        }
+        let answer = read_at(&self.rt, alloc, self.root.as_str(), url);
+        self.asked.note(copy, answer)
     }
 
     fn faults(&self) -> u64 {

@@ -18,7 +18,8 @@ pub(crate) fn by_url(alloc: Global, files: Vec<(Text, Vec<u8>)>) -> Result<HeldF
     let mut held = TextMap::empty(alloc);
     for file in files {
         let (url, body) = file;
-        let _ = held.insert_new(url.into_string(), body)?;
+        let key = url.into_string()?;
+        let _ = held.insert_new(key, body)?;
     }
     Ok(held)
 }

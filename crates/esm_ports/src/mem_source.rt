@@ -1,11 +1,13 @@
 // A source in memory that fails by a plan.
-ghost use Rattle.std.specs.Prelude.{◌≡◌, ◌≢◌, ◌+◌, ◌↔◌, ℕ, List, Some, [], IfOk, IsTrue, Contains, length, refl};
+ghost use Rattle.std.specs.Prelude.{◌≡◌, ◌≤◌, ◌+◌, ◌↔◌, ℕ, List, Some, [], IfOk, IsTrue, Contains, length, refl};
 ghost use Rattle.esm_base.specs.declared.limits.TheConstants.{MAX_BODY_BYTES};
 ghost use Rattle.esm_ports.specs.Asks.{failed_count};
 ghost use Rattle.esm_ports.specs.Files.{contents_of, held_at};
+ghost use Rattle.esm_ports.specs.Source.{IsToldBy};
+ghost use Rattle.esm_ports.specs.MemSources.{FetchesByPlan};
 
 use crate::held_files::{HeldFiles, by_url, read};
-use crate::{AskKind, Asked, Asks, FetchEnd, Source};
+use crate::{Asked, Asks, FetchEnd, Source};
 use esm_base::{Memory, Text};
 use std::alloc::Global;
 use std::marker::Model;
@@ -62,12 +64,24 @@ impl MemSource {
         let number = self.asked.len() as u64 + 1;
         self.fail_at.contains(&number)
     }
+
+    // What the next call answers where there is memory to record it.
+    fn answer(&self, alloc: Global, url: &str) -> Result<Vec<u8>, FetchEnd>
+        ensures told { IsToldBy (held_at self.now.files) url.now result }
+        ensures short { IfOk result (λ body. length body.items ≤ MAX_BODY_BYTES) }
+        ensures planned { FetchesByPlan self.now result }
+    {
+        if self.is_failing() {
+            Err(FetchEnd::Failed)
+        } else {
+            read(alloc, &self.files, url)
+        }
+    }
 }
 
 impl Source for MemSource {
-    ghost use Rattle.std.specs.Prelude.{◌<◌, ◌≤◌, IfSome, IsErrOf};
-    ghost use Rattle.esm_ports.specs.Source.{IsToldBy, asked_after};
-    ghost use Rattle.esm_ports.specs.MemSources.{FetchesByPlan};
+    ghost use Rattle.std.specs.Prelude.{◌<◌, IfSome, IsErrOf};
+    ghost use Rattle.esm_ports.specs.Source.{asked_after};
 
     ghost asked = { λ s. s.asked };
 
@@ -89,21 +103,8 @@ impl Source for MemSource {
         ensures planned { FetchesByPlan self.old result }
     {
         let copy = Text::copy(alloc, url)?;
-        if self.is_failing() {
-            self.asked.add(copy, AskKind::Failed)?;
-            return Err(FetchEnd::Failed);
-        }
-        match read(alloc, &self.files, url) {
-            Ok(body) => {
-                self.asked.add(copy, AskKind::Body)?;
-                Ok(body)
-            }
-            Err(FetchEnd::Absent) => {
-                self.asked.add(copy, AskKind::Absent)?;
-                Err(FetchEnd::Absent)
-            }
-            Err(_) => Err(FetchEnd::Memory),
-        }
+        let answer = self.answer(alloc, url);
+        self.asked.note(copy, answer)
     }
 
     fn faults(&self) -> u64 {

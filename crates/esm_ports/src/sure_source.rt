@@ -5,7 +5,7 @@ ghost use Rattle.esm_ports.specs.Asks.{failed_count};
 ghost use Rattle.std.proofs.Common.{sym};
 
 use crate::held_files::{HeldFiles, by_url, read};
-use crate::{AskKind, Asks, FetchEnd, Source};
+use crate::{Asks, FetchEnd, Source};
 use esm_base::{Memory, Text};
 use std::alloc::Global;
 
@@ -46,17 +46,8 @@ impl Source for SureSource {
 
     fn fetch(&mut self, alloc: Global, url: &str) -> Result<Vec<u8>, FetchEnd> {
         let copy = Text::copy(alloc, url)?;
-        match read(alloc, &self.files, url) {
-            Ok(body) => {
-                self.asked.add(copy, AskKind::Body)?;
-                Ok(body)
-            }
-            Err(FetchEnd::Absent) => {
-                self.asked.add(copy, AskKind::Absent)?;
-                Err(FetchEnd::Absent)
-            }
-            Err(_) => Err(FetchEnd::Memory),
-        }
+        let answer = read(alloc, &self.files, url);
+        self.asked.note(copy, answer)
     }
 
     fn faults(&self) -> u64 {

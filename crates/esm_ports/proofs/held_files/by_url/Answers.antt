@@ -20,12 +20,12 @@ loop-file-preserved c =
       omega (arith, ap length steps.0),
       λ url.
           let held = c.loop-file.held in
-          let key = string_bytes c.into_string.result in
+          let key = string_bytes c.in_ok-key.key in
           let rest = into_iter_items c.next.new.self in
           let fresh : Bool = c.in_ok-insert_new.field-0 in
           one_more url key c.in-Some.file.1 rest held c.insert_new.new.self fresh (is_some (at key held)) refl
           c.in_ok-insert_new.ensures.inserted (λ e. c.insert_new.ensures.known (c.in_ok-insert_new.was ∙ ap Ok e))
-          ∙ (ap (λ (k : List ℕ). option_or (held_at held url) (contents_of ((k, c.in-Some.file.1) ∷ rest) url)) c.into_string.ensures
+          ∙ (ap (λ (k : List ℕ). option_or (held_at held url) (contents_of ((k, c.in-Some.file.1) ∷ rest) url)) c.in_ok-key.ensures
           ∙ (ap (λ (files : List File). option_or (held_at held url) (contents_of files url)) (sym steps.0)
           ∙ c.loop-file.invariant.1 url)),
     )
