@@ -1,8 +1,9 @@
 -- What words say, numbers, and what holds of a command.
 use Rattle.std.proofs.lemmas.Bool.Decides.{nat_tests}
+use Rattle.std.proofs.lemmas.List.{take_all, drop_more, drop_all}
 use Rattle.std.proofs.lemmas.Str.Pattern.{starts_text}
-use Rattle.std.proofs.Common.{◌≡◌, ◌∙◌, ◌<◌, ◌≤◌, ◌+◌, ◌-◌, ◌*◌, ℕ, min, nat_le, nat_lt, ap, sym, subst, refl, List, [], ◌∷◌, length, drop, arith, Bool, true, false, ◌||◌}
-use Rattle.std.specs.Prelude.{Option, Some, None, IfSome, if◌then◌else◌}
+use Rattle.std.proofs.Common.{◌≡◌, ◌∙◌, ◌<◌, ◌≤◌, ◌+◌, ◌-◌, ◌*◌, ℕ, min, nat_le, nat_lt, ap, sym, subst, refl, List, [], ◌∷◌, length, drop, take, get_or, map, length-drop, not, arith, Bool, true, false, ◌||◌, String, Global}
+use Rattle.std.specs.Prelude.{Option, Some, None, IfSome, codes, bytes_eq, string_bytes, is_some, option_map, if◌then◌else◌}
 use Rattle.std.specs.Option.{MatchOption, option_copied}
 use Rattle.std.specs.Str.{IsCharBoundary}
 use Rattle.std.specs.Str.Pattern.{FindsTextPrefix, StripsPrefix}
@@ -12,8 +13,11 @@ use Rattle.esm_base.specs.Urls.{Text, is_usable, url_of}
 use Rattle.esm_arguments.specs.declared.command.Command.{Command}
 use Rattle.esm_arguments.specs.declared.command.Generation.{Generation}
 use Rattle.esm_arguments.specs.Numbers.{is_outside, number_on, number_of, within}
-use Rattle.esm_arguments.specs.Said.{Said, behind}
-use Rattle.esm_arguments.specs.Commands.{command_by, command_on, command_with, generation_by, generation_said, generation_with, map_url, threads_by, usable_text, workers_by}
+use Rattle.esm_arguments.specs.Said.{Said, behind, said_by, said_on, with_word}
+use Rattle.esm_arguments.specs.Inner.Code.{said_of, valued_of}
+use Rattle.esm_arguments.specs.declared.said.Said as code
+use Rattle.esm_arguments.specs.declared.said.Valued as options
+use Rattle.esm_arguments.specs.Commands.{command_by, command_of, command_on, command_said, command_with, generation_by, generation_of, generation_said, generation_with, map_url, threads_by, usable_text, workers_by}
 
 -- what `strip_prefix` gives at a text
 pub behind_is : (front word : List ℕ) (r : Option (Bor (List ℕ))) → MatchOption r (FindsTextPrefix front word None) (λ x. StripsPrefix (FindsTextPrefix front) word x.now) → option_copied r ≡ behind front word
@@ -133,8 +137,16 @@ good_by many None entry said = tt
 good_by many (Some base) None said = tt
 good_by many (Some base) (Some entry) said = good_on many (url_of None base) entry said
 
-good_command : (many : ℕ) (said : Said) (found : Option Command) → found ≡ command_by many said.first said.second said → IfSome found (IsGood many)
-good_command many said found is = subst (λ f. IfSome f (IsGood many)) (sym is) (good_by many said.first said.second said)
+good_said : (many : ℕ) (said : Option Said) → IfSome (command_said many said) (IsGood many)
+good_said many None = tt
+good_said many (Some said) = good_by many said.first said.second said
+
+good_of : (many : ℕ) (words : List Text) → IfSome (command_of many words) (IsGood many)
+good_of many [] = tt
+good_of many (word ∷ words) = good_if many (bytes_eq word (codes "run")) (command_said many (said_by words)) (good_said many (said_by words))
+
+good_command : (many : ℕ) (words : List Text) (found : Option Command) → found ≡ command_of many words → IfSome found (IsGood many)
+good_command many words found is = subst (λ f. IfSome f (IsGood many)) (sym is) (good_of many words)
 
 -- ---- what holds of generated input
 
@@ -159,23 +171,84 @@ generation_if : (b : Bool) (found : Option Generation) → IfSome found IsGoodGe
 generation_if true found h = tt
 generation_if false found h = h
 
-good_generation : (said : Said) (found : Option Generation) → found ≡ generation_said (Some said) → IfSome found IsGoodGeneration
-good_generation said found is = subst (λ f. IfSome f IsGoodGeneration) (sym is) (generation_if _ _ (generation_on said.first said.second said.workers))
+generation_when : (b : Bool) (found : Option Generation) → IfSome found IsGoodGeneration → IfSome (if b then found else None) IsGoodGeneration
+generation_when true found h = h
+generation_when false found h = tt
 
-pub command_usable : (many : ℕ) (said : Said) (found : Option Command) → found ≡ command_by many said.first said.second said → IfSome found (λ c. is_usable c.entry ≡ true)
-command_usable many said found is = weaker (IsGood many) (λ c. is_usable c.entry ≡ true) found (λ c h. h.0) (good_command many said found is)
+good_generation_said : (said : Option Said) → IfSome (generation_said said) IsGoodGeneration
+good_generation_said None = tt
+good_generation_said (Some said) = generation_if _ _ (generation_on said.first said.second said.workers)
 
-pub command_some : (many : ℕ) (said : Said) (found : Option Command) → found ≡ command_by many said.first said.second said → IfSome found (λ c. 0 < many → 0 < c.workers)
-command_some many said found is = weaker (IsGood many) (λ c. 0 < many → 0 < c.workers) found (λ c h. h.1.0) (good_command many said found is)
+good_generation_of : (words : List Text) → IfSome (generation_of words) IsGoodGeneration
+good_generation_of [] = tt
+good_generation_of (word ∷ words) = generation_when (bytes_eq word (codes "gen")) (generation_said (said_by words)) (good_generation_said (said_by words))
 
-pub command_few : (many : ℕ) (said : Said) (found : Option Command) → found ≡ command_by many said.first said.second said → IfSome found (λ c. (c.workers ≤ 16) × (c.workers ≤ many))
-command_few many said found is = weaker (IsGood many) (λ c. (c.workers ≤ 16) × (c.workers ≤ many)) found (λ c h. (h.1.1, h.1.2)) (good_command many said found is)
+good_generation : (words : List Text) (found : Option Generation) → found ≡ generation_of words → IfSome found IsGoodGeneration
+good_generation words found is = subst (λ f. IfSome f IsGoodGeneration) (sym is) (good_generation_of words)
 
-pub start_in_range : (said : Said) (found : Option Generation) → found ≡ generation_said (Some said) → IfSome found (λ g. (0 < g.start) × (g.start ≤ 2147483647))
-start_in_range said found is = weaker IsGoodGeneration (λ g. (0 < g.start) × (g.start ≤ 2147483647)) found (λ g h. h.0) (good_generation said found is)
+pub command_usable : (many : ℕ) (words : List Text) (found : Option Command) → found ≡ command_of many words → IfSome found (λ c. is_usable c.entry ≡ true)
+command_usable many words found is = weaker (IsGood many) (λ c. is_usable c.entry ≡ true) found (λ c h. h.0) (good_command many words found is)
 
-pub count_in_range : (said : Said) (found : Option Generation) → found ≡ generation_said (Some said) → IfSome found (λ g. (0 < g.count) × (g.count ≤ 4096))
-count_in_range said found is = weaker IsGoodGeneration (λ g. (0 < g.count) × (g.count ≤ 4096)) found (λ g h. h.1) (good_generation said found is)
+pub command_some : (many : ℕ) (words : List Text) (found : Option Command) → found ≡ command_of many words → IfSome found (λ c. 0 < many → 0 < c.workers)
+command_some many words found is = weaker (IsGood many) (λ c. 0 < many → 0 < c.workers) found (λ c h. h.1.0) (good_command many words found is)
 
-pub workers_in_range : (said : Said) (found : Option Generation) → found ≡ generation_said (Some said) → IfSome found (λ g. (0 < g.workers) × (g.workers ≤ 16))
-workers_in_range said found is = weaker IsGoodGeneration (λ g. (0 < g.workers) × (g.workers ≤ 16)) found (λ g h. h.2) (good_generation said found is)
+pub command_few : (many : ℕ) (words : List Text) (found : Option Command) → found ≡ command_of many words → IfSome found (λ c. (c.workers ≤ 16) × (c.workers ≤ many))
+command_few many words found is = weaker (IsGood many) (λ c. (c.workers ≤ 16) × (c.workers ≤ many)) found (λ c h. (h.1.1, h.1.2)) (good_command many words found is)
+
+pub start_in_range : (words : List Text) (found : Option Generation) → found ≡ generation_of words → IfSome found (λ g. (0 < g.start) × (g.start ≤ 2147483647))
+start_in_range words found is = weaker IsGoodGeneration (λ g. (0 < g.start) × (g.start ≤ 2147483647)) found (λ g h. h.0) (good_generation words found is)
+
+pub count_in_range : (words : List Text) (found : Option Generation) → found ≡ generation_of words → IfSome found (λ g. (0 < g.count) × (g.count ≤ 4096))
+count_in_range words found is = weaker IsGoodGeneration (λ g. (0 < g.count) × (g.count ≤ 4096)) found (λ g h. h.1) (good_generation words found is)
+
+pub workers_in_range : (words : List Text) (found : Option Generation) → found ≡ generation_of words → IfSome found (λ g. (0 < g.workers) × (g.workers ≤ 16))
+workers_in_range words found is = weaker IsGoodGeneration (λ g. (0 < g.workers) × (g.workers ≤ 16)) found (λ g h. h.2) (good_generation words found is)
+
+-- ---- the first word and the others
+
+range_is : {X : Type 0} (n : ℕ) (xs : List X) → take (length xs - n) (drop n xs) ≡ drop n xs
+range_is n xs = take_all (length xs - n) (drop n xs) (omega (arith, length-drop n xs))
+
+head_is : {X : Type 0} (xs : List X) (x : X) → 1 ≤ length xs → x ≡ get_or xs 0 x → xs ≡ x ∷ drop 1 xs
+head_is [] x h e = absurd (omega arith)
+head_is (y ∷ ys) x h e = ap (λ z. z ∷ ys) (sym e)
+
+front_is : {X : Type 0} (xs : List X) (x : X) → 1 ≤ length xs → x ≡ get_or xs 0 x → xs ≡ x ∷ take (length xs - 1) (drop 1 xs)
+front_is xs x h e = head_is xs x h e ∙ ap (λ rest. x ∷ rest) (sym (range_is 1 xs))
+
+turned : {A : Type 0} (b c : Bool) (x : Option A) → b ≡ not c → (if b then None else x) ≡ (if c then x else None)
+turned b true x e = ap (λ d. if d then None else x) e
+turned b false x e = ap (λ d. if d then None else x) e
+
+module _ (words : List (String Global)) (first : String Global) (text : Text) (b : Bool)
+    (there : 1 ≤ length words) (is : first ≡ get_or words 0 first) (same : text ≡ string_bytes first) where
+  pub command_words : (many : ℕ) → b ≡ not (bytes_eq text (codes "run"))
+      → (if b then None else command_said many (said_by (map string_bytes (take (length words - 1) (drop 1 words))))) ≡ command_of many (map string_bytes words)
+  command_words many e =
+      turned b (bytes_eq (string_bytes first) (codes "run")) (command_said many (said_by (map string_bytes (take (length words - 1) (drop 1 words))))) (e ∙ ap (λ t. not (bytes_eq t (codes "run"))) same)
+      ∙ sym (ap (λ ws. command_of many (map string_bytes ws)) (front_is words first there is))
+
+  pub generation_words : b ≡ not (bytes_eq text (codes "gen"))
+      → (if b then None else generation_said (said_by (map string_bytes (take (length words - 1) (drop 1 words))))) ≡ generation_of (map string_bytes words)
+  generation_words e =
+      turned b (bytes_eq (string_bytes first) (codes "gen")) (generation_said (said_by (map string_bytes (take (length words - 1) (drop 1 words))))) (e ∙ ap (λ t. not (bytes_eq t (codes "gen"))) same)
+      ∙ sym (ap (λ ws. generation_of (map string_bytes ws)) (front_is words first there is))
+
+-- ---- what all words say
+
+module _ (words : List (String Global)) (i : ℕ) where
+  pub more_said : (word : String Global) (text : Text) (said : Said) (found : Option Said) → i < length words → word ≡ get_or words i word → text ≡ string_bytes word
+      → found ≡ with_word text said → said_on found (map string_bytes (drop (i + 1) words)) ≡ said_on (Some said) (map string_bytes (drop i words))
+  more_said word text said found within is same told =
+      ap (λ f. said_on f (map string_bytes (drop (i + 1) words))) (told ∙ ap (λ t. with_word t said) same)
+      ∙ sym (ap (λ ws. said_on (Some said) (map string_bytes ws)) (drop_more words i word within ∙ ap (λ w. w ∷ drop (i + 1) words) (sym is)))
+
+  pub last_said : (said : code.Said) (waits : Bool) → length words ≤ i → waits ≡ is_some said.waits
+      → (if waits then None else Some (said_of said)) ≡ said_on (Some (said_of said)) (map string_bytes (drop i words))
+  last_said said waits past e =
+      ap (λ b. if b then None else Some (said_of said)) (e ∙ by said.waits)
+      ∙ sym (ap (λ ws. said_on (Some (said_of said)) (map string_bytes ws)) (drop_all i words past))
+    where
+      by : (option : Option options.Valued) → is_some option ≡ is_some (option_map valued_of option)
+      by None = refl
+      by (Some x) = refl

@@ -81,15 +81,10 @@ fn read_said(alloc: Global, many: usize, said: &Said) -> Result<Option<Command>,
     }
 }
 
-/// The command `run` that the words are over so many sources, if they are one. It answers `Memory` where memory runs
-/// out.
-pub fn read_words(alloc: Global, words: &[String], many: usize) -> Result<Option<Command>, Memory>
-    ensures told { IfOk result (λ found. found
+// The command `run` that the words are over so many sources, if they are one.
+fn command_in(alloc: Global, words: &[String], many: usize) -> Result<Option<Command>, Memory>
+    ensures { IfOk result (λ found. found
         ≡ spec.command_of many (map string_bytes words.now)) }
-    ensures usable { IfOk result (λ found. IfSome found (λ c. is_usable c.entry ≡ true)) }
-    ensures some { IfOk result (λ found. IfSome found (λ c. 0 < many → 0 < c.workers)) }
-    ensures few { IfOk result (λ found. IfSome found
-        (λ c. (c.workers ≤ MAX_SOURCES) × (c.workers ≤ many))) }
 {
     match words {
         [] => Ok(None),
@@ -103,6 +98,19 @@ pub fn read_words(alloc: Global, words: &[String], many: usize) -> Result<Option
             }
         }
     }
+}
+
+/// The command `run` that the words are over so many sources, if they are one. It answers `Memory` where memory runs
+/// out.
+pub fn read_words(alloc: Global, words: &[String], many: usize) -> Result<Option<Command>, Memory>
+    ensures told { IfOk result (λ found. found
+        ≡ spec.command_of many (map string_bytes words.now)) }
+    ensures usable { IfOk result (λ found. IfSome found (λ c. is_usable c.entry ≡ true)) }
+    ensures some { IfOk result (λ found. IfSome found (λ c. 0 < many → 0 < c.workers)) }
+    ensures few { IfOk result (λ found. IfSome found
+        (λ c. (c.workers ≤ MAX_SOURCES) × (c.workers ≤ many))) }
+{
+    command_in(alloc, words, many)
 }
 
 // The generated input of START and N.
@@ -135,16 +143,10 @@ fn read_generated(said: &Said) -> Option<Generation>
     }
 }
 
-/// The generated input that the words of `gen` ask for, if they do. It answers `Memory` where memory runs out.
-pub fn read_generation(alloc: Global, words: &[String]) -> Result<Option<Generation>, Memory>
-    ensures told { IfOk result (λ found. found
+// The generated input that the words of `gen` ask for, if they do.
+fn generation_in(alloc: Global, words: &[String]) -> Result<Option<Generation>, Memory>
+    ensures { IfOk result (λ found. found
         ≡ spec.generation_of (map string_bytes words.now)) }
-    ensures start { IfOk result (λ found. IfSome found
-        (λ g. (0 < g.start) × (g.start ≤ MAX_START))) }
-    ensures count { IfOk result (λ found. IfSome found
-        (λ g. (0 < g.count) × (g.count ≤ MAX_URLS))) }
-    ensures workers { IfOk result (λ found. IfSome found
-        (λ g. (0 < g.workers) × (g.workers ≤ MAX_SOURCES))) }
 {
     match words {
         [] => Ok(None),
@@ -158,4 +160,18 @@ pub fn read_generation(alloc: Global, words: &[String]) -> Result<Option<Generat
             }
         }
     }
+}
+
+/// The generated input that the words of `gen` ask for, if they do. It answers `Memory` where memory runs out.
+pub fn read_generation(alloc: Global, words: &[String]) -> Result<Option<Generation>, Memory>
+    ensures told { IfOk result (λ found. found
+        ≡ spec.generation_of (map string_bytes words.now)) }
+    ensures start { IfOk result (λ found. IfSome found
+        (λ g. (0 < g.start) × (g.start ≤ MAX_START))) }
+    ensures count { IfOk result (λ found. IfSome found
+        (λ g. (0 < g.count) × (g.count ≤ MAX_URLS))) }
+    ensures workers { IfOk result (λ found. IfSome found
+        (λ g. (0 < g.workers) × (g.workers ≤ MAX_SOURCES))) }
+{
+    generation_in(alloc, words)
 }

@@ -223,10 +223,11 @@ pub(crate) fn said_by(alloc: Global, words: &[String]) -> Result<Option<Said>, M
 {
     let mut said = nothing();
     for word in words {
-        let Some(more) = with_word(alloc, word.as_str(), said)? else {
-            return Ok(None);
-        };
-        said = more;
+        let found = with_word(alloc, word.as_str(), said)?;
+        match found {
+            Some(more) => said = more,
+            None => return Ok(None),
+        }
     }
     if said.waits.is_some() {
         return Ok(None);

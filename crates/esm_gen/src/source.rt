@@ -1,13 +1,15 @@
 // A source of the modules that two numbers generate.
-ghost use Rattle.std.specs.Prelude.{◌≡◌, ◌<◌, ◌≤◌, ◌^◌, ℕ, List, Some, [], decimal, IfOk, option_copied, option_map};
+ghost use Rattle.std.specs.Prelude.{◌≡◌, ◌≢◌, ◌<◌, ◌≤◌, ◌^◌, ℕ, List, Some, Err, [], decimal, length, IfOk, option_copied, option_map};
+ghost use Rattle.esm_base.specs.declared.limits.TheConstants.{MAX_BODY_BYTES};
 ghost use Rattle.std.proofs.Common.{sym};
 ghost use Rattle.esm_ports.specs.Asks.{failed_count};
+ghost use Rattle.esm_ports.specs.Source.{IsToldBy};
 ghost use Rattle.esm_gen.specs.Generated.{generated_at, module_url};
 ghost use Rattle.esm_gen.specs.Held.{IsNumberOf};
 
 use crate::modules::{module_text, module_url};
 use esm_base::{MAX_BODY_BYTES, Memory, Text};
-use esm_ports::{AskKind, Asks, FetchEnd, Source};
+use esm_ports::{Asks, FetchEnd, Source};
 use std::alloc::Global;
 
 // What stands in a URL where the number of a module would.
@@ -50,6 +52,21 @@ fn made_at(alloc: Global, start: u32, count: u32, url: &str) -> Result<Option<Ve
     Ok(Some(text.into_bytes()))
 }
 
+// What a fetch of this URL answers.
+fn body_at(alloc: Global, start: u32, count: u32, url: &str) -> Result<Vec<u8>, FetchEnd>
+    ensures told { IsToldBy (generated_at start count) url.now result }
+    ensures short { IfOk result (λ body. length body.items ≤ MAX_BODY_BYTES) }
+    ensures sure { result ≢ Err FetchEnd.Failed }
+{
+    match made_at(alloc, start, count, url)? {
+        Some(mut body) => {
+            body.truncate(MAX_BODY_BYTES);
+            Ok(body)
+        }
+        None => Err(FetchEnd::Absent),
+    }
+}
+
 /// A source of the modules that two numbers generate, which never fails. It holds no text: each is made when it is fetched.
 #[derive(Drop)]
 pub struct GeneratedSource {
@@ -88,17 +105,8 @@ impl Source for GeneratedSource {
 
     fn fetch(&mut self, alloc: Global, url: &str) -> Result<Vec<u8>, FetchEnd> {
         let copy = Text::copy(alloc, url)?;
-        match made_at(alloc, self.start, self.count, url)? {
-            Some(mut body) => {
-                body.truncate(MAX_BODY_BYTES);
-                self.asked.add(copy, AskKind::Body)?;
-                Ok(body)
-            }
-            None => {
-                self.asked.add(copy, AskKind::Absent)?;
-                Err(FetchEnd::Absent)
-            }
-        }
+        let answer = body_at(alloc, self.start, self.count, url);
+        self.asked.note(copy, answer)
     }
 
     fn faults(&self) -> u64 {

@@ -1,12 +1,13 @@
-use Rattle.esm_arguments.specs.Inner.Code.{said_of}
+use Rattle.std.specs.Prelude.{map, string_bytes}
+use Rattle.std.proofs.lemmas.Result.{IfOk-weaker}
 use Rattle.esm_arguments.proofs.Words.{start_in_range, count_in_range, workers_in_range}
 use Rattle.esm_arguments.proofs.reading.read_generation.Goals as goal
 
-pub returns-in-Some-clause-start : goal.returns-in-Some-clause-start
-returns-in-Some-clause-start c = start_in_range (said_of c.in-Some.said) c.read_generated.result c.read_generated.ensures
+pub returns-clause-start : goal.returns-clause-start
+returns-clause-start c = IfOk-weaker c.generation_in.result _ _ (λ found is. start_in_range (map string_bytes c.args.words.now) found is) c.generation_in.ensures
 
-pub returns-in-Some-clause-count : goal.returns-in-Some-clause-count
-returns-in-Some-clause-count c = count_in_range (said_of c.in-Some.said) c.read_generated.result c.read_generated.ensures
+pub returns-clause-count : goal.returns-clause-count
+returns-clause-count c = IfOk-weaker c.generation_in.result _ _ (λ found is. count_in_range (map string_bytes c.args.words.now) found is) c.generation_in.ensures
 
-pub returns-in-Some-clause-workers : goal.returns-in-Some-clause-workers
-returns-in-Some-clause-workers c = workers_in_range (said_of c.in-Some.said) c.read_generated.result c.read_generated.ensures
+pub returns-clause-workers : goal.returns-clause-workers
+returns-clause-workers c = IfOk-weaker c.generation_in.result _ _ (λ found is. workers_in_range (map string_bytes c.args.words.now) found is) c.generation_in.ensures
