@@ -193,7 +193,7 @@ fn expression(
     add(tree, StmtNode::Expression(value), behind)
 }
 
-// Reads statements; the blocks in them by a function of its own.
+/// Reads statements; the blocks in them by a function of its own.
 #[derive(Clone, Copy)]
 pub struct BlockReader<F> {
     alloc: Global,
@@ -291,6 +291,7 @@ impl<
         add(tree, StmtNode::TryCatch(parts), behind)
     }
 
+    /// Reads the statement that begins at a token (`Statement` of ECMA-262), and gives the place behind it.
     pub fn statement(
         &self,
         tokens: &LexemeList,
@@ -346,6 +347,7 @@ impl<
         Ok((Some(id), behind))
     }
 
+    /// Reads the statements of a block and the `}` behind them (`Block` of ECMA-262), and gives the place behind it.
     pub fn statements(
         &self,
         tokens: &LexemeList,

@@ -7,7 +7,7 @@ ghost use Rattle.esm_specifier.specs.Resolution.{deciding_key, deciding_scope, d
 use esm_base::TextMap;
 use esm_import_map::{Address, ImportMap, SpecifierMap};
 
-// A key that decides: so many bytes of the normal text, and the address to which it leads.
+/// A key that decides: so many bytes of the normal text, and the address to which it leads.
 #[derive(Drop)]
 pub struct Found<'a> {
     pub key_len: usize,
@@ -109,7 +109,7 @@ fn find_scope<'a>(
     }
 }
 
-// The key that decides: in the scopes, else in the imports.
+/// The key that decides: in the scopes, else in the imports.
 pub fn find<'a>(
     map: &'a ImportMap,
     referrer: &str,

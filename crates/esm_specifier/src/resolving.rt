@@ -32,14 +32,14 @@ fn names_module(alloc: Global, url: &Url) -> Result<bool, Memory>
     is_usable(alloc, text)
 }
 
-// The answer, if it may be used.
+// The answer, if it may be used. Its copies take no memory: a run has each URL in many tables.
 fn usable(alloc: Global, url: &Url) -> Result<Text, SpecEnd>
     ensures { Gives result (spec.usable (Ok (serialize url.now))) }
 {
     if !names_module(alloc, url)? {
         return Err(SpecEnd::Fault(SpecFault::S5));
     }
-    Ok(Text::copy(alloc, url.as_str())?)
+    Ok(Text::shared(alloc, url.as_str())?)
 }
 
 // What the address of a key leads to.

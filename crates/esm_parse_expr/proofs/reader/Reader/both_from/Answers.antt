@@ -5,7 +5,7 @@ use Rattle.esm_tree.specs.Syntax.{And, none, more}
 use Rattle.esm_tree.specs.Flat.{part, parts}
 use Rattle.esm_tree.specs.declared.lexeme.Terminal.TheVariants as t
 use Rattle.esm_grammar.specs.Reading as read
-use Rattle.esm_parse_expr.proofs.OutcomeLemmas.{grows_none, grows_then, refused, continued, part_later, longer}
+use Rattle.esm_parse_expr.proofs.OutcomeLemmas.{grows_none, grows_then, no_memory, refused, continued, part_later, longer}
 use Rattle.esm_parse_expr.proofs.Lists.{append, turn_more, turn_none, pushed_below, pushed_parts, gathered, from_first, further_over, further_done, further_refused, further_one}
 use Rattle.esm_parse_expr.proofs.reader.Reader.both_from.Goals as goal
 
@@ -69,3 +69,6 @@ returns g c =
     let d = parts l.tree.exprs l.others.items in
     let turn = turn_none (λ n. gathered And e d (read.further ts t.AndAnd operand n l.next)) room l._turn c.turns-test.false l.invariant.same in
     record { grows = l.invariant.grows; gives = turn ∙ further_over ts t.AndAnd And operand e d 0 l.next }
+
+pub returns-in_err-push : goal.returns-in_err-push
+returns-in_err-push g c = no_memory _ _ _ _ (grows_then _ _ _ c.turns.invariant.grows c.in_ok-id.ensures.grows) (err_from_is_err_and c.from_residual-in_err-push.result c.from_residual-in_err-push.ensures.1)

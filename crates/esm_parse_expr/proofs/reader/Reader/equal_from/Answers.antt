@@ -4,7 +4,7 @@ use Rattle.std.proofs.lemmas.Result.{err_from_is_err_and}
 use Rattle.esm_tree.specs.Flat.{part, compared_parts}
 use Rattle.esm_tree.specs.Syntax.{last, compared}
 use Rattle.esm_grammar.specs.Reading as read
-use Rattle.esm_parse_expr.proofs.OutcomeLemmas.{grows_none, grows_then, refused, continued, part_later, longer}
+use Rattle.esm_parse_expr.proofs.OutcomeLemmas.{grows_none, grows_then, no_memory, refused, continued, part_later, longer}
 use Rattle.esm_parse_expr.proofs.Lists.{turn_more, turn_none}
 use Rattle.esm_parse_expr.proofs.Compared.{append, below_push, pushed, gathered, from_first, comparisons_over, comparisons_done, comparisons_refused, comparisons_one}
 use Rattle.esm_parse_expr.proofs.reader.Reader.equal_from.Goals as goal
@@ -69,3 +69,6 @@ returns g c =
     let d = compared_parts l.tree.exprs l.others.items in
     let turn = turn_none (λ n. gathered e d (read.comparisons ts operand n l.next)) room l._turn c.turns-test.false l.invariant.same in
     record { grows = l.invariant.grows; gives = turn ∙ comparisons_over ts operand e d 0 l.next }
+
+pub returns-in_err-push : goal.returns-in_err-push
+returns-in_err-push g c = no_memory _ _ _ _ (grows_then _ _ _ c.turns.invariant.grows c.in_ok-id.ensures.grows) (err_from_is_err_and c.from_residual-in_err-push.result c.from_residual-in_err-push.ensures.1)
