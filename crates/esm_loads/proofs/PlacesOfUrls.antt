@@ -2,15 +2,10 @@
 use mathlib.Core.Bool.{true≢false}
 use Rattle.std.proofs.Common.{◌≡◌, ℕ, suc, zero, ◌<◌, Bool, true, false, cond, List, [], ◌∷◌, ◌++◌, length, Option, Some, None, refl, ap, subst, sym, ◌∙◌, arith}
 use Rattle.std.specs.Prelude.{◌||◌, slice_get, option_map}
-use Rattle.std.specs.Ordering.{eq_by_cmp}
-use Rattle.std.proofs.lemmas.Map.Text.{is_eq-slice_cmp}
-use Rattle.esm_base.specs.Urls.{Url, url_cmp, has, same_url}
+use Rattle.esm_base.specs.Urls.{Url, has, same_url}
 use Rattle.esm_realm.specs.Laws.{AreDistinct}
 use Rattle.esm_realm.proofs.Urls.{same_text, own_text, or_true, or_left, both_false, not_both}
 use Rattle.esm_loads.specs.LoadsView.{place_in, place_by}
-
-pub cmp_same : (u v : Url) → eq_by_cmp url_cmp u v ≡ same_url u v
-cmp_same u v = is_eq-slice_cmp u v
 
 pub same_sym : (u v : Url) → same_url u v ≡ same_url v u
 same_sym u v = by (same_url u v) refl (same_url v u) refl

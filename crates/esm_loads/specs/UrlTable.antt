@@ -1,5 +1,5 @@
 -- The table of URLs: the module map of the HTML Standard.
-use Rattle.std.specs.Prelude.{ℕ, Bool, true, false, cond, List, [], ◌∷◌, ◌++◌, slice_index_or, Option, Some, None, Result, Ok, Err, codes}
+use Rattle.std.specs.Prelude.{ℕ, Bool, true, false, cond, List, [], ◌++◌, slice_index_or, Option, Some, None, Result, Ok, Err, codes}
 use Rattle.esm_base.specs.Faults.{fault_description}
 use Rattle.esm_base.specs.Urls.{Text, Url, same_url}
 use Rattle.esm_base.specs.declared.fault.TextFault.{TextFault}

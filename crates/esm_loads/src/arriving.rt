@@ -225,13 +225,13 @@ fn fill(
     }
 }
 
-// The place of an open ask.
-fn open_place(loads: &Loads, url: &Text) -> usize
+// The place of an open ask, which is looked for at the place `near` first.
+fn open_place(loads: &Loads, url: &Text, near: usize) -> usize
     requires distinct { AreDistinct (urls_of loads.now.urls.slots) }
     requires open { has (open_urls loads.now.urls.slots) url.now ≡ true }
     ensures { IsOpenSlot loads.now.urls.slots result url.now }
 {
-    match loads.urls.find(url) {
+    match loads.urls.find_near(url, near) {
         Some(place) => place,
         None => unreachable!(),
     }
@@ -255,6 +255,7 @@ fn store(
     errors: &mut Errors,
     map: &ImportMap,
     url: &Text,
+    near: usize,
     outcome: &Outcome,
     targets: &Targets,
 ) -> Result<(), Memory>
@@ -279,7 +280,7 @@ fn store(
     ensures fits { OnOk result (FitRecords loads.new (records_of realm.new)) }
     ensures sound { IsSound (records_of realm.new) }
 {
-    let place = open_place(loads, url);
+    let place = open_place(loads, url, near);
     let state = fill(
         &mut loads.trees,
         realm,
@@ -308,13 +309,15 @@ fn count(loads: &mut Loads, bytes: usize) -> Result<(), LoadEnd>
     }
 }
 
-/// Takes what the fetch of a URL has come to, whose requests these targets are. The map is what they were resolved by.
+/// Takes what the fetch of a URL has come to, whose requests these targets are. The map is what they were resolved by. The URL
+/// is looked for at the place `near` first, which may be any number.
 pub fn arrive(
     loads: &mut Loads,
     realm: &mut Realm,
     errors: &mut Errors,
     map: &ImportMap,
     url: &Text,
+    near: usize,
     outcome: &Outcome,
     targets: &Targets,
 ) -> Result<(), LoadEnd>
@@ -346,7 +349,7 @@ pub fn arrive(
         Ok(()) => {}
         Err(end) => return Err(end),
     }
-    match store(loads, realm, errors, map, url, outcome, targets) {
+    match store(loads, realm, errors, map, url, near, outcome, targets) {
         Ok(()) => Ok(()),
         Err(Memory) => Err(LoadEnd::Memory),
     }

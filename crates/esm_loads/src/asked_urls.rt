@@ -1,20 +1,20 @@
 // The asked URLs, in order of asking. HTML, the module map.
-ghost use Rattle.std.specs.Prelude.{◌≡◌, ℕ, ◌<◌, ◌≤◌, ◌+◌, ◌++◌, [], ◌∷◌, length, None, Some, IfOk, OnOk, Err, false, slice_get, slice_set};
+ghost use Rattle.std.specs.Prelude.{◌≡◌, ℕ, ◌<◌, ◌≤◌, ◌+◌, ◌++◌, [], ◌∷◌, length, None, Some, IfOk, OnOk, Err, true, false, slice_get, slice_set};
 ghost use Rattle.std.specs.List.Sorted.{IsNonDecreasing};
 ghost use Rattle.esm_base.specs.declared.limits.Limit.{Limit};
 ghost use Rattle.esm_base.specs.declared.limits.TheConstants.{MAX_URLS, MAX_DELIVERED_BYTES};
 ghost use Rattle.esm_base.specs.declared.end.End.TheVariants.{Fault};
-ghost use Rattle.esm_base.specs.Urls.{has};
+ghost use Rattle.esm_base.specs.Urls.{has, same_url};
 ghost use Rattle.esm_loads.specs.LoadsView.{urls_of, place_in, is_open};
 ghost use Rattle.esm_loads.specs.Inner.Reading.{module_by};
-ghost use Rattle.esm_loads.specs.Inner.Urls.{no_slots, open_urls, open_slot, Closes, PutsPlace, IsOpenAt};
+ghost use Rattle.esm_loads.specs.Inner.Urls.{no_slots, open_urls, open_slot, Closes, IsOpenAt};
 
 use crate::LoadEnd;
 use crate::data::{Slot, UrlState};
 use crate::front_vec::FrontVec;
 use esm_base::{Limit, MAX_DELIVERED_BYTES, MAX_URLS, Memory, ModuleId, Text};
+use esm_text_table::TextTable;
 use std::alloc::Global;
-use std::collections::BTreeMap;
 use std::marker::Model;
 
 /// The URLs that are asked and not fetched, in order of asking, and the places of their slots.
@@ -57,8 +57,8 @@ impl OpenAsks {
 /// The asked URLs, in order of asking, with the state of each.
 #[derive(Drop)]
 pub struct AskedUrls {
-    /// The place of each URL among the slots.
-    numbers: BTreeMap<Text, usize>,
+    /// The URLs of the slots, in their order.
+    urls: TextTable,
     slots: Vec<Slot>,
     asks: OpenAsks,
     /// How many bytes were delivered.
@@ -75,22 +75,22 @@ impl Model for AskedUrls {
 
     ghost view = { λ t. record { slots = t.slots.items; bytes = t.bytes } };
 
-    ghost invariant = { λ t. AreIndexed t.numbers t.slots.items t.asks t.bytes };
+    ghost invariant = { λ t. AreIndexed t.urls t.slots.items t.asks t.bytes };
 }
 
-// Adds an open URL to each list.
+// Adds an open URL to each list, none of which has it.
 fn add(
-    numbers: &mut BTreeMap<Text, usize>,
+    urls: &mut TextTable,
     slots: &mut Vec<Slot>,
     asks: &mut OpenAsks,
     url: &Text,
 ) -> Result<(), Memory>
+    requires { has urls.old url.now ≡ false }
     ensures slots { OnOk result (slots.new.items ≡ slots.old.items ++ open_slot url.now ∷ []) }
     ensures asks { OnOk result (asks.new.urls ≡ asks.old.urls ++ url.now ∷ []) }
     ensures places { OnOk result (asks.new.places
         ≡ asks.old.places ++ length slots.old.items ∷ []) }
-    ensures numbers { OnOk result
-        (PutsPlace url.now (length slots.old.items) numbers.old numbers.new) }
+    ensures urls { OnOk result (urls.new ≡ urls.old ++ url.now ∷ []) }
 {
     let place = slots.len();
     let key = url.clone()?;
@@ -101,8 +101,25 @@ fn add(
         url,
         state: UrlState::Open,
     })?;
-    numbers.insert(key, place)?;
-    Ok(())
+    urls.insert_new(key)
+}
+
+// Whether the slot at a place is of this URL.
+fn is_of(slots: &[Slot], place: usize, url: &Text) -> bool
+    requires { place < length slots.now }
+    ensures { (s : Slot) → slice_get slots.now place ≡ Some s → result ≡ same_url s.url url.now }
+{
+    slots[place].url == *url
+}
+
+// Whether a URL stands at a place.
+fn is_at(slots: &[Slot], place: usize, url: &Text) -> bool
+    ensures { result ≡ true → slice_get (urls_of slots.now) place ≡ Some url.now }
+{
+    if place >= slots.len() {
+        return false;
+    }
+    is_of(slots, place, url)
 }
 
 // Whether the URL of the slot at a place isn't fetched.
@@ -119,7 +136,7 @@ impl AskedUrls {
         ensures { result ≡ no_slots }
     {
         AskedUrls {
-            numbers: BTreeMap::new(alloc),
+            urls: TextTable::new(alloc),
             slots: Vec::new(alloc),
             asks: OpenAsks {
                 urls: FrontVec::new(alloc),
@@ -136,6 +153,11 @@ impl AskedUrls {
         self.asks.urls.as_slice()
     }
 
+    /// The places of the URLs that are asked and not fetched, in order of asking.
+    pub fn open_places(&self) -> &[usize] {
+        self.asks.places.as_slice()
+    }
+
     /// How many URLs are asked.
     pub fn len(&self) -> usize
         ensures { result ≡ length self.now.slots }
@@ -147,14 +169,25 @@ impl AskedUrls {
     pub fn find(&self, url: &Text) -> Option<usize>
         ensures { result ≡ place_in (urls_of self.now.slots) url.now }
     {
-        self.numbers.get(url).copied()
+        self.urls.find(url)
     }
 
-    /// Whether a URL is asked and not fetched.
-    pub fn is_open(&self, url: &Text) -> bool
+    /// The same, where the URL was found at the place `near` before, and needn't be looked up again. Any number may be given.
+    pub fn find_near(&self, url: &Text, near: usize) -> Option<usize>
+        ensures { result ≡ place_in (urls_of self.now.slots) url.now }
+    {
+        if is_at(self.slots.as_slice(), near, url) {
+            Some(near)
+        } else {
+            self.find(url)
+        }
+    }
+
+    /// Whether a URL is asked and not fetched. It is looked for as by `find_near`.
+    pub fn is_open(&self, url: &Text, near: usize) -> bool
         ensures { result ≡ has (open_urls self.now.slots) url.now }
     {
-        match self.find(url) {
+        match self.find_near(url, near) {
             Some(place) => is_open_at(self.slots.as_slice(), place),
             None => false,
         }
@@ -206,10 +239,10 @@ impl AskedUrls {
         if place >= MAX_URLS {
             return Err(LoadEnd::Fault(Limit::L1));
         }
-        match add(&mut self.numbers, &mut self.slots, &mut self.asks, url) {
+        match add(&mut self.urls, &mut self.slots, &mut self.asks, url) {
             Ok(()) => Ok(place),
             Err(Memory) => {
-                self.numbers.clear();
+                self.urls.clear();
                 self.slots.clear();
                 self.asks.urls.clear();
                 self.asks.places.clear();

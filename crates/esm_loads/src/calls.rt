@@ -22,7 +22,7 @@ use crate::LoadEnd;
 use crate::arriving::{arrive, resolve_requests};
 use crate::asked_urls::AskedUrls;
 use crate::asking::{add_load, ask_root};
-use crate::data::Purpose;
+use crate::data::{NOWHERE, Purpose};
 use crate::importing::import_call;
 use crate::loads::Loads;
 use crate::queues::Queues;
@@ -169,7 +169,7 @@ impl Loads {
         let Ok(targets) = self.resolve(map, url, outcome) else {
             return Err(LoadEnd::Memory);
         };
-        arrive(self, realm, errors, map, url, outcome, &targets)
+        arrive(self, realm, errors, map, url, NOWHERE, outcome, &targets)
     }
 
     /// What the requests of an outcome at this URL, which may name a module, resolve to under this map.
@@ -180,13 +180,15 @@ impl Loads {
         resolve_requests(self.alloc, map, url, outcome)
     }
 
-    /// As `arrive`, where the requests are resolved already: these targets are what they resolve to under the map.
+    /// As `arrive`, where the requests are resolved already: these targets are what they resolve to under the map. Who has the
+    /// URL's place (`ask_places`) gives it as `near`, so that the URL needn't be looked up; any number may be given.
     pub fn arrive_resolved(
         &mut self,
         realm: &mut Realm,
         errors: &mut Errors,
         map: &ImportMap,
         url: &Text,
+        near: usize,
         outcome: &Outcome,
         targets: &Targets,
     ) -> Result<(), LoadEnd>
@@ -217,7 +219,7 @@ impl Loads {
         ensures fits { OnOk result (FitRecords self.new (records_of realm.new)) }
         ensures sound { IsSound (records_of realm.new) }
     {
-        arrive(self, realm, errors, map, url, outcome, targets)
+        arrive(self, realm, errors, map, url, near, outcome, targets)
     }
 
     /// Begins a call of `import()`, whose specifier stands in the module `referrer` and whose promise is there. It is
@@ -295,11 +297,18 @@ impl Loads {
         self.urls.asks()
     }
 
-    /// Whether a URL is asked and not fetched. It takes no memory.
-    pub fn is_open(&self, url: &Text) -> bool
+    /// The place of each of `asks` in the table of URLs, which `is_open` and `arrive_resolved` look at first. It takes no
+    /// memory.
+    pub fn ask_places(&self) -> &[usize] {
+        self.urls.open_places()
+    }
+
+    /// Whether a URL is asked and not fetched. It is looked for at the place `near` first, which may be any number. It takes
+    /// no memory.
+    pub fn is_open(&self, url: &Text, near: usize) -> bool
         ensures { (maps : Maps) (records : List RecordParts) → FitRecords self.now records
             → result ≡ has (open_asks (loading_of maps self.now records)) url.now }
     {
-        self.urls.is_open(url)
+        self.urls.is_open(url, near)
     }
 }

@@ -2,6 +2,9 @@
 use esm_base::{ModuleId, Text};
 use esm_values::{ErrorId, PromiseId};
 
+/// Given as the place near which a URL is looked for, by who doesn't know one.
+pub const NOWHERE: usize = usize::MAX;
+
 /// The state of a URL. HTML, the values of the module map.
 #[derive(Clone, Copy)]
 pub enum UrlState {

@@ -22,6 +22,6 @@ mod settling;
 mod stepping;
 mod steps;
 
-pub use data::{Cause, Purpose, Requester, Slot, Stage, UrlState, Waiting};
+pub use data::{Cause, NOWHERE, Purpose, Requester, Slot, Stage, UrlState, Waiting};
 pub use end::LoadEnd;
 pub use loads::Loads;

@@ -1,8 +1,7 @@
 -- What the functions of loading see of the asked URLs.
-use Rattle.std.specs.Prelude.{◌≡◌, ℕ, Bool, true, false, List, [], ◌∷◌, cond, slice_get, Some}
+use Rattle.std.specs.Prelude.{◌≡◌, ℕ, Bool, true, false, List, [], ◌∷◌, slice_get, Some}
 use Rattle.std.specs.List.{remove}
-use Rattle.std.specs.BTreeMap.{BTreeMap, get}
-use Rattle.esm_base.specs.Urls.{Url, url_cmp, same_url}
+use Rattle.esm_base.specs.Urls.{Url}
 use Rattle.esm_loads.specs.LoadsView.{is_open}
 use Rattle.esm_loads.specs.declared.data.Slot.{Slot}
 use Rattle.esm_loads.specs.declared.data.UrlState.TheVariants as states
@@ -35,10 +34,6 @@ pub record Closes (old new : OpenAsks) (place : ℕ) : Type 0 where
   pub found : slice_get old.places at ≡ Some place
   pub urls : new.urls ≡ remove old.urls at
   pub places : new.places ≡ remove old.places at
-
--- the URL is found at this place now, and all others as before
-abbrev pub PutsPlace : Url → ℕ → BTreeMap Url ℕ → BTreeMap Url ℕ → Type 0
-PutsPlace url place old new = (q : Url) → get url_cmp new q ≡ cond (same_url q url) (Some place) (get url_cmp old q)
 
 -- the URL at this place isn't fetched
 pub record IsOpenAt (slots : List Slot) (k : ℕ) : Type 0 where

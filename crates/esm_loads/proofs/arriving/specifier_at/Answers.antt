@@ -1,4 +1,4 @@
-use Rattle.std.proofs.Common.{[], sym}
+use Rattle.std.proofs.Common.{sym}
 use Rattle.esm_loads.proofs.ArrivedEntry.{specifier_at}
 use Rattle.esm_loads.proofs.arriving.specifier_at.Goals as goal
 

@@ -28,4 +28,4 @@ invariant_of-self c =
     let at : IsOpenAt t.slots.items c.args.place = subst (λ (v : UrlsView). IsOpenAt v.slots c.args.place) (sym c.self.view_is) c.requires.at in
     let found = index_get t.slots.items c.args.place c.index_mut.result.now (slice_get_within t.slots.items c.args.place at.slot at.at) c.index_mut.ensures.value in
     let same : c.index_mut.result.now ≡ at.slot = some_is (sym found ∙ at.at) in
-    indexed_set t.numbers t.slots.items t.asks c.close.new.self t.bytes c.args.place at.slot _ c.self.invariant at.at at.fetching (ap (λ (s : Slot). s.url) (sym same)) c.requires.fetched c.close.ensures
+    indexed_set t.urls t.slots.items t.asks c.close.new.self t.bytes c.args.place at.slot _ c.self.invariant at.at at.fetching (ap (λ (s : Slot). s.url) (sym same)) c.requires.fetched c.close.ensures
