@@ -18,6 +18,7 @@ pub struct RealmGraph<'a> {
 }
 
 impl<'a> RealmGraph<'a> {
+    /// The graph of a realm's records, with the tree of each by id.
     pub fn new(realm: &'a Realm, trees: &'a [Arc<Tree>]) -> RealmGraph<'a>
         requires { length (records_of realm.now) ≤ MAX_URLS }
         ensures realm { result.realm.now ≡ realm.now }

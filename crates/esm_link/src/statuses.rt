@@ -8,6 +8,7 @@ ghost use Rattle.esm_link.specs.Inner.Visit.{AreInside};
 
 use esm_realm::{ModuleStatus, Realm};
 
+/// The status of the record with an id.
 pub fn status(realm: &Realm, x: usize) -> ModuleStatus
     requires { x < length (records_of realm.now) }
     ensures { result ≡ status_of (records_of realm.now) x }
