@@ -1,5 +1,5 @@
 -- What the evaluation of a statement's expression comes to: its value is used or awaited, or it throws, calls or stops.
-use Rattle.std.proofs.Common.{◌≡◌, ℕ, nat_eq, Bool, true, false, List, length, Option, None, Vec, Global, refl, ap, subst, sym}
+use Rattle.std.proofs.Common.{◌≡◌, ℕ, nat_eq, Bool, true, false, List, length, Option, None, Vec, Box, Global, refl, ap, subst, sym, ◌∙◌}
 use Rattle.std.specs.Prelude.{Result, Ok, Err}
 use Rattle.std.specs.Arc.{arc_value}
 use Rattle.esm_resolve.specs.Graph.{Graph}
@@ -152,12 +152,12 @@ module _ {I S : Type 0} (seen : I → S) (modules : S → Modules ℕ) (linked :
 
     -- ---- a call
 
-    pub called_came : (y : Inside I) (k : Kind) (f : FuncId) (vs : Vec Value Global) (late : Doing) → late.purpose ≡ d.purpose → late.awaits ≡ d.awaits → IsCode w.code.now → IsUse (length (arc_value w.code.now.tree).stmts) d.purpose → IsSound late.frame → late.frame.focus ≡ None → Ready w k left
-        → Evaluates (ends.Call (func_value f) (values_of vs.items) (rest_of late.frame)) y → Came seen modules linked fits begins w left (o.Calls f vs late) y
+    called_came : (y : Inside I) (k : Kind) (f : FuncId) (vs : Vec Value Global) (late : Box Doing Global) → late.value.purpose ≡ d.purpose → late.value.awaits ≡ d.awaits → IsCode w.code.now → IsUse (length (arc_value w.code.now.tree).stmts) d.purpose → IsSound late.value.frame → late.value.frame.focus ≡ None → Ready w k left
+        → Evaluates (ends.Call (func_value f) (values_of vs.items) (rest_of late.value.frame)) y → Came seen modules linked fits begins w left (o.Calls f vs late) y
     called_came y k f vs late pu aw c u s n r h =
-        let q = has_called seen modules linked fits begins some one w urls shows k purpose begun r y (func_value f) (values_of vs.items) (rest_of late.frame) h in
-        let e : in_front_of w.code.now (parts.Does purpose (rest_of late.frame)) ≡ in_front_of y.code.now (doing_part (arc_value y.code.now.tree).stmts late) =
-        (λ j. in_front_of (sym q.same.now j) (parts.Does (awaited_by (arc_value (sym q.same.now j).tree).stmts (sym aw j) (use_of (arc_value (sym q.same.now j).tree).stmts (sym pu j))) (rest_of late.frame))) in
+        let q = has_called seen modules linked fits begins some one w urls shows k purpose begun r y (func_value f) (values_of vs.items) (rest_of late.value.frame) h in
+        let e : in_front_of w.code.now (parts.Does purpose (rest_of late.value.frame)) ≡ in_front_of y.code.now (doing_part (arc_value y.code.now.tree).stmts late.value) =
+        (λ j. in_front_of (sym q.same.now j) (parts.Does (awaited_by (arc_value (sym q.same.now j).tree).stmts (sym aw j) (use_of (arc_value (sym q.same.now j).tree).stmts (sym pu j))) (rest_of late.value.frame))) in
         record {
           moved = subst (λ z. Turns nat_eq modules begins w.code.now.at.0 (state_in seen w) left (On (comes.Calls (func_value f) (values_of vs.items) z)) (state_in seen y)) e q.leads;
           same = record {
@@ -172,6 +172,13 @@ module _ {I S : Type 0} (seen : I → S) (modules : S → Modules ℕ) (linked :
           };
           keeps = keeps_same seen modules linked fits begins w y r.made q.same q.made;
         }
+
+    -- the expression stands in a box
+    pub called_boxed : (y : Inside I) (k : Kind) (f : FuncId) (vs : Vec Value Global) (late : Doing) (b : Box Doing Global) → b.value ≡ late → late.purpose ≡ d.purpose → late.awaits ≡ d.awaits → IsCode w.code.now → IsUse (length (arc_value w.code.now.tree).stmts) d.purpose → IsSound late.frame → late.frame.focus ≡ None → Ready w k left
+        → Evaluates (ends.Call (func_value f) (values_of vs.items) (rest_of late.frame)) y → Came seen modules linked fits begins w left (o.Calls f vs b) y
+    called_boxed y k f vs late b is pu aw c u s n r h =
+        called_came y k f vs b (ap (λ (e : Doing). e.purpose) is ∙ pu) (ap (λ (e : Doing). e.awaits) is ∙ aw) c u (subst (λ (e : Doing). IsSound e.frame) (sym is) s) (ap (λ (e : Doing). e.frame.focus) is ∙ n) r
+        (subst (λ (e : Doing). Evaluates (ends.Call (func_value f) (values_of vs.items) (rest_of e.frame)) y) (sym is) h)
 
     -- ---- a stop
 

@@ -1,5 +1,5 @@
 -- What follows an outcome of a body: it goes on, with what stands for a call that is over, or the segment ends.
-use Rattle.std.proofs.Common.{◌≡◌, ℕ, nat_eq, Bool, true, List, [], ◌∷◌, length, Option, Some, None, Vec, Global, refl, ap, subst, sym, ◌∙◌}
+use Rattle.std.proofs.Common.{◌≡◌, ℕ, nat_eq, Bool, true, List, [], ◌∷◌, length, Option, Some, None, Vec, Box, Global, refl, ap, subst, sym, ◌∙◌}
 use Rattle.std.specs.Prelude.{nat_lt, Result, Ok, Err}
 use Rattle.std.specs.Arc.{arc_value}
 use Rattle.esm_base.specs.declared.limits.TheConstants.{MAX_CALL_DEPTH}
@@ -150,12 +150,12 @@ module _ {I S : Type 0} (seen : I → S) (modules : S → Modules ℕ) (linked :
   CallsBy w rows f vs r after tables =
       CalledBy (state_in seen) modules linked begins (CodeIsWhole seen modules linked fits begins) (KeepsBody seen modules linked fits begins) (owned_by modules) w rows f vs r after tables
 
-  module _ (w : Inside I) (f : FuncId) (vs : Vec Value Global) (d : Doing) (awaits : Bool) (code : IsCode w.code.now) (calling : IsCalling (length (arc_value w.code.now.tree).stmts) d) (fit : Fit w awaits (o.Calls f vs d)) where
+  module _ (w : Inside I) (f : FuncId) (vs : Vec Value Global) (d : Box Doing Global) (awaits : Bool) (code : IsCode w.code.now) (calling : IsCalling (length (arc_value w.code.now.tree).stmts) d.value) (fit : Fit w awaits (o.Calls f vs d)) where
     abbrev out : Outcome
     out = o.Calls f vs d
 
     abbrev part : Rest CodeValue
-    part = in_front_of w.code.now (doing_part (arc_value w.code.now.tree).stmts d)
+    part = in_front_of w.code.now (doing_part (arc_value w.code.now.tree).stmts d.value)
 
     abbrev body : Active ℕ
     body = active w.code.now.at.0 part
@@ -198,7 +198,7 @@ module _ {I S : Type 0} (seen : I → S) (modules : S → Modules ℕ) (linked :
       state = run.state;
       scopes = subst (HoldScopes (K w)) (scopes_are (arc_value w.code.now.tree).stmts w.code.now.levels.items)
           (held_inside (K w) (Unit {0}) (kind_by modules linked awaits []) (code_contexts w.code.now)
-          (more (doing_part (arc_value w.code.now.tree).stmts d) (innermost (arc_value w.code.now.tree).stmts w.code.now.levels.items)) run.before.1).1;
+          (more (doing_part (arc_value w.code.now.tree).stmts d.value) (innermost (arc_value w.code.now.tree).stmts w.code.now.levels.items)) run.before.1).1;
       home = run.before.0;
       made = fit.made;
     }
@@ -212,7 +212,7 @@ module _ {I S : Type 0} (seen : I → S) (modules : S → Modules ℕ) (linked :
     pub rows_followed : (rows tables : Rows) (x : Ending) (after : Inside I) → HasRows seen modules linked fits begins w rows → CallsBy w rows f (values_of vs.items) (Ok x) after tables → HasRows seen modules linked fits begins after tables
     rows_followed rows tables x after has h = (told rows tables (Ok x) after has h).1
 
-    module _ (after : Inside I) (spot : Place) (given : Term CodeValue) (v : CodeValue) (place_is : (a : Activation) → place_rest a spot ≡ doing_filled a d given) (is_place : (n : ℕ) → IsCalling n d → IsPlace n spot)
+    module _ (after : Inside I) (spot : Place) (given : Term CodeValue) (v : CodeValue) (place_is : (a : Activation) → place_rest a spot ≡ doing_filled a d.value given) (is_place : (n : ℕ) → IsCalling n d.value → IsPlace n spot)
         (holds : K after v → Holds (K after) ⊥ given)
         (done : CallIsDone (state_in seen) modules linked begins (CodeIsWhole seen modules linked fits begins) (KeepsBody seen modules linked fits begins) (owned_by modules) w callee body given v after) where
       now_is : after.code.now ≡ w.code.now
@@ -222,7 +222,7 @@ module _ {I S : Type 0} (seen : I → S) (modules : S → Modules ℕ) (linked :
       at_is = ap (λ (a : Activation). a.at) now_is
 
       rest_is : place_rest after.code.now spot ≡ fill_rest given part
-      rest_is = place_is after.code.now ∙ ap (λ (a : Activation). doing_filled a d given) now_is ∙ sym (fill_code given w.code.now (doing_part (arc_value w.code.now.tree).stmts d) code)
+      rest_is = place_is after.code.now ∙ ap (λ (a : Activation). doing_filled a d.value given) now_is ∙ sym (fill_code given w.code.now (doing_part (arc_value w.code.now.tree).stmts d.value) code)
 
       leads : (how : ended ℕ) (end : State ℕ S) → Segment nat_eq modules begins (At after) after.code.now.at.0 (place_rest after.code.now spot) [] how end → EndsBehind seen modules linked fits begins w out how end
       leads how end s =

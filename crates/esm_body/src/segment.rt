@@ -31,9 +31,9 @@ pub(crate) enum Place {
     /// With what remains.
     Turn,
     /// With the expression that called a function, which gave this value.
-    Gives(Doing, Value),
+    Gives(Box<Doing>, Value),
     /// With a throw of the function that this expression called.
-    Throws(Doing, Value),
+    Throws(Box<Doing>, Value),
 }
 
 /// What follows an outcome.
@@ -51,10 +51,10 @@ fn call<I: Importer>(
     functions: &mut Functions,
     function: FuncId,
     values: Vec<Value>,
-    doing: Doing,
+    doing: Box<Doing>,
 ) -> Result<Next, Stop>
     requires code { IsCode inside.old.code.now }
-    requires calling { IsCalling (length (arc_value inside.old.code.now.tree).stmts) doing }
+    requires calling { IsCalling (length (arc_value inside.old.code.now.tree).stmts) doing.value }
     requires rows { HasRows I.seen I.modules I.linked I.fits I.begins inside.old
         functions.old.rows }
     requires fits { MayFollow I.seen I.modules I.linked I.fits I.begins inside.old
@@ -116,7 +116,7 @@ fn turn_at<I: Importer>(inside: &mut Inside<'_, I>, place: Place) -> Result<Outc
 {
     match place {
         Place::Turn => turn(inside),
-        Place::Gives(doing, value) => advance(inside, doing, Some(value)),
+        Place::Gives(doing, value) => advance(inside, Box::into_inner(doing), Some(value)),
         Place::Throws(_doing, value) => throw(inside, value),
     }
 }
@@ -140,6 +140,7 @@ fn go_on<I: Importer>(
 {
     esm_resolve::laws::shared_set();
     match turn_at(inside, place) {
+        Ok(Outcome::On) => Ok(Next::Goes(Place::Turn)),
         Ok(outcome) => follow(inside, functions, outcome),
         Err(stop) => Err(stop),
     }

@@ -34,7 +34,7 @@ pub(crate) enum Outcome {
     /// This value is thrown, and there is no `try` round it.
     Thrown(Value),
     /// The expression calls this function with these values.
-    Calls(FuncId, Vec<Value>, Doing),
+    Calls(FuncId, Vec<Value>, Box<Doing>),
     /// This value is awaited, for this.
     Waits(Value, Use),
 }
@@ -199,7 +199,10 @@ pub(crate) fn advance<I: Importer>(
             }
         }
         Ok(Move::Thrown(value)) => throw(inside, value),
-        Ok(Move::Call(function, values)) => Ok(Outcome::Calls(function, values, doing)),
+        Ok(Move::Call(function, values)) => match Box::new(inside.alloc, doing) {
+            Ok(doing) => Ok(Outcome::Calls(function, values, doing)),
+            Err(_) => Err(Stop::Memory),
+        },
         Err(ExprEnd::Stopped(stop)) => Err(stop),
         Err(ExprEnd::Memory) => Err(Stop::Memory),
     }

@@ -1,4 +1,5 @@
 // Code under way as the world of its expressions.
+ghost use Rattle.std.specs.Prelude.{◌≡◌, [], ◌∷◌, IfSome};
 ghost use Rattle.esm_values.specs.Acts.{Act as act};
 ghost use Rattle.esm_values.specs.Code.{values_of};
 ghost use Rattle.esm_body.specs.Inner.World.{ActsInside};
@@ -9,12 +10,22 @@ use crate::imports::{begin_import, refuse_import};
 use crate::inside::Inside;
 use crate::members::member_of;
 use crate::names::{read_name, tell};
-use esm_base::Memory;
+use esm_base::{Memory, Text};
 use esm_expr_eval::{Out, World};
 use esm_rewriting::Stop;
 use esm_values::{FaultKind, RcText, Value, printed_line};
 
-/// Prints values as one line.
+/// The text that is alone in a list.
+fn alone(texts: &[Text]) -> Option<&Text>
+    ensures { IfSome result (λ text. texts.now ≡ text.now ∷ []) }
+{
+    match texts {
+        [text] => Some(text),
+        _ => None,
+    }
+}
+
+/// Prints values as one line. The text of a value alone is the line, and isn't copied.
 pub(crate) fn print_line<I: Importer>(
     inside: &mut Inside<'_, I>,
     values: &[Value],
@@ -29,9 +40,12 @@ pub(crate) fn print_line<I: Importer>(
         inside.imports,
         values,
     ) {
-        Ok(texts) => match printed_line(inside.alloc, texts.as_slice()) {
-            Ok(text) => inside.engine.log.line(text.as_str()),
-            Err(Memory) => Err(Stop::Memory),
+        Ok(texts) => match alone(texts.as_slice()) {
+            Some(text) => inside.engine.log.line(text.as_str()),
+            None => match printed_line(inside.alloc, texts.as_slice()) {
+                Ok(text) => inside.engine.log.line(text.as_str()),
+                Err(Memory) => Err(Stop::Memory),
+            },
         },
         Err(Memory) => Err(Stop::Memory),
     }

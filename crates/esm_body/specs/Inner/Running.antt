@@ -44,13 +44,13 @@ doing_filled a d given =
 
 abbrev pub place_rest : Activation → Place → Rest CodeValue
 place_rest now p.Turn = code_rest now
-place_rest now (p.Gives d v) = doing_filled now d (Val (value_of v))
-place_rest now (p.Throws d v) = doing_filled now d (Fails (value_of v))
+place_rest now (p.Gives d v) = doing_filled now d.value (Val (value_of v))
+place_rest now (p.Throws d v) = doing_filled now d.value (Fails (value_of v))
 
 abbrev pub IsPlace : ℕ → Place → Type 0
 IsPlace n p.Turn = ⊤
-IsPlace n (p.Gives d v) = IsCalling n d
-IsPlace n (p.Throws d v) = IsCalling n d
+IsPlace n (p.Gives d v) = IsCalling n d.value
+IsPlace n (p.Throws d v) = IsCalling n d.value
 
 abbrev pub ended_of : Ended → Activation → ended ℕ
 ended_of e.Normal now = ended.Normal

@@ -71,7 +71,7 @@ move_of o.Done now = On (comes.Goes end)
 move_of (o.Returns v) now = Gives (value_of v)
 move_of (o.Thrown v) now = On (comes.Leaves (value_of v))
 move_of (o.Calls f vs d) now =
-    On (comes.Calls (func_value f) (values_of vs.items) (in_front_of now (doing_part (arc_value now.tree).stmts d)))
+    On (comes.Calls (func_value f) (values_of vs.items) (in_front_of now (doing_part (arc_value now.tree).stmts d.value)))
 move_of (o.Waits v purpose) now = Waits (value_of v) (standing_rest now purpose)
 
 abbrev pub IsOutcome : ℕ → Outcome → Type 0
@@ -79,7 +79,7 @@ IsOutcome n o.On = ⊤
 IsOutcome n o.Done = ⊤
 IsOutcome n (o.Returns v) = ⊤
 IsOutcome n (o.Thrown v) = ⊤
-IsOutcome n (o.Calls f vs d) = IsCalling n d
+IsOutcome n (o.Calls f vs d) = IsCalling n d.value
 IsOutcome n (o.Waits v purpose) = IsUse n purpose
 
 -- it reads and writes through the same loans, and the same bodies stand at their awaits
