@@ -24,7 +24,7 @@ use crate::module_store::ModuleStore;
 use esm_ast::Outcome;
 use esm_base::{Memory, ModuleId, Text};
 use esm_import_map::ImportMap;
-use esm_loads::{LoadEnd, Loads};
+use esm_loads::{LoadEnd, Loads, NOWHERE};
 use esm_promise::Promises;
 use esm_realm::Realm;
 use esm_specifier::Targets;
@@ -108,14 +108,16 @@ impl ModuleStore {
         let Ok(targets) = self.resolve(url, outcome) else {
             return Err(self.run_out());
         };
-        self.arrive_resolved(errors, url, outcome, &targets)
+        self.arrive_resolved(errors, url, NOWHERE, outcome, &targets)
     }
 
-    /// As `arrive`, where the requests are resolved already: these targets are what they resolve to under the import map.
+    /// As `arrive`, where the requests are resolved already: these targets are what they resolve to under the import map. The
+    /// URL is looked for at the place `near` first, which may be any number.
     pub fn arrive_resolved(
         &mut self,
         errors: &mut Errors,
         url: &Text,
+        near: usize,
         outcome: &Outcome,
         targets: &Targets,
     ) -> Result<(), LoadEnd>
@@ -141,6 +143,7 @@ impl ModuleStore {
             errors,
             &self.import_map,
             url,
+            near,
             outcome,
             targets,
         ) {
@@ -208,12 +211,18 @@ impl ModuleStore {
         self.loads.asks()
     }
 
-    /// Whether a URL is asked and not fetched, as long as nothing was refused.
-    pub fn is_open(&self, url: &Text) -> bool
+    /// The place of each of `asks` in the table of URLs.
+    pub fn ask_places(&self) -> &[usize] {
+        self.loads.ask_places()
+    }
+
+    /// Whether a URL is asked and not fetched, as long as nothing was refused. It is looked for at the place `near` first,
+    /// which may be any number.
+    pub fn is_open(&self, url: &Text, near: usize) -> bool
         ensures { is_whole self.now.condition ≡ true
             → result ≡ has (open_asks (seen_of self.now).loading) url.now }
     {
-        self.loads.is_open(url)
+        self.loads.is_open(url, near)
     }
 
     /// What holds of the records and the loads is known behind it. It does nothing.

@@ -26,6 +26,7 @@ use esm_body::{Engine, Event, display_text};
 use esm_env::Envs;
 use esm_eval::{EvalHost, Nodes};
 use esm_import_map::ImportMap;
+use esm_loads::NOWHERE;
 use esm_promise::{Promises, Reaction, ReactionKind};
 use esm_specifier::Targets;
 use esm_values::{Errors, Value};
@@ -231,12 +232,18 @@ impl Machine {
         }
     }
 
-    /// Whether a URL is an open ask. It doesn't allocate.
-    pub fn is_open(&self, url: &Text) -> bool
+    /// The place of each open ask in the machine's table of URLs, in order of asking. Who gives it to `is_open` and
+    /// `deliver_resolved` spares them a look-up; nothing else depends on it. It doesn't allocate.
+    pub fn ask_places(&self) -> &[usize] {
+        self.parts.host.bodies.imports.ask_places()
+    }
+
+    /// Whether a URL is an open ask. It is looked for at the place `near` first, which may be any number. It doesn't allocate.
+    pub fn is_open(&self, url: &Text, near: usize) -> bool
         ensures { result ≡ has (asks_of (state_of self.now)) url.now }
     {
         match self.stopped {
-            None => self.parts.host.bodies.imports.is_open(url),
+            None => self.parts.host.bodies.imports.is_open(url, near),
             Some(_) => false,
         }
     }
@@ -262,10 +269,12 @@ impl Machine {
         }
     }
 
-    /// As `deliver`, where the requests are resolved already: these targets are what they resolve to under the import map.
+    /// As `deliver`, where the requests are resolved already: these targets are what they resolve to under the import map. The
+    /// URL is looked for at the place `near` first, which may be any number.
     pub fn deliver_resolved(
         &mut self,
         url: &Text,
+        near: usize,
         outcome: &Outcome,
         targets: &Targets,
     ) -> Result<(), TurnEnd>
@@ -281,7 +290,7 @@ impl Machine {
     {
         match self.stopped {
             Some(end) => Err(end),
-            None => match run_turn(&mut self.parts, url, outcome, targets) {
+            None => match run_turn(&mut self.parts, url, near, outcome, targets) {
                 Ok(()) => Ok(()),
                 Err(end) => {
                     self.stopped = Some(end);
@@ -322,7 +331,7 @@ impl Machine {
         let Ok(targets) = self.resolve(url, outcome) else {
             return Err(self.run_out());
         };
-        self.deliver_resolved(url, outcome, &targets)
+        self.deliver_resolved(url, NOWHERE, outcome, &targets)
     }
 
     /// How the machine has stopped, if it has. It doesn't allocate.

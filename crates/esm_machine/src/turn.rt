@@ -50,6 +50,7 @@ fn add_node(parts: &mut Parts, had: usize) -> Result<(), Memory>
 fn arrive(
     parts: &mut Parts,
     url: &Text,
+    near: usize,
     outcome: &Outcome,
     targets: &Targets,
 ) -> Result<(), TurnEnd>
@@ -72,7 +73,7 @@ fn arrive(
     let bodies = &mut parts.host.bodies;
     match bodies
         .imports
-        .arrive_resolved(&mut bodies.errors, url, outcome, targets)
+        .arrive_resolved(&mut bodies.errors, url, near, outcome, targets)
     {
         Ok(()) => match add_node(parts, had) {
             Ok(()) => Ok(()),
@@ -141,6 +142,7 @@ fn run_tasks(parts: &mut Parts) -> Result<(), TurnEnd>
 pub(crate) fn run_turn(
     parts: &mut Parts,
     url: &Text,
+    near: usize,
     outcome: &Outcome,
     targets: &Targets,
 ) -> Result<(), TurnEnd>
@@ -156,7 +158,7 @@ pub(crate) fn run_turn(
     ensures tree { HasModuleTree (outcome_view outcome.now) }
 {
     has_module_tree(outcome);
-    match arrive(parts, url, outcome, targets) {
+    match arrive(parts, url, near, outcome, targets) {
         Ok(()) => run_tasks(parts),
         Err(end) => Err(end),
     }
