@@ -1,2 +1,3 @@
 pub mod ServingLemmas
 pub mod PoolLemmas
+pub mod InHand

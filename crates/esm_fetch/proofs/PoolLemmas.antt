@@ -41,20 +41,22 @@ module _ {G : Type 0} where
   abbrev pub StaysFor : List ℕ → List (MapEvent Posted G) → List (MapEvent Posted G) → Type 0
   StaysFor ns seen h = (c : ℕ) → 0 < times c ns → Stays weight c seen h
 
-  served_still : (holds : Option Contents) (asked : List Asked) (h seen : List (MapEvent Posted G)) (ns : List ℕ) (c : ℕ) → StaysFor ns seen h → 0 < times c ns → Served holds asked c seen → Served holds asked c h
-  served_still holds asked h seen ns c q listed (inl s) = inl (serves_same holds asked c seen h (q c listed).1 s)
-  served_still holds asked h seen ns c q listed (inr s) = let w = (q c listed).1 in inr (record {
+  served_still : (most : ℕ) (holds : Option Contents) (asked : List Asked) (h seen : List (MapEvent Posted G)) (ns : List ℕ) (c : ℕ) → StaysFor ns seen h → 0 < times c ns → Served most holds asked c seen → Served most holds asked c h
+  served_still most holds asked h seen ns c q listed (inl s) = inl (serves_same holds asked c seen h (q c listed).1 s)
+  served_still most holds asked h seen ns c q listed (inr s) = let w = (q c listed).1 in inr (record {
     answered = subst (All (IsTrueAnswer holds)) (sym w.1) s.answered;
     url = s.url;
     asked_is = subst (λ l. (asked ≡ map ask_for l) ⊎ ((kind : AskKind) × (asked ≡ asks_with (map ask_for l) s.url kind))) (sym w.1) s.asked_is;
-    takes_is = w.0 ∙ s.takes_is ∙ ap (λ l. map url_in l ++ s.url ∷ []) (sym w.1);
+    rest = s.rest;
+    few = s.few;
+    takes_is = w.0 ∙ s.takes_is ∙ ap (λ l. map url_in l ++ s.url ∷ s.rest) (sym w.1);
   })
 
   still_if : (short : Bool) (holds : Option Contents) (asked : List Asked) (h seen : List (MapEvent Posted G)) (ns : List ℕ) (c : ℕ) → StaysFor ns seen h → 0 < times c ns → ServedIf short holds asked c seen → ServedIf short holds asked c h
   still_if false holds asked h seen ns c q listed s = serves_same holds asked c seen h (q c listed).1 s
-  still_if true holds asked h seen ns c q listed s = served_still holds asked h seen ns c q listed s
+  still_if true holds asked h seen ns c q listed s = served_still 4 holds asked h seen ns c q listed s
 
-  served_any : (short : Bool) (holds : Option Contents) (asked : List Asked) (c : ℕ) (h : List (MapEvent Posted G)) → ServedIf short holds asked c h → Served holds asked c h
+  served_any : (short : Bool) (holds : Option Contents) (asked : List Asked) (c : ℕ) (h : List (MapEvent Posted G)) → ServedIf short holds asked c h → Served 4 holds asked c h
   served_any false holds asked c h s = inl s
   served_any true holds asked c h s = s
 
@@ -87,19 +89,21 @@ urls_asked [] = refl
 urls_asked (a ∷ answers) = ap (λ l. a.url ∷ l) (urls_asked answers)
 
 module _ {G : Type 0} where
-  -- a source was asked for what its caller took, and nothing else
-  asked_few : (holds : Option Contents) (asked : List Asked) (c : ℕ) (h : List (MapEvent Posted G)) (u : Url) → Served holds asked c h → count u (map url_of asked) ≤ count u (takes_by weight c h)
+  -- a source was asked for the first URLs that its caller took, and nothing else
+  asked_few : (holds : Option Contents) (asked : List Asked) (c : ℕ) (h : List (MapEvent Posted G)) (u : Url) → Served 4 holds asked c h → count u (map url_of asked) ≤ count u (takes_by weight c h)
   asked_few holds asked c h u (inl s) = let e : count u (map url_of asked) ≡ count u (takes_by weight c h) = ap (count u) (ap (map url_of) s.asked_is ∙ urls_asked (answers_by weight c h) ∙ sym s.takes_is) in omega (arith, e)
   asked_few holds asked c h u (inr s) = by_end s.asked_is
     where
       by_end : (asked ≡ map ask_for (answers_by weight c h)) ⊎ ((kind : AskKind) × (asked ≡ asks_with (map ask_for (answers_by weight c h)) s.url kind)) → count u (map url_of asked) ≤ count u (takes_by weight c h)
       by_end (inl e) =
           let a : count u (map url_of asked) ≡ count u (map url_in (answers_by weight c h)) = ap (count u) (ap (map url_of) e ∙ urls_asked (answers_by weight c h)) in
-          let b : count u (takes_by weight c h) ≡ count u (map url_in (answers_by weight c h) ++ s.url ∷ []) = ap (count u) s.takes_is in
-          let d = count_append u (map url_in (answers_by weight c h)) (s.url ∷ []) in omega (arith, a, b, d)
+          let b : count u (takes_by weight c h) ≡ count u (map url_in (answers_by weight c h) ++ s.url ∷ s.rest) = ap (count u) s.takes_is in
+          let d = count_append u (map url_in (answers_by weight c h)) (s.url ∷ s.rest) in omega (arith, a, b, d)
       by_end (inr (kind, e)) =
           let a : count u (map url_of asked) ≡ count u (map url_in (answers_by weight c h) ++ s.url ∷ []) = ap (count u) (ap (map url_of) e ∙ map-append url_of (map ask_for (answers_by weight c h)) (record { url = s.url; kind = kind } ∷ []) ∙ ap (λ l. l ++ s.url ∷ []) (urls_asked (answers_by weight c h))) in
-          let b : count u (takes_by weight c h) ≡ count u (map url_in (answers_by weight c h) ++ s.url ∷ []) = ap (count u) s.takes_is in omega (arith, a, b)
+          let b : count u (takes_by weight c h) ≡ count u (map url_in (answers_by weight c h) ++ s.url ∷ s.rest) = ap (count u) s.takes_is in
+          let d = count_append u (map url_in (answers_by weight c h)) (s.url ∷ []) in
+          let f = count_append u (map url_in (answers_by weight c h)) (s.url ∷ s.rest) in omega (arith, a, b, d, f)
 
   module _ {S : Type 0} (holds_of : S → Option Contents) (asked_of : S → List Asked) where
     all_few : (v : View (MapEvent Posted G)) (u : Url) (ds : List (Done S)) → All (IsDone holds_of asked_of v) ds → count u (map url_of (flat_map asked_of (map source_in ds))) ≤ total (λ c. count u (takes_by weight c v.seen)) (map caller_in ds)

@@ -1,5 +1,5 @@
 -- What a turn of a worker leads to.
-use Rattle.std.proofs.Common.{◌≡◌, ◌⊎◌, inl, inr, ℕ, true, List, [], ◌∷◌, ◌++◌, map, refl, sym, ap, ◌∙◌, subst, append_assoc, append-nil, Option, Some, None, Result, Ok, Err}
+use Rattle.std.proofs.Common.{◌≡◌, ◌⊎◌, inl, inr, ℕ, true, List, [], ◌∷◌, ◌++◌, map, sym, ap, ◌∙◌, subst, append_assoc, append-nil, arith, Option, Some, None, Result, Ok, Err}
 use Rattle.std.specs.Prelude.{All, IfOk, IfSome, OnOk}
 use Rattle.std.proofs.lemmas.List.Elements.{All-nil, All-cons, All-append}
 use Rattle.std.proofs.lemmas.List.{map-append}
@@ -17,19 +17,17 @@ use Rattle.esm_import_map.specs.ImportMap.{Maps}
 use Rattle.esm_specifier.specs.Targets.{AreTargets}
 use Rattle.esm_specifier.specs.Laws.{TargetsAreTested}
 use Rattle.esm_specifier.specs.declared.targets.Targets.{Targets}
-use Rattle.esm_module_map.specs.declared.reply.Taken.TheVariants as taken
 use Rattle.esm_module_map.specs.Leading.{guide_in}
 use Rattle.esm_module_map.specs.Fitting.{FitsIn}
-use Rattle.esm_module_map.specs.Saying.{Begins, SaysSame, IsOrderIn, IsShut, TookOne, TakeSays, PostTakeSays}
+use Rattle.esm_module_map.specs.Saying.{Begins, SaysSame, IsOrderIn, TookOne, TakeSays}
 use Rattle.esm_fetch.specs.declared.posted.Posted.{Posted}
 use Rattle.esm_tree.specs.Syntax.{Item}
 use Rattle.esm_ast.specs.Entries.{EntryLists, entries_of, entries_with, requests_of}
-use Rattle.esm_ast.specs.Outcome.{outcome_view}
 use Rattle.esm_fetch.specs.Answered.{Contents, kind_of, is_ahead}
 use Rattle.esm_fetch.specs.declared.working.Turned.{Turned}
 use Rattle.esm_fetch.specs.declared.working.Turned.TheVariants as turned
 use Rattle.esm_fetch.specs.Serving.{weight, fits, outcome_in, url_in, ask_for, IsTrueAnswer, IsServed, IsCut, Serves, Served, ServedBy, ShutBy, TurnSays}
-use Rattle.esm_fetch.specs.Inner.Asking.{IsAsking, FilledWith, FilledBy, HasTaken, closed}
+use Rattle.esm_fetch.specs.Inner.Asking.{IsAsking, FilledWith, FilledBy}
 
 module _ {G : Type 0} where
   pub begins_here : (a : List (MapEvent Posted G)) → Begins a a
@@ -47,11 +45,13 @@ served_on holds asked after takes takes' answers answers' a (t, k, all) same mor
 }
 
 pub cut_short : (holds : Option Contents) (asked after : List Asked) (takes takes' : List Url) (answers answers' : List (Answer Posted)) (url : Url)
-    → IsAsking holds asked takes answers url → takes' ≡ takes → answers' ≡ answers → (after ≡ asked) ⊎ ((kind : AskKind) × (after ≡ asks_with asked url kind)) → IsCut holds after takes' answers'
+    → IsAsking holds asked takes answers url → takes' ≡ takes → answers' ≡ answers → (after ≡ asked) ⊎ ((kind : AskKind) × (after ≡ asks_with asked url kind)) → IsCut 1 holds after takes' answers'
 cut_short holds asked after takes takes' answers answers' url (t, k, all) same same_answers grew = record {
   answered = subst (All (IsTrueAnswer holds)) (sym same_answers) all;
   url = url;
   asked_is = by_end grew;
+  rest = [];
+  few = omega arith;
   takes_is = same ∙ t ∙ ap (λ l. map url_in l ++ url ∷ []) (sym same_answers);
 }
   where
@@ -101,17 +101,6 @@ module _ {G : Type 0} where
   pub says_as : (c : ℕ) (seen now : List (MapEvent Posted G)) (r s : Result Taken Memory) → r ≡ s → TakeSays weight c seen r now → TakeSays weight c seen s now
   says_as c seen now r s same says = subst (λ (x : Result Taken Memory). TakeSays weight c seen x now) same says
 
-  pub served_next : (holds held : Option Contents) (asked : List Asked) (c d : ℕ) (now : List (MapEvent Posted G)) → held ≡ holds → d ≡ c → Serves holds asked c now → Serves held asked d now
-  served_next holds held asked c d now same number s = subst (λ h. Serves h asked d now) (sym same) (subst (λ m. Serves holds asked m now) (sym number) s)
-
-  pub served_end : {T : Type 0} (r : Result T Memory) (holds held : Option Contents) (asked : List Asked) (c d : ℕ) (now : List (MapEvent Posted G)) → held ≡ holds → d ≡ c → ServedBy r held asked d now → Served holds asked c now
-  served_end (Ok t) holds held asked c d now same number s = inl (subst (λ h. Serves h asked c now) same (subst (λ m. Serves held asked m now) number s))
-  served_end (Err m) holds held asked c d now same number s = subst (λ h. Served h asked c now) same (subst (λ m. Served held asked m now) number s)
-
-  -- the same, of a turn that went well
-  pub served_back : (holds held : Option Contents) (asked : List Asked) (c d : ℕ) (now : List (MapEvent Posted G)) → held ≡ holds → d ≡ c → Serves held asked d now → Serves holds asked c now
-  served_back holds held asked c d now same number s = subst (λ h. Serves h asked c now) same (subst (λ m. Serves held asked m now) number s)
-
   -- what the take was answered, where its result is written in another way
   pub called_as : (c : ℕ) (seen now : List (MapEvent Posted G)) (r s : Result Taken Memory) → r ≡ s → Called weight seen (Some c) (λ found. TakeReply weight found c r now) → Called weight seen (Some c) (λ found. TakeReply weight found c s now)
   called_as c seen now r s same call = subst (λ (x : Result Taken Memory). Called weight seen (Some c) (λ found. TakeReply weight found c x now)) same call
@@ -141,58 +130,9 @@ pub fits_by_guide : (seen : List (MapEvent Posted Maps)) (maps : Maps) (p : Post
 fits_by_guide seen maps p u at ok = λ guide is. let same : Some maps ≡ Some guide = sym at ∙ is in let one : maps ≡ guide = cc in subst (λ m. fits m p u ≡ true) one ok
 
 module _ {G : Type 0} where
-  -- ---- a worker goes on
-
-  -- what a take leaves, whatever its answer
-  abbrev pub Keeps : ℕ → List (MapEvent Posted G) → List (MapEvent Posted G) → Type 0
-  Keeps c seen now = Begins seen now × (asks_by weight c now ≡ asks_by weight c seen) × (shuts_by weight c now ≡ shuts_by weight c seen)
-
-  pub take_keeps : (c : ℕ) (seen now : List (MapEvent Posted G)) (r : Result Taken Memory) → TakeSays weight c seen r now → Keeps c seen now
-  take_keeps c seen now (Ok (taken.Order order)) says = (says.begins, says.asks, says.shuts)
-  take_keeps c seen now (Ok taken.NotYet) says = (says.0, says.1.2, says.1.3)
-  take_keeps c seen now (Ok taken.Closed) says = (says.0.0, says.0.1.2, says.0.1.3)
-  take_keeps c seen now (Err want) says = (says.0, says.1.2, says.1.3)
-
-  pub post_keeps : (c n : ℕ) (url : Url) (p : Posted) (seen now : List (MapEvent Posted G)) (r : Result Taken Memory) → PostTakeSays weight c n url p seen r now → Keeps c seen now
-  post_keeps c n url p seen now r (mid, posted, took) = let k = take_keeps c mid now r took in
-      (begins_on seen mid now posted.begins k.0, k.1 ∙ posted.asks, k.2 ∙ posted.shuts)
-
-  -- what was taken, where all that was taken before is posted
-  pub taken_from : (holds : Option Contents) (asked : List Asked) (c : ℕ) (seen now : List (MapEvent Posted G)) (what : Taken) → TakeSays weight c seen (Ok what) now → Serves holds asked c seen → HasTaken holds asked c now what
-  taken_from holds asked c seen now (taken.Order order) says s = (says.order, asking_from holds asked c c order.number order.url seen now refl says s)
-  taken_from holds asked c seen now taken.NotYet says s = serves_same holds asked c seen now says.1 s
-  taken_from holds asked c seen now taken.Closed says s = (serves_same holds asked c seen now says.0.1 s, says.1)
-
-  -- the same behind a post
-  posted_on : (holds : Option Contents) (asked : List Asked) (c n : ℕ) (url : Url) (p : Posted) (seen now : List (MapEvent Posted G)) (r : Result Taken Memory) (says : PostTakeSays weight c n url p seen r now)
-      → IsAsking holds asked (takes_by weight c seen) (answers_by weight c seen) url → IsTrueAnswer holds (record { number = n; url = url; payload = p }) → Serves holds (asks_with asked url (kind_of (outcome_view p.outcome))) c says.0
-  posted_on holds asked c n url p seen now r (mid, posted, took) asking is_true =
-      served_on holds asked (asks_with asked url (kind_of (outcome_view p.outcome))) _ _ _ _ (record { number = n; url = url; payload = p }) asking posted.takes posted.answers refl is_true
-
-  pub taken_on : (holds : Option Contents) (asked : List Asked) (c n : ℕ) (url : Url) (p : Posted) (seen now : List (MapEvent Posted G)) (r : Result Taken Memory) (what : Taken) → r ≡ Ok what → PostTakeSays weight c n url p seen r now
-      → IsAsking holds asked (takes_by weight c seen) (answers_by weight c seen) url → IsTrueAnswer holds (record { number = n; url = url; payload = p }) → HasTaken holds (asks_with asked url (kind_of (outcome_view p.outcome))) c now what
-  taken_on holds asked c n url p seen now r what is says asking is_true = let s = posted_on holds asked c n url p seen now r says asking is_true in
-      taken_from holds (asks_with asked url (kind_of (outcome_view p.outcome))) c says.0 now what (subst (λ (x : Result Taken Memory). TakeSays weight c says.0 x now) is says.2) s
-
-  pub served_short : (holds : Option Contents) (asked : List Asked) (c n : ℕ) (url : Url) (p : Posted) (seen now : List (MapEvent Posted G)) (r : Result Taken Memory) (want : Memory) → r ≡ Err want → PostTakeSays weight c n url p seen r now
-      → IsAsking holds asked (takes_by weight c seen) (answers_by weight c seen) url → IsTrueAnswer holds (record { number = n; url = url; payload = p }) → Serves holds (asks_with asked url (kind_of (outcome_view p.outcome))) c now
-  served_short holds asked c n url p seen now r want is says asking is_true = let s = posted_on holds asked c n url p seen now r says asking is_true in
-      let t = subst (λ (x : Result Taken Memory). TakeSays weight c says.0 x now) is says.2 in serves_same holds (asks_with asked url (kind_of (outcome_view p.outcome))) c says.0 now t.1 s
-
-  -- nothing more comes of it once the map is shut
-  pub served_till : (holds : Option Contents) (asked : List Asked) (c d : ℕ) (mid now : List (MapEvent Posted G)) → d ≡ c → takes_by weight d now ≡ takes_by weight d mid → answers_by weight d now ≡ answers_by weight d mid → Serves holds asked c mid → Serves holds asked c now
-  served_till holds asked c d mid now same t a s = gave_up holds asked c d mid mid now same (refl, refl, refl, refl) t a s
-
-  pub has_taken_as : (holds held : Option Contents) (asked : List Asked) (c d : ℕ) (now : List (MapEvent Posted G)) (what : Taken) → held ≡ holds → d ≡ c → HasTaken holds asked c now what → HasTaken held asked d now what
-  has_taken_as holds held asked c d now what same number t = subst (λ h. HasTaken h asked d now what) (sym same) (subst (λ m. HasTaken holds asked m now what) (sym number) t)
-
-  pub served_closed : (holds held : Option Contents) (asked : List Asked) (c d : ℕ) (now : List (MapEvent Posted G)) (what : Taken) → held ≡ holds → d ≡ c → closed what ≡ true → HasTaken held asked d now what → Serves holds asked c now × IsShut weight now
-  served_closed holds held asked c d now (taken.Order order) same number is t = cc
-  served_closed holds held asked c d now taken.NotYet same number is t = cc
-  served_closed holds held asked c d now taken.Closed same number is t = (subst (λ h. Serves h asked c now) same (subst (λ m. Serves held asked m now) number t.0), t.1)
-
-  pub short_end : (holds held : Option Contents) (asked : List Asked) (c d : ℕ) (now : List (MapEvent Posted G)) → held ≡ holds → d ≡ c → Served held asked d now → Served holds asked c now
-  short_end holds held asked c d now same number s = subst (λ h. Served h asked c now) same (subst (λ m. Served held asked m now) number s)
+  -- a worker ends for want of memory
+  pub short_end : (holds held : Option Contents) (asked : List Asked) (c d : ℕ) (now : List (MapEvent Posted G)) → held ≡ holds → d ≡ c → Served 4 held asked d now → Served 4 holds asked c now
+  short_end holds held asked c d now same number s = subst (λ h. Served 4 h asked c now) same (subst (λ m. Served 4 held asked m now) number s)
 
 -- what was resolved ahead of the same requests, written in another way
 pub ahead_as : (maps : Maps) (url : Url) (requests others : List Url) (r : Result (Option Targets) Memory) → requests ≡ others

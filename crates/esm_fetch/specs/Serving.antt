@@ -1,5 +1,5 @@
 -- What a source was asked, by what its caller has in the history.
-use Rattle.std.specs.Prelude.{◌≡◌, ◌⊎◌, ℕ, Bool, true, false, List, [], ◌∷◌, ◌++◌, map, All, Option, Some, IfSome, Result, Ok, Err, ⊤}
+use Rattle.std.specs.Prelude.{◌≡◌, ◌⊎◌, ℕ, ◌<◌, Bool, true, false, List, [], ◌∷◌, ◌++◌, length, map, All, Option, Some, IfSome, Result, Ok, Err, ⊤}
 use Rattle.esm_base.specs.declared.memory.Memory.{Memory}
 use Rattle.esm_base.specs.Urls.{Url}
 use Rattle.esm_ports.specs.declared.asked.Asked.{Asked}
@@ -12,6 +12,7 @@ use Rattle.esm_module_map.specs.Replies.{Called, TakeReply}
 use Rattle.esm_module_map.specs.Saying.{Stays, IsShut}
 use Rattle.esm_module_map.specs.Histories.{Answer, takes_by, answers_by}
 use Rattle.esm_fetch.specs.declared.posted.Posted.{Posted}
+use Rattle.esm_fetch.specs.declared.working.TheConstants.{BATCH}
 use Rattle.esm_fetch.specs.declared.working.Turned.{Turned}
 use Rattle.esm_fetch.specs.declared.working.Turned.TheVariants as turned
 use Rattle.esm_import_map.specs.ImportMap.{Maps}
@@ -45,31 +46,35 @@ pub record IsServed (holds : Option Contents) (asked : List Asked) (takes : List
   pub asked_is : asked ≡ map ask_for answers
   pub takes_is : takes ≡ map url_in answers
 
--- own: the same, but for one URL more that its caller took and didn't post, which the source was asked for at most once
-pub record IsCut (holds : Option Contents) (asked : List Asked) (takes : List Url) (answers : List (Answer Posted)) : Type 0 where
+-- own: the same, but for at most so many URLs that its caller took and didn't post; the source was asked for the first of them
+-- at most once, and for the others not at all
+pub record IsCut (most : ℕ) (holds : Option Contents) (asked : List Asked) (takes : List Url)
+    (answers : List (Answer Posted)) : Type 0 where
   pub answered : All (IsTrueAnswer holds) answers
   pub url : Url
   pub asked_is : (asked ≡ map ask_for answers) ⊎ ((kind : AskKind) × (asked ≡ asks_with (map ask_for answers) url kind))
-  pub takes_is : takes ≡ map url_in answers ++ url ∷ []
+  pub rest : List Url
+  pub few : length rest < most
+  pub takes_is : takes ≡ map url_in answers ++ url ∷ rest
 
 module _ {G : Type 0} where
   -- the source of the caller c, by the history that it has seen
   abbrev pub Serves : Option Contents → List Asked → ℕ → List (MapEvent Posted G) → Type 0
   Serves holds asked c h = IsServed holds asked (takes_by weight c h) (answers_by weight c h)
 
-  -- the same where memory may have run out
-  abbrev pub Served : Option Contents → List Asked → ℕ → List (MapEvent Posted G) → Type 0
-  Served holds asked c h = Serves holds asked c h ⊎ IsCut holds asked (takes_by weight c h) (answers_by weight c h)
+  -- the same where memory may have run out: but for at most so many URLs
+  abbrev pub Served : ℕ → Option Contents → List Asked → ℕ → List (MapEvent Posted G) → Type 0
+  Served most holds asked c h = Serves holds asked c h ⊎ IsCut most holds asked (takes_by weight c h) (answers_by weight c h)
 
-  -- by whether memory ran out
+  -- of a worker, which takes at most BATCH URLs at a time, by whether memory ran out
   abbrev pub ServedIf : Bool → Option Contents → List Asked → ℕ → List (MapEvent Posted G) → Type 0
   ServedIf false holds asked c h = Serves holds asked c h
-  ServedIf true holds asked c h = Served holds asked c h
+  ServedIf true holds asked c h = Served BATCH holds asked c h
 
-  -- after a turn: all is posted, unless memory ran out
+  -- after a turn that takes one URL: all is posted, unless memory ran out
   abbrev pub ServedBy : {T : Type 0} → Result T Memory → Option Contents → List Asked → ℕ → List (MapEvent Posted G) → Type 0
   ServedBy (Ok turned) holds asked c h = Serves holds asked c h
-  ServedBy (Err want) holds asked c h = Served holds asked c h
+  ServedBy (Err want) holds asked c h = Served 1 holds asked c h
 
   -- where a turn ends with a shut map, or memory ran out, the map is shut
   abbrev pub ShutBy : Result Turned Memory → List (MapEvent Posted G) → Type 0

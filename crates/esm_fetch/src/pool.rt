@@ -95,8 +95,8 @@ fn gather<S: Source>(
 }
 
 /// Runs a worker for each job, each in a thread of its own, and meets their callers once they have ended. The sources
-/// come back in the order of the jobs, in `done`, which is empty and has room for them. The guide is that of the map. The calling thread waits; where a
-/// thread can't be made its worker runs last, on this one.
+/// come back in the order of the jobs, in `done`, which is empty and has room for them. The guide is that of the map. The
+/// calling thread waits; where a thread can't be made its worker runs last, on this one.
 pub fn work_all<R: Threads + Wait + Sync, S: Source + Send>(
     rt: &R,
     alloc: Global,

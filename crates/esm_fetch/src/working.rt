@@ -1,26 +1,30 @@
 // A worker: it takes, fetches from its own source, reads, and posts, until the map is shut.
-ghost use Rattle.std.specs.Prelude.{◌≡◌, ◌⊎◌, ℕ, List, Option, Some, true, false, IfOk, OnOk, OnErr};
+ghost use Rattle.std.specs.Prelude.{◌≡◌, ◌⊎◌, ◌+◌, ◌≤◌, ◌++◌, ℕ, List, [], Some, true, false, map, All, IfOk, OnOk, OnErr, string_bytes, vec_len};
+ghost use Rattle.std.specs.Vec.{vec_capacity};
 ghost use Rattle.std.specs.Arc.{arc_value};
 ghost use Rattle.esm_ports.specs.declared.asked.AskKind.{AskKind};
 ghost use Rattle.esm_ports.specs.Asks.{asks_with};
 ghost use Rattle.esm_ast.specs.Outcome.{outcome_view};
 ghost use Rattle.esm_base.specs.Urls.{IsUsable};
-ghost use Rattle.esm_ports.specs.declared.asked.Asked.{Asked};
+ghost use Rattle.esm_import_map.specs.ImportMap.{Maps};
+ghost use Rattle.esm_module_map.specs.declared.event.MapEvent.{MapEvent};
+ghost use Rattle.esm_module_map.specs.Replay.{replay};
 ghost use Rattle.esm_module_map.specs.Leading.{guide_in};
-ghost use Rattle.esm_module_map.specs.Fitting.{FitsIn};
+ghost use Rattle.esm_module_map.specs.Batches.{AreFilled, answer_of};
 ghost use Rattle.esm_module_map.specs.Views.{view_in, table_of, Same};
 ghost use Rattle.esm_module_map.specs.Histories.{asks_by, takes_by, answers_by, shuts_by};
 ghost use Rattle.esm_module_map.specs.Saying.{Begins, ShutSays, IsOrderIn, IsShut};
-ghost use Rattle.esm_fetch.specs.Answered.{Contents, kind_of};
-ghost use Rattle.esm_fetch.specs.Serving.{weight, fits, IsTrueAnswer, Serves, ServedBy, ServedIf, ShutBy, TurnSays};
-ghost use Rattle.esm_fetch.specs.Inner.Asking.{IsAsking, FilledBy, HasTaken, TakenBy, closed};
+ghost use Rattle.esm_fetch.specs.declared.working.TheConstants.{BATCH};
+ghost use Rattle.esm_fetch.specs.Answered.{kind_of};
+ghost use Rattle.esm_fetch.specs.Serving.{weight, fits, IsTrueAnswer, Serves, Served, ServedBy, ServedIf, ShutBy, TurnSays};
+ghost use Rattle.esm_fetch.specs.Inner.Asking.{IsAsking, FilledBy, AreInHand, FetchedBy};
 
 use crate::bell::Bell;
 use crate::fetch::{fetch_outcome, resolve_ahead};
 use crate::posted::Posted;
-use esm_base::Memory;
+use esm_base::{MAX_URL_BYTES, Memory};
 use esm_import_map::ImportMap;
-use esm_module_map::{Caller, ModuleMap, Order, Taken, laws as map_laws};
+use esm_module_map::{Caller, Filled, ModuleMap, Order, Taken, laws as map_laws};
 use esm_ports::Source;
 use std::alloc::Global;
 use std::sync::{Arc, Wait};
@@ -66,7 +70,7 @@ fn give_up<R: Wait>(
     ensures shut { IsShut weight (view_in caller.new.pass).seen }
 {
     modules.shut(rt, caller);
-    bell.ring_for_all(rt);
+    bell.ring_for_all();
     Memory
 }
 
@@ -141,7 +145,7 @@ fn fill<R: Wait, S: Source>(
         Ok(payload) => {
             let number = order.number();
             modules.post(rt, caller, order, payload);
-            bell.ring_for_post(rt);
+            bell.ring_for_posts(1);
             Ok(Turned::Posted(number))
         }
         Err(_) => Err(give_up(rt, modules, bell, caller)),
@@ -191,92 +195,94 @@ pub fn fetch_one<R: Wait, S: Source>(
     }
 }
 
-// Takes what is to be taken next. Where memory runs out the map is shut.
-fn take_next<R: Wait>(
-    rt: &R,
-    alloc: Global,
-    modules: &ModuleMap<Posted>,
-    bell: &Bell,
-    caller: &mut Caller<Posted>,
-) -> Result<Taken, Memory>
-    requires own { table_of modules.now.lock.table.shared.table_id caller.old.pass
-        ≡ modules.now.lock.table.shared.table_id }
-    ensures own { table_of modules.now.lock.table.shared.table_id caller.new.pass
-        ≡ modules.now.lock.table.shared.table_id }
-    ensures same { Same (view_in caller.old.pass) (view_in caller.new.pass)
-        × (caller.new.number ≡ caller.old.number) }
-    ensures begins { Begins (view_in caller.old.pass).seen (view_in caller.new.pass).seen }
-    ensures asks { asks_by weight caller.old.number (view_in caller.new.pass).seen
-        ≡ asks_by weight caller.old.number (view_in caller.old.pass).seen }
-    ensures shuts { OnOk result (shuts_by weight caller.old.number (view_in caller.new.pass).seen
-        ≡ shuts_by weight caller.old.number (view_in caller.old.pass).seen) }
-    ensures taken { (holds : Option Contents) (asked : List Asked)
-        → Serves holds asked caller.old.number (view_in caller.old.pass).seen
-        → TakenBy holds asked caller.old.number result (view_in caller.new.pass).seen }
-{
-    match modules.take(rt, alloc, caller) {
-        Ok(taken) => Ok(taken),
-        Err(_) => Err(give_up(rt, modules, bell, caller)),
-    }
+// How many URLs a worker takes in one turn at the most.
+const BATCH: usize = 4;
+
+// What a worker has taken, and whether the map was shut.
+#[derive(Drop)]
+struct Batch {
+    orders: Vec<Order>,
+    shut: bool,
 }
 
-// Posts what came of an order, and takes the next. Where memory runs out the map is shut.
-fn post_on<R: Wait>(
-    rt: &R,
-    modules: &ModuleMap<Posted>,
-    bell: &Bell,
-    caller: &mut Caller<Posted>,
-    order: Order,
-    payload: Arc<Posted, Global>,
-) -> Result<Taken, Memory>
-    requires own { table_of modules.now.lock.table.shared.table_id caller.old.pass
-        ≡ modules.now.lock.table.shared.table_id }
-    requires order { IsOrderIn weight (view_in caller.old.pass).seen caller.old.number
-        order.number order.url }
-    requires fits { FitsIn fits (view_in caller.old.pass).seen (arc_value payload) order.url }
-    ensures own { table_of modules.now.lock.table.shared.table_id caller.new.pass
-        ≡ modules.now.lock.table.shared.table_id }
-    ensures same { Same (view_in caller.old.pass) (view_in caller.new.pass)
-        × (caller.new.number ≡ caller.old.number) }
-    ensures begins { Begins (view_in caller.old.pass).seen (view_in caller.new.pass).seen }
-    ensures asks { asks_by weight caller.old.number (view_in caller.new.pass).seen
-        ≡ asks_by weight caller.old.number (view_in caller.old.pass).seen }
-    ensures shuts { OnOk result (shuts_by weight caller.old.number (view_in caller.new.pass).seen
-        ≡ shuts_by weight caller.old.number (view_in caller.old.pass).seen) }
-    ensures taken { (holds : Option Contents) (asked : List Asked)
-        → IsAsking holds asked (takes_by weight caller.old.number (view_in caller.old.pass).seen)
-        (answers_by weight caller.old.number (view_in caller.old.pass).seen) order.url
-        → IsTrueAnswer holds (record { number = order.number; url = order.url; payload = arc_value payload })
-        → TakenBy holds (asks_with asked order.url (kind_of (outcome_view (arc_value payload).outcome)))
-        caller.old.number result (view_in caller.new.pass).seen }
-{
-    let reply = modules.post_and_take(rt, caller, order, payload);
-    bell.ring_for_post(rt);
-    match reply {
-        Ok(taken) => Ok(taken),
-        Err(_) => Err(give_up(rt, modules, bell, caller)),
-    }
+// What a turn needs: room for what comes of orders, and for the next ones.
+#[derive(Drop)]
+struct Lists {
+    filled: Vec<Filled<Posted>>,
+    orders: Vec<Order>,
 }
 
-// Fetches, reads and posts what was taken, and takes the next.
-fn fill_and_take<R: Wait, S: Source>(
-    rt: &R,
+// Room for a turn: lists, and with those URLs that were taken as many rooms as may be taken in one turn.
+fn make_room(alloc: Global, rooms: &mut Vec<String>, taken: usize) -> Result<Lists, Memory>
+    requires empty { All (λ r. string_bytes r ≡ []) rooms.old.items }
+    requires few { vec_len rooms.old + taken ≤ BATCH }
+    ensures empty { All (λ r. string_bytes r ≡ []) rooms.new.items }
+    ensures room { IfOk result (λ l. (l.filled.items ≡ []) × (l.orders.items ≡ [])
+        × (taken ≤ vec_capacity l.filled) × (BATCH ≤ vec_capacity l.orders)
+        × (vec_len rooms.new + taken ≡ BATCH) × (BATCH ≤ vec_capacity rooms.new)) }
+{
+    let Ok(filled) = Vec::with_capacity(alloc, BATCH) else {
+        return Err(Memory);
+    };
+    let Ok(orders) = Vec::with_capacity(alloc, BATCH) else {
+        return Err(Memory);
+    };
+    let Ok(()) = rooms.reserve(BATCH) else {
+        return Err(Memory);
+    };
+    while rooms.len() < BATCH - taken {
+        let Ok(room) = String::with_capacity(alloc, MAX_URL_BYTES) else {
+            return Err(Memory);
+        };
+        rooms.push_reserved(room);
+    }
+    Ok(Lists { filled, orders })
+}
+
+// Fetches and reads what was taken, in order. Where memory runs out, what was fetched before is there.
+fn fetch_all<S: Source>(
     alloc: Global,
-    modules: &ModuleMap<Posted>,
-    bell: &Bell,
     guide: &ImportMap,
-    caller: &mut Caller<Posted>,
     source: &mut S,
-    order: Order,
-) -> Result<Taken, Memory>
+    orders: Vec<Order>,
+    filled: &mut Vec<Filled<Posted>>,
+    rooms: &mut Vec<String>,
+) -> Result<(), Memory>
+    requires usable { All (λ o. IsUsable o.url) orders.items }
+    requires empty { All (λ r. string_bytes r ≡ []) rooms.old.items }
+    requires room { vec_len filled.old + vec_len orders ≤ vec_capacity filled.old }
+    requires rooms { vec_len rooms.old + vec_len orders ≤ vec_capacity rooms.old }
+    ensures empty { All (λ r. string_bytes r ≡ []) rooms.new.items }
+    ensures rooms { vec_len rooms.new ≤ vec_len rooms.old + vec_len orders }
+    ensures holds { S.holds source.new ≡ S.holds source.old }
+    ensures fetched { (c : ℕ) (h : List (MapEvent Posted Maps)) → guide_in h ≡ Some guide.now
+        → AreInHand (S.holds source.old) (S.asked source.old) c h filled.old.items orders.items
+        → FetchedBy result (S.holds source.old) (S.asked source.new) c h filled.new.items }
+{
+    for order in orders {
+        let number = order.number();
+        let Ok(payload) = fetch_order(alloc, guide, source, &order) else {
+            return Err(Memory);
+        };
+        filled.push_reserved(Filled { number, payload });
+        rooms.push_reserved(order.into_room(alloc));
+    }
+    Ok(())
+}
+
+// Memory ran out: what was fetched is posted, and the map is shut.
+fn end_short<R: Wait>(
+    rt: &R,
+    alloc: Global,
+    modules: &ModuleMap<Posted>,
+    bell: &Bell,
+    caller: &mut Caller<Posted>,
+    filled: Vec<Filled<Posted>>,
+) -> Memory
     requires own { table_of modules.now.lock.table.shared.table_id caller.old.pass
         ≡ modules.now.lock.table.shared.table_id }
-    requires guide { guide_in (view_in caller.old.pass).seen ≡ Some guide.now }
-    requires order { IsOrderIn weight (view_in caller.old.pass).seen caller.old.number
-        order.number order.url }
-    requires asking { IsAsking (S.holds source.old) (S.asked source.old)
-        (takes_by weight caller.old.number (view_in caller.old.pass).seen)
-        (answers_by weight caller.old.number (view_in caller.old.pass).seen) order.url }
+    requires filled { AreFilled weight fits (view_in caller.old.pass).seen caller.old.number
+        filled.items }
     ensures own { table_of modules.now.lock.table.shared.table_id caller.new.pass
         ≡ modules.now.lock.table.shared.table_id }
     ensures same { Same (view_in caller.old.pass) (view_in caller.new.pass)
@@ -284,20 +290,21 @@ fn fill_and_take<R: Wait, S: Source>(
     ensures begins { Begins (view_in caller.old.pass).seen (view_in caller.new.pass).seen }
     ensures asks { asks_by weight caller.old.number (view_in caller.new.pass).seen
         ≡ asks_by weight caller.old.number (view_in caller.old.pass).seen }
-    ensures shuts { OnOk result (shuts_by weight caller.old.number (view_in caller.new.pass).seen
-        ≡ shuts_by weight caller.old.number (view_in caller.old.pass).seen) }
-    ensures holds { S.holds source.new ≡ S.holds source.old }
-    ensures taken { TakenBy (S.holds source.old) (S.asked source.new) caller.old.number result
-        (view_in caller.new.pass).seen }
+    ensures takes { takes_by weight caller.old.number (view_in caller.new.pass).seen
+        ≡ takes_by weight caller.old.number (view_in caller.old.pass).seen }
+    ensures answers { answers_by weight caller.old.number (view_in caller.new.pass).seen
+        ≡ answers_by weight caller.old.number (view_in caller.old.pass).seen
+        ++ map (answer_of (replay weight (view_in caller.old.pass).seen)) filled.items }
+    ensures shut { IsShut weight (view_in caller.new.pass).seen }
 {
-    map_laws::urls_are_usable::<Posted>();
-    match fetch_order(alloc, guide, source, &order) {
-        Ok(payload) => post_on(rt, modules, bell, caller, order, payload),
-        Err(_) => Err(give_up(rt, modules, bell, caller)),
-    }
+    let mut rooms = Vec::new(alloc);
+    let mut orders = Vec::new(alloc);
+    let _nothing = modules.post_and_take_all(rt, caller, filled, &mut rooms, &mut orders);
+    give_up(rt, modules, bell, caller)
 }
 
-// Goes on with what was taken, and takes the next: where there was nothing it waits on the bell first.
+// Fetches and reads what was taken, posts it, and takes as many as may be, in one turn at the map. Where memory runs out
+// the map is shut.
 fn go_on<R: Wait, S: Source>(
     rt: &R,
     alloc: Global,
@@ -306,14 +313,16 @@ fn go_on<R: Wait, S: Source>(
     guide: &ImportMap,
     caller: &mut Caller<Posted>,
     source: &mut S,
-    heard: &mut u64,
-    taken: Taken,
-) -> Result<Taken, Memory>
+    rooms: &mut Vec<String>,
+    orders: Vec<Order>,
+) -> Result<Batch, Memory>
     requires own { table_of modules.now.lock.table.shared.table_id caller.old.pass
         ≡ modules.now.lock.table.shared.table_id }
     requires guide { guide_in (view_in caller.old.pass).seen ≡ Some guide.now }
-    requires taken { HasTaken (S.holds source.old) (S.asked source.old) caller.old.number
-        (view_in caller.old.pass).seen taken }
+    requires empty { All (λ r. string_bytes r ≡ []) rooms.old.items }
+    requires few { vec_len rooms.old + vec_len orders ≤ BATCH }
+    requires hand { AreInHand (S.holds source.old) (S.asked source.old) caller.old.number
+        (view_in caller.old.pass).seen [] orders.items }
     ensures own { table_of modules.now.lock.table.shared.table_id caller.new.pass
         ≡ modules.now.lock.table.shared.table_id }
     ensures same { Same (view_in caller.old.pass) (view_in caller.new.pass)
@@ -324,36 +333,40 @@ fn go_on<R: Wait, S: Source>(
     ensures shuts { OnOk result (shuts_by weight caller.old.number (view_in caller.new.pass).seen
         ≡ shuts_by weight caller.old.number (view_in caller.old.pass).seen) }
     ensures holds { S.holds source.new ≡ S.holds source.old }
-    ensures taken { TakenBy (S.holds source.old) (S.asked source.new) caller.old.number result
-        (view_in caller.new.pass).seen }
+    ensures empty { All (λ r. string_bytes r ≡ []) rooms.new.items }
+    ensures few { IfOk result (λ b. vec_len rooms.new + vec_len b.orders ≤ BATCH) }
+    ensures hand { IfOk result (λ b. AreInHand (S.holds source.old) (S.asked source.new)
+        caller.old.number (view_in caller.new.pass).seen [] b.orders.items
+        × (b.shut ≡ true → IsShut weight (view_in caller.new.pass).seen)) }
+    ensures short { OnErr result (Served BATCH (S.holds source.old) (S.asked source.new)
+        caller.old.number (view_in caller.new.pass).seen
+        × IsShut weight (view_in caller.new.pass).seen) }
 {
-    match taken {
-        Taken::Order(order) => fill_and_take(
-            rt, alloc, modules, bell, guide, caller, source, order,
-        ),
-        Taken::NotYet => {
-            *heard = bell.wait_for_order(rt, *heard);
-            take_next(rt, alloc, modules, bell, caller)
-        }
-        Taken::Closed => Ok(Taken::Closed),
+    map_laws::urls_are_usable::<Posted>();
+    let taken = orders.len();
+    let Ok(lists) = make_room(alloc, rooms, taken) else {
+        return Err(give_up(rt, modules, bell, caller));
+    };
+    let Lists {
+        mut filled,
+        orders: mut next,
+    } = lists;
+    let Ok(()) = fetch_all(alloc, guide, source, orders, &mut filled, rooms) else {
+        return Err(end_short(rt, alloc, modules, bell, caller, filled));
+    };
+    let reply = modules.post_and_take_all(rt, caller, filled, rooms, &mut next);
+    bell.ring_for_posts(taken);
+    match reply {
+        Ok(shut) => Ok(Batch { orders: next, shut }),
+        Err(_) => Err(give_up(rt, modules, bell, caller)),
     }
 }
 
-// Whether the map was shut.
-fn is_closed(taken: &Taken) -> bool
-    ensures { result ≡ closed taken.now }
-{
-    match taken {
-        Taken::Order(_order) => false,
-        Taken::NotYet => false,
-        Taken::Closed => true,
-    }
-}
-
-/// Takes, fetches, reads and posts, one URL after the other, until the map is shut or memory runs out, and waits on the
-/// bell where there is nothing to take. What is posted has what it requests resolved by the guide of the map. A post and
-/// the take behind it are one turn at the map. It comes back only with a shut map, and `short` says that memory ran out; where
-/// it isn't set, all that was taken is posted, and it wasn't this call that shut the map.
+/// Takes, fetches, reads and posts, up to four URLs at a time, until the map is shut or memory runs out, and waits on the
+/// bell where there is nothing to take. What is posted has what it requests resolved by the guide of the map. The posts and
+/// the takes behind them are one turn at the map. It comes back only with a shut map, and `short` says that memory ran out;
+/// then at most four URLs were taken and not posted. Where it isn't set, all that was taken is posted, and it wasn't this
+/// call that shut the map.
 pub fn worker<R: Wait, S: Source>(
     rt: &R,
     alloc: Global,
@@ -386,24 +399,11 @@ pub fn worker<R: Wait, S: Source>(
     map_laws::guide_stays::<Posted>();
     let mut caller = caller;
     let mut source = source;
+    let mut rooms = Vec::new(alloc);
+    let mut orders = Vec::new(alloc);
     let mut heard = 0;
-    let Ok(first) = take_next(rt, alloc, modules, bell, &mut caller) else {
-        return WorkerEnd {
-            source,
-            caller,
-            short: true,
-        };
-    };
-    let mut taken = first;
     for _ in rt.forever() {
-        if is_closed(&taken) {
-            return WorkerEnd {
-                source,
-                caller,
-                short: false,
-            };
-        }
-        let Ok(next) = go_on(
+        let Ok(batch) = go_on(
             rt,
             alloc,
             modules,
@@ -411,8 +411,8 @@ pub fn worker<R: Wait, S: Source>(
             guide,
             &mut caller,
             &mut source,
-            &mut heard,
-            taken,
+            &mut rooms,
+            orders,
         ) else {
             return WorkerEnd {
                 source,
@@ -420,7 +420,18 @@ pub fn worker<R: Wait, S: Source>(
                 short: true,
             };
         };
-        taken = next;
+        orders = batch.orders;
+        if !orders.is_empty() {
+            continue;
+        }
+        if batch.shut {
+            return WorkerEnd {
+                source,
+                caller,
+                short: false,
+            };
+        }
+        heard = bell.wait_for_order(rt, heard);
     }
     unreachable!()
 }
