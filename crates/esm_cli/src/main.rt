@@ -1,10 +1,9 @@
 //! The command `esm`.
 #![tactic(auto)]
 
-ghost use Rattle.std.specs.Prelude.{◌≡◌, [], All, IfOk, vec_len};
-ghost use Rattle.esm_base.specs.declared.limits.TheConstants.{MAX_SOURCES};
+ghost use Rattle.std.specs.Prelude.{◌≡◌, IfOk};
 
-use esm_base::{MAX_SOURCES, Memory, Status, Text};
+use esm_base::{Memory, Status};
 use esm_ports::{FileSource, StdSink};
 use esm_run::run;
 use std::alloc::Global;
@@ -12,7 +11,7 @@ use std::env;
 use std::io::ErrorKind;
 use std::mem::forget;
 use std::process::ExitCode;
-use std::rt::{Env, Files};
+use std::rt::Env;
 
 // The words after the program's name. Where one of them isn't UTF-8 there are none, which is no command.
 fn words<R: Env + AllocGlobal>(rt: &R, alloc: Global) -> Result<Vec<String>, Memory> {
@@ -31,26 +30,6 @@ fn words<R: Env + AllocGlobal>(rt: &R, alloc: Global) -> Result<Vec<String>, Mem
     Ok(words)
 }
 
-// The files below the folder in which the program runs.
-fn files<R: Files + Clone + Drop>(rt: &R, alloc: Global) -> Result<FileSource<R>, Memory>
-    ensures { IfOk result (λ s. s ≡ []) }
-{
-    let root = Text::copy(alloc, ".")?;
-    Ok(FileSource::new(rt.clone()?, alloc, root))
-}
-
-// All sources, each over the same files.
-fn sources<R: Files + Clone + Drop>(rt: &R, alloc: Global) -> Result<Vec<FileSource<R>>, Memory>
-    ensures all { IfOk result (λ v. vec_len v ≡ MAX_SOURCES) }
-    ensures fresh { IfOk result (λ v. All (λ s. s ≡ []) v.items) }
-{
-    let mut sources = Vec::new(alloc);
-    for _ in 0..MAX_SOURCES {
-        sources.push(files(rt, alloc)?)?;
-    }
-    Ok(sources)
-}
-
 fn printer<R: Print + Clone + Drop>(rt: &R) -> Result<StdSink<R>, Memory>
     ensures { IfOk result (λ s. s ≡ 0) }
 {
@@ -61,8 +40,8 @@ fn main(rt: HostRuntime) -> ExitCode {
     let alloc = rt.alloc();
     let status = match (
         words(&rt, alloc),
-        files(&rt, alloc),
-        sources(&rt, alloc),
+        FileSource::here(&rt, alloc),
+        FileSource::all_here(&rt, alloc),
         printer(&rt),
     ) {
         (Ok(words), Ok(desk), Ok(sources), Ok(out)) => {

@@ -161,7 +161,7 @@ module _ {G : Type 0} where
   served_by_any (Ok done) holds asked c h s = s
   served_by_any (Err want) holds asked c h s = inl s
 
-  pub served_by_end : {T : Type 0} (r : Result T Memory) (holds : Option Contents) (asked : List Asked) (c : ℕ) (h : List (MapEvent Posted G)) → ServedBy r holds asked c h → Served holds asked c h
+  pub served_by_end : {T : Type 0} (r : Result T Memory) (holds : Option Contents) (asked : List Asked) (c : ℕ) (h : List (MapEvent Posted G)) → ServedBy r holds asked c h → Served 1 holds asked c h
   served_by_end (Ok done) holds asked c h s = inl s
   served_by_end (Err want) holds asked c h s = s
 
@@ -172,8 +172,8 @@ module _ {G : Type 0} where
   pub serves_next : (holds kept : Option Contents) (asked : List Asked) (c d : ℕ) (h : List (MapEvent Posted G)) → kept ≡ holds → d ≡ c → Serves holds asked c h → Serves kept asked d h
   serves_next holds kept asked c d h same number s = subst (λ k. Serves k asked d h) (sym same) (subst (λ n. Serves holds asked n h) (sym number) s)
 
-  pub served_next : (holds kept : Option Contents) (asked : List Asked) (c d : ℕ) (h : List (MapEvent Posted G)) → kept ≡ holds → d ≡ c → Served kept asked d h → Served holds asked c h
-  served_next holds kept asked c d h same number s = subst (λ k. Served k asked c h) same (subst (λ n. Served kept asked n h) number s)
+  pub served_next : (holds kept : Option Contents) (asked : List Asked) (c d : ℕ) (h : List (MapEvent Posted G)) → kept ≡ holds → d ≡ c → Served 1 kept asked d h → Served 1 holds asked c h
+  served_next holds kept asked c d h same number s = subst (λ k. Served 1 k asked c h) same (subst (λ n. Served 1 kept asked n h) number s)
 
 -- ---- the ticket of the post that came first
 

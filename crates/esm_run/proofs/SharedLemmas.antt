@@ -1,5 +1,5 @@
 -- Sources and their callers: what holds of them as the history grows, and what the whole history says of them.
-use Rattle.std.proofs.Common.{◌≡◌, ◌≢◌, ◌⊎◌, inl, inr, ℕ, zero, suc, ◌+◌, ◌<◌, ◌≤◌, ◌==◌, cond, bytes_eq, Bool, true, false, List, [], ◌∷◌, ◌++◌, map, sym, refl, ap, ◌∙◌, subst, arith, Option, Some, None, length, slice_index_or, slice_set, eq-eqb, eqb-true, Ok, Err}
+use Rattle.std.proofs.Common.{◌≡◌, ◌≢◌, ◌⊎◌, inl, inr, ℕ, zero, suc, ◌+◌, ◌<◌, ◌≤◌, ◌==◌, cond, bytes_eq, Bool, true, false, List, [], ◌∷◌, ◌++◌, map, append_assoc, append-nil, sym, refl, ap, ◌∙◌, subst, arith, Option, Some, None, length, slice_index_or, slice_set, eq-eqb, eqb-true, Ok, Err}
 use Rattle.std.specs.Prelude.{All, AllPairs, Contains, flat_map, IfSome, Result}
 use Rattle.std.specs.Result.{result_ok}
 use Rattle.std.proofs.lemmas.List.{map-append}
@@ -38,15 +38,27 @@ listed_later n m ns h = omega (arith, h)
 
 -- ---- as the history grows
 
-pub served_any : {G : Type 0} (short : Bool) (holds : Option Contents) (asked : List Asked) (c : ℕ) (h : List (MapEvent Posted G)) → ServedIf short holds asked c h → Served holds asked c h
+pub served_any : {G : Type 0} (short : Bool) (holds : Option Contents) (asked : List Asked) (c : ℕ) (h : List (MapEvent Posted G)) → ServedIf short holds asked c h → Served 4 holds asked c h
 served_any true holds asked c h s = s
 served_any false holds asked c h s = inl s
 
 module _ {G : Type 0} where
-  pub served_same : (holds : Option Contents) (asked : List Asked) (c : ℕ) (seen h : List (MapEvent Posted G)) → takes_by weight c h ≡ takes_by weight c seen → answers_by weight c h ≡ answers_by weight c seen → Served holds asked c seen → Served holds asked c h
+  -- who takes one URL at a time
+  pub served_more : (holds : Option Contents) (asked : List Asked) (c : ℕ) (h : List (MapEvent Posted G)) → Served 1 holds asked c h → Served 4 holds asked c h
+  served_more holds asked c h (inl s) = inl s
+  served_more holds asked c h (inr s) = inr (record {
+    answered = s.answered;
+    url = s.url;
+    asked_is = s.asked_is;
+    rest = s.rest;
+    few = let few = s.few in omega (arith, few);
+    takes_is = s.takes_is;
+  })
+
+  pub served_same : (holds : Option Contents) (asked : List Asked) (c : ℕ) (seen h : List (MapEvent Posted G)) → takes_by weight c h ≡ takes_by weight c seen → answers_by weight c h ≡ answers_by weight c seen → Served 4 holds asked c seen → Served 4 holds asked c h
   served_same holds asked c seen h takes answers s =
-      subst (λ t. IsServed holds asked t (answers_by weight c h) ⊎ IsCut holds asked t (answers_by weight c h)) (sym takes)
-      (subst (λ a. IsServed holds asked (takes_by weight c seen) a ⊎ IsCut holds asked (takes_by weight c seen) a) (sym answers) s)
+      subst (λ t. IsServed holds asked t (answers_by weight c h) ⊎ IsCut 4 holds asked t (answers_by weight c h)) (sym takes)
+      (subst (λ a. IsServed holds asked (takes_by weight c seen) a ⊎ IsCut 4 holds asked (takes_by weight c seen) a) (sym answers) s)
 
   pub serves_same : (holds : Option Contents) (asked : List Asked) (c : ℕ) (seen h : List (MapEvent Posted G)) → takes_by weight c h ≡ takes_by weight c seen → answers_by weight c h ≡ answers_by weight c seen → Serves holds asked c seen → Serves holds asked c h
   serves_same holds asked c seen h takes answers s =
@@ -100,7 +112,7 @@ module _ {G S : Type 0} (holds_of : S → Option Contents) (asked_of : S → Lis
   are_still seen h [] (s ∷ ss) stays all = absurd all
   are_still seen h (c ∷ cs) [] stays all = absurd all
 
-  pub are_more : (h : List (MapEvent Posted G)) (cs : List ℕ) (ss : List S) (c : ℕ) (s : S) → AreServed holds_of asked_of Q h cs ss → Served (holds_of s) (asked_of s) c h × All Q (asks_by weight c h)
+  pub are_more : (h : List (MapEvent Posted G)) (cs : List ℕ) (ss : List S) (c : ℕ) (s : S) → AreServed holds_of asked_of Q h cs ss → Served 4 (holds_of s) (asked_of s) c h × All Q (asks_by weight c h)
       → AreServed holds_of asked_of Q h (cs ++ c ∷ []) (ss ++ s ∷ [])
   are_more h [] [] c s all one = (one, tt)
   are_more h (d ∷ cs) (t ∷ ss) c s (first, rest) one = (first, are_more h cs ss c s rest one)
@@ -109,7 +121,7 @@ module _ {G S : Type 0} (holds_of : S → Option Contents) (asked_of : S → Lis
 
   -- the source of a listed caller
   abbrev HasSource : List (MapEvent Posted G) → ℕ → List S → Type 0
-  HasSource h c ss = (k : ℕ) × (s : S) × (k < length ss) × (slice_index_or ss k s ≡ s) × (Served (holds_of s) (asked_of s) c h × All Q (asks_by weight c h))
+  HasSource h c ss = (k : ℕ) × (s : S) × (k < length ss) × (slice_index_or ss k s ≡ s) × (Served 4 (holds_of s) (asked_of s) c h × All Q (asks_by weight c h))
 
   source_later : (h : List (MapEvent Posted G)) (c : ℕ) (t : S) (ss : List S) → HasSource h c ss → HasSource h c (t ∷ ss)
   source_later h c t ss (k, s, within, is, has) = (suc k, s, omega arith, is, has)
@@ -120,7 +132,7 @@ module _ {G S : Type 0} (holds_of : S → Option Contents) (asked_of : S → Lis
   source_of h (d ∷ cs) (t ∷ ss) c (first, rest) listed = by_test (d == c) refl (times c cs) listed (source_of h cs ss c rest)
     where
       by_test : (b : Bool) → (d == c) ≡ b → (n : ℕ) → 0 < cond b 1 0 + n → (0 < n → HasSource h c ss) → HasSource h c (t ∷ ss)
-      by_test true e n h' later = let same : d ≡ c = eqb-true d c e in (0, t, omega arith, refl, subst (λ (x : ℕ). Served (holds_of t) (asked_of t) x h × All Q (asks_by weight x h)) same first)
+      by_test true e n h' later = let same : d ≡ c = eqb-true d c e in (0, t, omega arith, refl, subst (λ (x : ℕ). Served 4 (holds_of t) (asked_of t) x h × All Q (asks_by weight x h)) same first)
       by_test false e n h' later = source_later h c t ss (later (omega arith))
 
 module _ {G S : Type 0} (holds_of : S → Option Contents) (asked_of : S → List Asked) (urls : UrlsStay Posted G weight) (posts : PostsStay Posted G) (maps : Maps) (entry : Url) (trace : Bool) where
@@ -141,7 +153,7 @@ module _ {G S : Type 0} (holds_of : S → Option Contents) (asked_of : S → Lis
 
   -- the calling thread's part, with its source alone, once the map is shut
   pub led_alone : (v w : View (MapEvent Posted G)) (r : Result MachineParts Memory) (machine : Option MachineParts) (taken : List Delivery) (c : ℕ) (given : List S) (first s : S) → w.numbers ≡ c ∷ [] → ShutSays weight c v.seen w.seen → length given ≡ 1 → first ≡ slice_index_or given 0 first
-      → Served (holds_of first) (asked_of s) c v.seen → holds_of s ≡ holds_of first → Leads maps entry trace r c v.seen taken → machine ≡ result_ok r → IsShared holds_of asked_of maps entry trace w machine taken (slice_set given 0 s)
+      → Served 1 (holds_of first) (asked_of s) c v.seen → holds_of s ≡ holds_of first → Leads maps entry trace r c v.seen taken → machine ≡ result_ok r → IsShared holds_of asked_of maps entry trace w machine taken (slice_set given 0 s)
   led_alone v w r machine taken c [] first s own stays one is served same leads made = absurd (omega arith)
   led_alone v w r machine taken c (o ∷ t ∷ given) first s own stays one is served same leads made = absurd (omega arith)
   led_alone v w r machine taken c (o ∷ []) first s own stays one is served same leads made =
@@ -149,7 +161,7 @@ module _ {G S : Type 0} (holds_of : S → Option Contents) (asked_of : S → Lis
       let ends = leads_ends r leads in
       record {
         served = subst (λ ns. AreServed holds_of asked_of Q w.seen ns (s ∷ [])) (sym own)
-            ((subst (λ h. Served h (asked_of s) c w.seen) (sym same) (served_same (holds_of first) (asked_of s) c v.seen w.seen stays.1.0 stays.1.1 served), subst (All Q) (sym stays.1.2) ends.1), tt);
+            ((subst (λ h. Served 4 h (asked_of s) c w.seen) (sym same) (served_same (holds_of first) (asked_of s) c v.seen w.seen stays.1.0 stays.1.1 (served_more (holds_of first) (asked_of s) c v.seen served)), subst (All Q) (sym stays.1.2) ends.1), tt);
         ends = subst (λ m. EndsDriven (WasPosted w.seen) maps entry trace m taken) (sym made) (ends_on urls posts v.seen w.seen maps entry trace (result_ok r) taken stays.0 ends.0);
       }
     where
@@ -207,25 +219,28 @@ urls_asked : (answers : List (Answer Posted)) → map url_of (map ask_for answer
 urls_asked [] = refl
 urls_asked (a ∷ answers) = ap (λ l. a.url ∷ l) (urls_asked answers)
 
-all_taken : (asked : List Asked) (takes : List Url) → (takes ≡ map url_of asked) ⊎ ((u : Url) × (takes ≡ map url_of asked ++ u ∷ [])) → (a : Asked) → Contains asked a → Contains takes a.url
-all_taken asked takes (inl e) a there = subst (λ l. Contains l a.url) (sym e) (contains_mapped url_of asked a there)
-all_taken asked takes (inr (u, e)) a there = subst (λ l. Contains l a.url) (sym e) (Contains-append_left (map url_of asked) (u ∷ []) a.url (contains_mapped url_of asked a there))
+all_taken : (asked : List Asked) (takes : List Url) → ((rest : List Url) × (takes ≡ map url_of asked ++ rest)) → (a : Asked) → Contains asked a → Contains takes a.url
+all_taken asked takes (rest, e) a there = subst (λ l. Contains l a.url) (sym e) (Contains-append_left (map url_of asked) rest a.url (contains_mapped url_of asked a there))
 
 module _ {G : Type 0} where
-  -- a source was asked for what its caller took, and at most one URL that was taken is missing
-  asked_urls : (holds : Option Contents) (asked : List Asked) (c : ℕ) (h : List (MapEvent Posted G)) → Served holds asked c h
-      → (takes_by weight c h ≡ map url_of asked) ⊎ ((u : Url) × (takes_by weight c h ≡ map url_of asked ++ u ∷ []))
-  asked_urls holds asked c h (inl s) = inl (s.takes_is ∙ sym (urls_asked (answers_by weight c h)) ∙ ap (map url_of) (sym s.asked_is))
+  -- a source was asked for the first URLs that its caller took
+  asked_urls : (holds : Option Contents) (asked : List Asked) (c : ℕ) (h : List (MapEvent Posted G)) → Served 4 holds asked c h
+      → (rest : List Url) × (takes_by weight c h ≡ map url_of asked ++ rest)
+  asked_urls holds asked c h (inl s) = ([], s.takes_is ∙ sym (urls_asked (answers_by weight c h)) ∙ ap (map url_of) (sym s.asked_is) ∙ sym (append-nil (map url_of asked)))
   asked_urls holds asked c h (inr s) = by_end s.asked_is
     where
       by_end : (asked ≡ map ask_for (answers_by weight c h)) ⊎ ((kind : AskKind) × (asked ≡ asks_with (map ask_for (answers_by weight c h)) s.url kind))
-          → (takes_by weight c h ≡ map url_of asked) ⊎ ((u : Url) × (takes_by weight c h ≡ map url_of asked ++ u ∷ []))
-      by_end (inl e) = inr (s.url, s.takes_is ∙ ap (λ l. l ++ s.url ∷ []) (sym (urls_asked (answers_by weight c h)) ∙ ap (map url_of) (sym e)))
-      by_end (inr (kind, e)) = inl (s.takes_is ∙ ap (λ l. l ++ s.url ∷ []) (sym (urls_asked (answers_by weight c h)))
-          ∙ sym (map-append url_of (map ask_for (answers_by weight c h)) (record { url = s.url; kind = kind } ∷ [])) ∙ ap (map url_of) (sym e))
+          → (rest : List Url) × (takes_by weight c h ≡ map url_of asked ++ rest)
+      by_end (inl e) = (s.url ∷ s.rest, s.takes_is ∙ ap (λ l. l ++ s.url ∷ s.rest) (sym (urls_asked (answers_by weight c h)) ∙ ap (map url_of) (sym e)))
+      by_end (inr (kind, e)) = (
+        s.rest,
+        s.takes_is ∙ ap (λ l. l ++ s.url ∷ s.rest) (sym (urls_asked (answers_by weight c h)))
+            ∙ sym (append_assoc (map url_of (map ask_for (answers_by weight c h))) (s.url ∷ []) s.rest)
+            ∙ ap (λ l. l ++ s.rest) (sym (map-append url_of (map ask_for (answers_by weight c h)) (record { url = s.url; kind = kind } ∷ [])) ∙ ap (map url_of) (sym e)),
+      )
 
   -- what was posted was asked of the source, and is a true answer of it
-  answered_there : (holds : Option Contents) (asked : List Asked) (c : ℕ) (h : List (MapEvent Posted G)) (a : Answer Posted) → Served holds asked c h → Contains (answers_by weight c h) a → Contains asked (ask_for a) × IsTrueAnswer holds a
+  answered_there : (holds : Option Contents) (asked : List Asked) (c : ℕ) (h : List (MapEvent Posted G)) (a : Answer Posted) → Served 4 holds asked c h → Contains (answers_by weight c h) a → Contains asked (ask_for a) × IsTrueAnswer holds a
   answered_there holds asked c h a (inl s) there = (subst (λ l. Contains l (ask_for a)) (sym s.asked_is) (contains_mapped ask_for (answers_by weight c h) a there), All-contains (IsTrueAnswer holds) (answers_by weight c h) a s.answered there)
   answered_there holds asked c h a (inr s) there = (by_end s.asked_is (contains_mapped ask_for (answers_by weight c h) a there), All-contains (IsTrueAnswer holds) (answers_by weight c h) a s.answered there)
     where
@@ -239,9 +254,8 @@ count_append : (u : Url) (xs ys : List Url) → count u (xs ++ ys) ≡ count u x
 count_append u [] ys = omega arith
 count_append u (x ∷ xs) ys = omega (arith, count_append u xs ys)
 
-few_of : (u : Url) (asked : List Asked) (takes : List Url) → (takes ≡ map url_of asked) ⊎ ((v : Url) × (takes ≡ map url_of asked ++ v ∷ [])) → count u (map url_of asked) ≤ count u takes
-few_of u asked takes (inl e) = let c = ap (count u) e in omega (arith, c)
-few_of u asked takes (inr (v, e)) = let c = ap (count u) e in let d = count_append u (map url_of asked) (v ∷ []) in omega (arith, c, d)
+few_of : (u : Url) (asked : List Asked) (takes : List Url) → ((rest : List Url) × (takes ≡ map url_of asked ++ rest)) → count u (map url_of asked) ≤ count u takes
+few_of u asked takes (rest, e) = let c = ap (count u) e in let d = count_append u (map url_of asked) rest in omega (arith, c, d)
 
 counted : (asked : List Asked) (j : ℕ) (d : Asked) (u : Url) → j < length asked → u ≡ (slice_index_or asked j d).url → 0 < count u (map url_of asked)
 counted [] j d u less is = absurd (omega arith)

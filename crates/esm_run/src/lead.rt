@@ -44,26 +44,26 @@ fn start(
 }
 
 // Delivers one completed fetch to the machine, with what its requests resolve to where that was posted too.
-fn turn(machine: &mut Machine, url: &Text, posted: &Posted) -> Result<(), TurnEnd>
+fn turn(machine: &mut Machine, url: &Text, near: usize, posted: &Posted) -> Result<(), TurnEnd>
     requires asked { has (asks_of (state_of machine.old)) url.now ≡ true }
     requires targets { IsResolved (state_of machine.old) url.now posted.now }
     ensures { TakesDelivery (state_of machine.old) url.now (outcome_view posted.now.outcome) result
         (state_of machine.new) }
 {
     match &posted.targets {
-        Some(targets) => machine.deliver_resolved(url, &posted.outcome, targets),
+        Some(targets) => machine.deliver_resolved(url, near, &posted.outcome, targets),
         None => machine.deliver(url, &posted.outcome),
     }
 }
 
 // The same. A limit that is reached stops the machine and is no error here.
-fn hand_over(machine: &mut Machine, url: &Text, posted: &Posted) -> Result<(), Memory>
+fn hand_over(machine: &mut Machine, url: &Text, near: usize, posted: &Posted) -> Result<(), Memory>
     requires asked { has (asks_of (state_of machine.old)) url.now ≡ true }
     requires targets { IsResolved (state_of machine.old) url.now posted.now }
     ensures { OnOk result (RepresentsOn (state_of machine.old) url.now
         (outcome_view posted.now.outcome) (state_of machine.new)) }
 {
-    match turn(machine, url, posted) {
+    match turn(machine, url, near, posted) {
         Ok(()) => Ok(()),
         Err(TurnEnd::Fault(_limit)) => Ok(()),
         Err(TurnEnd::Memory) => Err(Memory),
@@ -95,14 +95,15 @@ fn deliver(machine: &mut Machine, chosen: Chosen, taken: &mut Vec<Delivery>) -> 
     let Ticket {
         url,
         number: _number,
+        place,
     } = ticket;
-    if !machine.is_open(&url) {
+    if !machine.is_open(&url, place) {
         return Ok(());
     }
     let Ok(outcome) = payload.outcome.share() else {
         return Err(Memory);
     };
-    let Ok(()) = hand_over(machine, &url, &payload) else {
+    let Ok(()) = hand_over(machine, &url, place, &payload) else {
         return Err(Memory);
     };
     let Ok(()) = taken.push(Delivery { url, outcome }) else {
@@ -245,7 +246,7 @@ fn drive<R: Wait, S: Source>(
     ensures same { Same (view_in caller.old.pass) (view_in caller.new.pass)
         × (caller.new.number ≡ caller.old.number) }
     ensures holds { S.holds source.new ≡ S.holds source.old }
-    ensures served { Served (S.holds source.old) (S.asked source.new) caller.old.number
+    ensures served { Served 1 (S.holds source.old) (S.asked source.new) caller.old.number
         (view_in caller.new.pass).seen }
     ensures ends { Leads (arc_value map.now) entry.now trace result caller.old.number
         (view_in caller.new.pass).seen (deliveries_of taken.new.items) }
@@ -335,7 +336,7 @@ pub(crate) fn lead<R: Wait, S: Source>(
         &mut taken,
     );
     modules.shut(rt, &mut caller);
-    bell.ring_for_all(rt);
+    bell.ring_for_all();
     Led {
         machine: driven.ok(),
         taken,

@@ -15,6 +15,7 @@ ghost use Rattle.esm_run.specs.Inner.Leading.{AsksOn, HasTicket, HearsMore, Hist
 
 use esm_base::{Memory, Text};
 use esm_fetch::{Bell, Posted};
+use esm_loads::NOWHERE;
 use esm_machine::Machine;
 use esm_module_map::{Asked, Caller, Heard, ModuleMap, laws as map_laws};
 use esm_world::laws;
@@ -27,11 +28,13 @@ pub(crate) const WINDOW: usize = 32;
 /// Behind how many of them nothing more is asked: workers are woken for half a window at once, and not for each URL.
 const REFILL: usize = 16;
 
-/// An open ask of the machine that the map was asked for, and its number there.
+/// An open ask of the machine that the map was asked for, and its number there. Its place in the machine's table of URLs
+/// spares look-ups.
 #[derive(Drop)]
 pub(crate) struct Ticket {
     pub url: Text,
     pub number: u32,
+    pub place: usize,
 }
 
 /// A ticket with what was posted for it.
@@ -85,22 +88,41 @@ fn number_at(asked: &[Asked], place: usize) -> u32
 }
 
 // Adds a ticket.
-fn add_ticket(tickets: &mut Vec<Ticket>, url: &Text, number: u32) -> Result<(), Memory>
+fn add_ticket(
+    tickets: &mut Vec<Ticket>,
+    url: &Text,
+    number: u32,
+    place: usize,
+) -> Result<(), Memory>
     ensures more { OnOk result (tickets.new.items
-        ≡ tickets.old.items ++ record { url = url.now; number = number } ∷ []) }
+        ≡ tickets.old.items ++ record { url = url.now; number = number; place = place } ∷ []) }
     ensures none { OnErr result (tickets.new.items ≡ tickets.old.items) }
 {
     let Ok(url) = url.clone() else {
         return Err(Memory);
     };
-    let Ok(()) = tickets.push(Ticket { url, number }) else {
+    let Ok(()) = tickets.push(Ticket { url, number, place }) else {
         return Err(Memory);
     };
     Ok(())
 }
 
-// Adds a ticket for each of these URLs, with the number that the map has answered.
-fn add_tickets(tickets: &mut Vec<Ticket>, urls: &[Text], asked: &[Asked]) -> Result<(), Memory>
+// The place at which the machine has an open ask, where it tells one.
+fn place_in(places: &[usize], at: usize) -> usize {
+    match places.get(at) {
+        Some(place) => *place,
+        None => NOWHERE,
+    }
+}
+
+// Adds a ticket for each of these URLs, with the number that the map has answered. The machine's place of the first URL is
+// the first of these behind as many as there are tickets.
+fn add_tickets(
+    tickets: &mut Vec<Ticket>,
+    urls: &[Text],
+    asked: &[Asked],
+    places: &[usize],
+) -> Result<(), Memory>
     requires { length asked.now ≡ length urls.now }
     ensures tickets { (h : History)
         → map (λ a. slice_get (replay weight h).urls (number_in a)) asked.now ≡ map Some urls.now
@@ -108,7 +130,8 @@ fn add_tickets(tickets: &mut Vec<Ticket>, urls: &[Text], asked: &[Asked]) -> Res
     ensures few { length tickets.new.items ≤ length tickets.old.items + length urls.now }
 {
     for at in 0..urls.len() {
-        let Ok(()) = add_ticket(tickets, &urls[at], number_at(asked, at)) else {
+        let place = place_in(places, tickets.len());
+        let Ok(()) = add_ticket(tickets, &urls[at], number_at(asked, at), place) else {
             return Err(Memory);
         };
     }
@@ -162,7 +185,7 @@ fn ask_more<R: Wait>(
     let Ok(asked) = modules.ask_all(rt, alloc, caller, urls) else {
         return Err(Memory);
     };
-    add_tickets(tickets, urls, asked.as_slice())
+    add_tickets(tickets, urls, asked.as_slice(), machine.ask_places())
 }
 
 /// The same, where no more than half of the window is full, and rings the bell once for all that was asked. The tickets are
@@ -199,7 +222,7 @@ pub(crate) fn ask_open<R: Wait>(
         return Ok(());
     }
     let asked = ask_more(rt, alloc, modules, caller, machine, tickets);
-    bell.ring_for_orders(rt, tickets.len().saturating_sub(before));
+    bell.ring_for_orders(tickets.len().saturating_sub(before));
     asked
 }
 

@@ -148,12 +148,13 @@ module _ {G : Type 0} where
     pub untaken : takes_by weight c v.seen ≡ []
     pub unanswered : answers_by weight c v.seen ≡ []
 
-  -- each source was asked for what its caller took, by the history, and what the caller asked for has the property
+  -- each source was asked for what its caller took, by the history, but for at most four URLs where memory ran out; and what the
+  -- caller asked for has the property
   abbrev pub AreServed : {S : Type 0} → (S → Option Contents) → (S → List Asked) → (Url → Type 0) → List (MapEvent Posted G) → List ℕ
       → List S → Type 0
   AreServed holds_of asked_of Q h [] [] = Unit {0}
   AreServed holds_of asked_of Q h (c ∷ cs) (s ∷ ss) =
-      (Served (holds_of s) (asked_of s) c h × All Q (asks_by weight c h)) × AreServed holds_of asked_of Q h cs ss
+      (Served 4 (holds_of s) (asked_of s) c h × All Q (asks_by weight c h)) × AreServed holds_of asked_of Q h cs ss
   AreServed holds_of asked_of Q h [] (s ∷ ss) = ⊥
   AreServed holds_of asked_of Q h (c ∷ cs) [] = ⊥
 

@@ -13,7 +13,7 @@ loop-at-init c = record { tickets = λ h same all. all; few = omega arith }
 pub loop-at-preserved : goal.loop-at-preserved
 loop-at-preserved c =
     let ts = c.loop-at.tickets.items in let url = c.index-urls-at.result in
-    let t : Ticket = record { url = url; number = c.number_at.result } in
+    let t : Ticket = record { url = url; number = c.number_at.result; place = c.place_in-place.result } in
     record {
       tickets = λ h same all.
           let found = numbered_at (λ (a : Asked). slice_get (replay weight h).urls (number_in a)) c.args.asked.now c.args.urls.now c.loop-at.at url (omega arith) same c.index-urls-at.is in
