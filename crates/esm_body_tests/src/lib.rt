@@ -4,6 +4,8 @@
 #[cfg(test)]
 mod calls;
 #[cfg(test)]
+mod graphs;
+#[cfg(test)]
 mod large_blocks;
 #[cfg(test)]
 mod limits;

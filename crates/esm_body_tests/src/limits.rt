@@ -1,7 +1,10 @@
 // Texts and sites that reach a limit, and those that just don't.
-use crate::running::{counted, ends_so, push_times, text_ends_so};
+use crate::running::{counted, push_times, text_ends_so};
 use esm_base::{Memory, Text};
-use esm_sites::{ENTRY, Wanted, add_named, ending, files, site, title, wanted_of};
+use esm_sites::{
+    COMMAND, ENTRY, RowCheck, Told, Wanted, add_named, ending, ends_so, files, has_lines, holds,
+    rows_hold, site, wanted_of,
+};
 use std::alloc::Global;
 use std::marker::Sync;
 use std::sync::Wait;
@@ -115,8 +118,8 @@ calls 4097
 >> Limit
 Limit L4";
 
-// Those that have 16 megabytes.
-const LARGE_SITES: &str = "\
+// Those that write 16 megabytes.
+const LONG_LOGS: &str = "\
 == as many lines as the log may have
 prints 255
 255
@@ -126,8 +129,10 @@ prints 255
 prints 256
 255
 >> Limit
-Limit L5
+Limit L5";
 
+// Those whose files have as many.
+const LARGE_SITES: &str = "\
 == fewer texts than have 16,777,216 bytes together
 wide 15
 0
@@ -171,50 +176,50 @@ fn ending_of(alloc: Global, long: u64, end: Wanted<'_>) -> Result<String, Memory
     Ok(text)
 }
 
-// Whether the run of a site ends as it says.
-fn holds<R: Threads + Wait + Sync>(rt: &R, alloc: Global, row: &str) -> Result<bool, Memory> {
-    let (long, _) = counted(row.lines().nth(2).unwrap_or(""));
-    let text = ending_of(alloc, long, wanted_of(row))?;
-    let wanted = ending(text.as_str().strip_suffix('\n').unwrap_or(""));
-    let what = row.lines().nth(1).unwrap_or("");
-    let (word, rest) = what.split_once(' ').unwrap_or((what, ""));
-    match files_of(alloc, word, rest) {
-        Ok(files) => ends_so(rt, alloc, files, wanted),
-        Err(Memory) => Err(Memory),
-    }
-}
+// Checks that the run of a site ends as it says.
+struct LimitCheck;
 
-// The name of the first of these sites that ends otherwise, if there is one.
-fn wrong_site<R: Threads + Wait + Sync>(
-    rt: &R,
-    alloc: Global,
-    sites: &'static str,
-) -> Result<Option<&'static str>, Memory> {
-    for row in sites.split("\n\n== ") {
-        if !holds(rt, alloc, row)? {
-            return Ok(Some(title(row)));
+impl RowCheck for LimitCheck {
+    fn is_so<R: Threads + Wait + Sync>(
+        &self,
+        rt: &R,
+        alloc: Global,
+        row: &str,
+    ) -> Result<bool, Memory> {
+        let (long, _) = counted(row.lines().nth(2).unwrap_or(""));
+        let text = ending_of(alloc, long, wanted_of(row))?;
+        let wanted = ending(text.as_str().strip_suffix('\n').unwrap_or(""));
+        let what = row.lines().nth(1).unwrap_or("");
+        let (word, rest) = what.split_once(' ').unwrap_or((what, ""));
+        match files_of(alloc, word, rest) {
+            Ok(files) => ends_so(rt, alloc, COMMAND, files, wanted),
+            Err(Memory) => Err(Memory),
         }
     }
-    Ok(None)
 }
 
 #[test]
-fn limits_are_reached_and_not_passed(rt: HostRuntime) -> Result<(), Memory> {
-    assert_eq!(rt; wrong_site(&rt, rt.alloc(), SITES)?, None);
-    Ok(())
+fn limits_are_reached_and_not_passed(rt: HostRuntime) -> Told {
+    rows_hold(&rt, rt.alloc(), &LimitCheck, SITES)
 }
 
 #[test]
-fn limits_of_bytes_are_reached_and_not_passed(rt: HostRuntime) -> Result<(), Memory> {
-    assert_eq!(rt; wrong_site(&rt, rt.alloc(), LARGE_SITES)?, None);
-    Ok(())
+fn limits_of_lines_are_reached_and_not_passed(rt: HostRuntime) -> Told {
+    rows_hold(&rt, rt.alloc(), &LimitCheck, LONG_LOGS)
+}
+
+#[test]
+fn limits_of_bytes_are_reached_and_not_passed(rt: HostRuntime) -> Told {
+    rows_hold(&rt, rt.alloc(), &LimitCheck, LARGE_SITES)
 }
 
 // A text that is no UTF-8.
 fn is_byte_refused<R: Threads + Wait + Sync>(rt: &R, alloc: Global) -> Result<bool, Memory> {
     let end = "EntryFailed\nUncaught SyntaxError: https://a.test/main.js: P1 not UTF-8";
-    let files = files(alloc, ENTRY, Some(b"\xff"))?;
-    ends_so(rt, alloc, files, ending(end))
+    match files(alloc, ENTRY, Some(b"\xff")) {
+        Ok(files) => ends_so(rt, alloc, COMMAND, files, ending(end)),
+        Err(Memory) => Err(Memory),
+    }
 }
 
 // Texts that are cut short.
@@ -227,24 +232,25 @@ const CUT_SHORT: &str = r#"{
 {{{"a"}
 {{{"a"}}"#;
 
-// The first of them that isn't refused, if there is one.
-fn unrefused<R: Threads + Wait + Sync>(
-    rt: &R,
-    alloc: Global,
-) -> Result<Option<&'static str>, Memory> {
-    let end = "EntryFailed\nUncaught SyntaxError: https://a.test/main.js: P2 no module text";
-    for text in CUT_SHORT.lines() {
-        if !text_ends_so(rt, alloc, text, ending(end))? {
-            return Ok(Some(text));
-        }
+// Checks that a text is no module.
+struct RefusalCheck;
+
+impl RowCheck for RefusalCheck {
+    fn is_so<R: Threads + Wait + Sync>(
+        &self,
+        rt: &R,
+        alloc: Global,
+        row: &str,
+    ) -> Result<bool, Memory> {
+        let end = "EntryFailed\nUncaught SyntaxError: https://a.test/main.js: P2 no module text";
+        text_ends_so(rt, alloc, row, ending(end))
     }
-    Ok(None)
 }
 
 #[test]
-fn texts_that_are_no_modules_are_refused(rt: HostRuntime) -> Result<(), Memory> {
-    assert!(rt; is_byte_refused(&rt, rt.alloc())?);
-    assert_eq!(rt; unrefused(&rt, rt.alloc())?, None);
-    assert!(rt; CUT_SHORT.lines().count() == 8);
-    Ok(())
+fn texts_that_are_no_modules_are_refused(rt: HostRuntime) -> Told {
+    let alloc = rt.alloc();
+    holds(is_byte_refused(&rt, alloc), "a byte that is no text")
+        .and(rows_hold(&rt, alloc, &RefusalCheck, CUT_SHORT))
+        .and(has_lines(CUT_SHORT, 8))
 }

@@ -1,36 +1,26 @@
 // Runs over one source, and whether they end as they are to.
 use crate::{calls, names, values};
-use esm_base::{Memory, Status, Text};
-use esm_ports::SureSink;
-use esm_sites::{ENTRY, Wanted, files, first_wrong, is_wanted, run_over, wanted_of};
+use esm_base::{Memory, Status};
+use esm_sites::{
+    COMMAND, ENTRY, RunsAsSaid, Told, Wanted, ends_so, files, holds, is_wanted, rows_hold,
+    tables_hold, told_of, wanted_of,
+};
 use std::alloc::Global;
 use std::marker::Sync;
 use std::sync::Wait;
 use std::thread::Threads;
 
-/// Whether a run over these files ends so.
-pub fn ends_so<R: Threads + Wait + Sync>(
-    rt: &R,
-    alloc: Global,
-    files: Vec<(Text, Vec<u8>)>,
-    wanted: Wanted<'_>,
-) -> Result<bool, Memory> {
-    let mut out = SureSink::new(alloc);
-    match run_over(rt, alloc, files, &mut out) {
-        Ok(report) => Ok(is_wanted(wanted, report.status, out.written())),
-        Err(Memory) => Err(Memory),
-    }
-}
-
-/// The same of a run over an entry with this text.
+/// Whether a run over an entry with this text ends so.
 pub fn text_ends_so<R: Threads + Wait + Sync>(
     rt: &R,
     alloc: Global,
     text: &str,
     wanted: Wanted<'_>,
 ) -> Result<bool, Memory> {
-    let files = files(alloc, ENTRY, Some(text.as_bytes()))?;
-    ends_so(rt, alloc, files, wanted)
+    match files(alloc, ENTRY, Some(text.as_bytes())) {
+        Ok(files) => ends_so(rt, alloc, COMMAND, files, wanted),
+        Err(Memory) => Err(Memory),
+    }
 }
 
 /// Adds the same text so many times.
@@ -58,11 +48,11 @@ pub fn counted(line: &str) -> (u64, &str) {
 }
 
 #[test]
-fn bodies_run(rt: HostRuntime) -> Result<(), Memory> {
-    for tables in [values::TABLES, names::TABLES, calls::TABLES] {
-        assert_eq!(rt; first_wrong(&rt, rt.alloc(), tables)?, None);
-    }
-    Ok(())
+fn bodies_run(rt: HostRuntime) -> Told {
+    let alloc = rt.alloc();
+    tables_hold(&rt, alloc, &RunsAsSaid, values::TABLES)
+        .and(tables_hold(&rt, alloc, &RunsAsSaid, names::TABLES))
+        .and(tables_hold(&rt, alloc, &RunsAsSaid, calls::TABLES))
 }
 
 const RIGHT: &str = "== one print\n-- main.js\nprint(\"m\")\n>> Fulfilled\nm";
@@ -85,18 +75,18 @@ print("m")
 m"#;
 
 // Whether rows that run otherwise are found, and no others.
-fn wrong_are_found<R: Threads + Wait + Sync>(rt: &R, alloc: Global) -> Result<bool, Memory> {
-    Ok(
-        first_wrong(rt, alloc, &[RIGHT])?.is_none()
-            && first_wrong(rt, alloc, &[WRONG_TEXT])? == Some("one print without its line")
-            && first_wrong(rt, alloc, &[RIGHT, WRONG_STATUS])? == Some("one print that is to fail"),
-    )
+fn wrong_are_found<R: Threads + Wait + Sync>(rt: &R, alloc: Global) -> bool {
+    told_of(rows_hold(rt, alloc, &RunsAsSaid, RIGHT)) == "nothing"
+        && told_of(rows_hold(rt, alloc, &RunsAsSaid, WRONG_TEXT)) == "one print without its line"
+        && told_of(tables_hold(rt, alloc, &RunsAsSaid, &[RIGHT, WRONG_STATUS]))
+            == "one print that is to fail"
 }
 
 #[test]
-fn rows_that_run_otherwise_are_found(rt: HostRuntime) -> Result<(), Memory> {
-    assert!(rt; wrong_are_found(&rt, rt.alloc())?);
-    // a text without its last line feed
-    assert!(rt; !is_wanted(wanted_of(RIGHT), Status::Fulfilled, b"m"));
-    Ok(())
+fn rows_that_run_otherwise_are_found(rt: HostRuntime) -> Told {
+    let short = is_wanted(wanted_of(RIGHT), Status::Fulfilled, b"m");
+    holds(Ok(wrong_are_found(&rt, rt.alloc())), "rows that are wrong").and(holds(
+        Ok(!short),
+        "a text without its last line feed",
+    ))
 }

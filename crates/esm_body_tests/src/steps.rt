@@ -5,7 +5,7 @@
 // are left, and how one ends in which there is one fewer.
 use crate::running::{counted, push_times, text_ends_so};
 use esm_base::Memory;
-use esm_sites::{ending, title, wanted_of};
+use esm_sites::{RowCheck, Told, ending, rows_hold, wanted_of};
 use std::alloc::Global;
 use std::marker::Sync;
 use std::sync::Wait;
@@ -251,47 +251,35 @@ fn form_ends_so<R: Threads + Wait + Sync>(
     text_ends_so(rt, alloc, body.as_str(), ending(end))
 }
 
-// Whether the form runs with just as many steps left as it takes, and meets the limit with one fewer.
-fn takes_its_steps<R: Threads + Wait + Sync>(
-    rt: &R,
-    alloc: Global,
-    form: &str,
-) -> Result<bool, Memory> {
-    let whole = form.split("\n>> ").nth(1).unwrap_or("");
-    let short = form.split("\n>> ").nth(2).unwrap_or("");
-    Ok(form_ends_so(rt, alloc, form, 0, whole)? && form_ends_so(rt, alloc, form, 1, short)?)
-}
+// Checks that a form runs with just as many steps left as it takes, and meets the limit with one fewer.
+struct StepCheck;
 
-// The name of the first of these forms of which that doesn't hold, if there is one.
-fn wrong_form<R: Threads + Wait + Sync>(
-    rt: &R,
-    alloc: Global,
-    forms: &'static str,
-) -> Result<Option<&'static str>, Memory> {
-    for form in forms.split("\n\n== ") {
-        if !takes_its_steps(rt, alloc, form)? {
-            return Ok(Some(title(form)));
-        }
+impl RowCheck for StepCheck {
+    fn is_so<R: Threads + Wait + Sync>(
+        &self,
+        rt: &R,
+        alloc: Global,
+        row: &str,
+    ) -> Result<bool, Memory> {
+        let whole = row.split("\n>> ").nth(1).unwrap_or("");
+        let short = row.split("\n>> ").nth(2).unwrap_or("");
+        Ok(form_ends_so(rt, alloc, row, 0, whole)? && form_ends_so(rt, alloc, row, 1, short)?)
     }
-    Ok(None)
 }
 
 #[test]
-fn statements_take_their_steps_and_no_more(rt: HostRuntime) -> Result<(), Memory> {
-    assert_eq!(rt; wrong_form(&rt, rt.alloc(), STATEMENTS)?, None);
-    Ok(())
+fn statements_take_their_steps_and_no_more(rt: HostRuntime) -> Told {
+    rows_hold(&rt, rt.alloc(), &StepCheck, STATEMENTS)
 }
 
 #[test]
-fn values_take_their_steps_and_no_more(rt: HostRuntime) -> Result<(), Memory> {
-    assert_eq!(rt; wrong_form(&rt, rt.alloc(), VALUES)?, None);
-    Ok(())
+fn values_take_their_steps_and_no_more(rt: HostRuntime) -> Told {
+    rows_hold(&rt, rt.alloc(), &StepCheck, VALUES)
 }
 
 #[test]
-fn calls_take_their_steps_and_no_more(rt: HostRuntime) -> Result<(), Memory> {
-    assert_eq!(rt; wrong_form(&rt, rt.alloc(), CALLS)?, None);
-    Ok(())
+fn calls_take_their_steps_and_no_more(rt: HostRuntime) -> Told {
+    rows_hold(&rt, rt.alloc(), &StepCheck, CALLS)
 }
 
 // A body that begins so many calls of `import()` behind others.
@@ -330,32 +318,23 @@ m
 >> Limit
 Limit L4"#;
 
-// Whether a run with so many calls ends as the row says.
-fn imports_end_so<R: Threads + Wait + Sync>(
-    rt: &R,
-    alloc: Global,
-    row: &str,
-) -> Result<bool, Memory> {
-    let (many, before) = counted(row.lines().nth(1).unwrap_or(""));
-    let body = body_of_imports(alloc, before, many)?;
-    text_ends_so(rt, alloc, body.as_str(), wanted_of(row))
-}
+// Checks that a run with so many calls ends as the row says.
+struct ImportCheck;
 
-// The name of the first row of `IMPORTS` that ends otherwise, if there is one.
-fn wrong_imports<R: Threads + Wait + Sync>(
-    rt: &R,
-    alloc: Global,
-) -> Result<Option<&'static str>, Memory> {
-    for row in IMPORTS.split("\n\n== ") {
-        if !imports_end_so(rt, alloc, row)? {
-            return Ok(Some(title(row)));
-        }
+impl RowCheck for ImportCheck {
+    fn is_so<R: Threads + Wait + Sync>(
+        &self,
+        rt: &R,
+        alloc: Global,
+        row: &str,
+    ) -> Result<bool, Memory> {
+        let (many, before) = counted(row.lines().nth(1).unwrap_or(""));
+        let body = body_of_imports(alloc, before, many)?;
+        text_ends_so(rt, alloc, body.as_str(), wanted_of(row))
     }
-    Ok(None)
 }
 
 #[test]
-fn import_may_be_called_4096_times(rt: HostRuntime) -> Result<(), Memory> {
-    assert_eq!(rt; wrong_imports(&rt, rt.alloc())?, None);
-    Ok(())
+fn import_may_be_called_4096_times(rt: HostRuntime) -> Told {
+    rows_hold(&rt, rt.alloc(), &ImportCheck, IMPORTS)
 }

@@ -3,7 +3,8 @@ ghost use Rattle.std.specs.Prelude.{◌≡◌, ◌<◌, ◌-◌, ◌^◌, ◌∷
 
 use esm_base::{Memory, Text};
 use esm_ports::{
-    FetchEnd, FileSource, MemSink, MemSource, Sink, SinkEnd, Source, StdSink, SureSource, put_all,
+    FetchEnd, FileSource, MemSink, MemSource, Sink, SinkEnd, Source, StdSink, SureSink, SureSource,
+    put_all,
 };
 use std::alloc::Global;
 use std::{fs, io};
@@ -72,6 +73,15 @@ fn keeps_the_first(alloc: Global, fail_at: Vec<u64>) -> bool {
         && out.faults() == 1
 }
 
+// A sink that never fails takes two pieces whole, one behind the other.
+fn takes_all(alloc: Global) -> bool {
+    let mut out = SureSink::new(alloc);
+    put_all(&mut out, b"ab") == Ok(())
+        && put_all(&mut out, b"cdef") == Ok(())
+        && out.written() == b"abcdef".as_slice()
+        && out.faults() == 0
+}
+
 // Whether a source fails at the calls that it is told.
 fn fails_so(alloc: Global) -> Result<bool, Memory> {
     let mut source = MemSource::new(alloc, files(alloc, b"x")?, vec![in alloc; 2]?)?;
@@ -91,7 +101,7 @@ fn gives_so(alloc: Global) -> Result<bool, Memory> {
 fn sources_and_sinks_in_memory(rt: HostRuntime) -> Result<(), Memory> {
     assert!(rt; fails_so(rt.alloc())?);
     assert!(rt; gives_so(rt.alloc())?);
-    assert!(rt; takes_in_pieces(rt.alloc()));
+    assert!(rt; takes_in_pieces(rt.alloc()) && takes_all(rt.alloc()));
     assert!(rt; keeps_the_first(rt.alloc(), vec![in rt.alloc(); 2]?));
     Ok(())
 }
@@ -118,6 +128,7 @@ https://a.test//main.js Absent
 https://a.test/a%2Fb.js Absent
 https://a.test/%00.js Absent
 https://a.test/%ff.js Absent
+https://./bare.js Absent
 data:text/javascript,x Absent
 https://a.test/folder Failed
 https://a.test/main.js/x.js Failed"#;
@@ -153,7 +164,7 @@ fn a_file_source_reads_below_its_root(rt: HostRuntime) -> io::Result<()> {
     let root = Text::copy(rt.alloc(), ".").expect(&rt, "ample memory");
     let mut source = FileSource::new(rt.clone()?, rt.alloc(), root);
     assert_eq!(rt; wrong_fetch(rt.alloc(), &mut source), None);
-    assert!(rt; source.faults() == 2 && FETCHES.lines().count() == 14);
+    assert!(rt; source.faults() == 2 && FETCHES.lines().count() == 15);
     Ok(())
 }
 

@@ -48,6 +48,39 @@ fn are_listed(alloc: Global) -> Result<bool, Memory> {
     Ok(second && last && count == 3 && TextTable::new(alloc).len() == 0)
 }
 
+// Twelve texts that have one mark, as `scripts/hostile_hashes.py` reckons them, more than have slots, and another among them.
+const OF_ONE_MARK: &str = "\
+./alclzi4u6qm4kkVQeR2hj90098qpxz
+a
+./alclzi4u6qm4kkVQeR2hj900bbbbbb
+./alclzi4u6qm4kkVQeR2hj900cccccc
+./alclzi4u6qm4kkVQeR2hj900dddddd
+./alclzi4u6qm4kkVQeR2hj900eeeeee
+./alclzi4u6qm4kkVQeR2hj900ffffff
+./alclzi4u6qm4kkVQeR2hj900gggggg
+./alclzi4u6qm4kkVQeR2hj900hhhhhh
+./alclzi4u6qm4kkVQeR2hj900iiiiii
+./alclzi4u6qm4kkVQeR2hj900jjjjjj
+./alclzi4u6qm4kkVQeR2hj900kkkkkk
+./alclzi4u6qm4kkVQeR2hj900ciyx7a";
+
+// One more text with that mark.
+const OF_THAT_MARK: &str = "./alclzi4u6qm4kkVQeR2hj900ibwoso";
+
+// Whether a table that was let go has the one text that came since, and none of those before.
+fn is_begun_anew(alloc: Global) -> Result<bool, Memory> {
+    let mut table = table_of(alloc, OF_ONE_MARK)?;
+    table.clear();
+    table.insert_new(Text::copy(alloc, OF_THAT_MARK)?)?;
+    for line in OF_ONE_MARK.lines() {
+        if table.find(&Text::copy(alloc, line)?).is_some() {
+            return Ok(false);
+        }
+    }
+    let came = Text::copy(alloc, OF_THAT_MARK)?;
+    Ok(table.find(&came) == Some(0) && table.len() == 1)
+}
+
 // Two texts with their order between them. U+10400 is the code units D801 DC00, and U+FF21 is one code unit, though its bytes
 // are less.
 const ORDERED: &str = "\
@@ -90,6 +123,10 @@ fn texts_are_copied_and_ordered(rt: HostRuntime) -> Result<(), Memory> {
     assert!(rt; are_listed(rt.alloc())?);
     assert_eq!(rt; place_in(rt.alloc(), "b\na\nb\nc\na", "c")?, Some(2));
     assert_eq!(rt; place_in(rt.alloc(), "b\na\nb\nc\na", "d")?, None);
+    assert_eq!(rt; place_in(rt.alloc(), OF_ONE_MARK, OF_THAT_MARK)?, None);
+    let last = "./alclzi4u6qm4kkVQeR2hj900ciyx7a";
+    assert_eq!(rt; place_in(rt.alloc(), OF_ONE_MARK, last)?, Some(12));
+    assert!(rt; is_begun_anew(rt.alloc())?);
     assert_eq!(rt; wrong_order(), None);
     assert!(rt; ORDERED.lines().count() == 6);
     Ok(())

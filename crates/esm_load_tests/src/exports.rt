@@ -1,14 +1,13 @@
 // A graph of lists, and what its names resolve to.
 ghost use Rattle.std.specs.Prelude.{◌≡◌, ◌<◌, ◌^◌, length, vec_len};
 
-use crate::reading::number;
+use crate::reading::{RowCheck, Told, holds, number, rows_hold};
 use esm_ast::{Entries, IndirectExport, LocalExport, Wanted};
 use esm_base::{Memory, ModuleId, Text};
 use esm_resolve::{
     Binding, ExportGraph, Resolution, exported_names, is_sound, namespace_keys, resolve_export,
 };
 use std::alloc::Global;
-use std::test::Fail;
 use std::time::{Clock, Instant};
 
 #[derive(Drop)]
@@ -106,8 +105,20 @@ impl Draft {
         Ok(())
     }
 
-    // Exports what a word of a row of `GRAPH` says.
+    // Exports everything of the modules from this one to before that one.
+    fn add_stars(&mut self, alloc: Global, from: u32, to: u32) -> Result<(), Memory> {
+        for target in from..to {
+            self.add_star(alloc, target)?;
+        }
+        Ok(())
+    }
+
+    // Exports what a word of a row says.
     fn add(&mut self, alloc: Global, word: &str) -> Result<(), Memory> {
+        if word == "*" {
+            self.stars.push(0)?;
+            return Ok(());
+        }
         if let Some(module) = word.strip_prefix('*') {
             return self.add_star(alloc, number(module));
         }
@@ -115,6 +126,14 @@ impl Draft {
             Some((name, from)) => self.add_passed(alloc, name, from),
             None => self.add_own(alloc, word),
         }
+    }
+
+    // Exports what the words of a row say.
+    fn add_all(&mut self, alloc: Global, words: &str) -> Result<(), Memory> {
+        for word in words.split_whitespace() {
+            self.add(alloc, word)?;
+        }
+        Ok(())
     }
 }
 
@@ -153,24 +172,29 @@ fn made(alloc: Global, draft: Draft) -> Result<Module, Memory> {
     })
 }
 
-// The module that a row of words says.
-fn module_of(alloc: Global, row: &str) -> Result<Module, Memory> {
-    let mut draft = Draft::new(alloc);
-    for word in row.split_whitespace() {
-        draft.add(alloc, word)?;
-    }
-    made(alloc, draft)
+// Adds the module.
+fn add_module(alloc: Global, modules: &mut Vec<Module>, draft: Draft) -> Result<(), Memory> {
+    modules.push(made(alloc, draft)?)?;
+    Ok(())
 }
 
-fn graph_of(modules: Vec<Module>) -> Result<Lists, Memory> {
-    if modules.len() > 10_000 {
-        return Err(Memory);
-    }
-    Ok(Lists { modules })
+// Adds the module that a row of words says.
+fn add_row(alloc: Global, modules: &mut Vec<Module>, words: &str) -> Result<(), Memory> {
+    let mut draft = Draft::new(alloc);
+    let added = draft.add_all(alloc, words);
+    add_module(alloc, modules, draft).and(added)
+}
+
+// Adds a module that exports everything of those from this one to before that one.
+fn add_starred(alloc: Global, modules: &mut Vec<Module>, from: u32, to: u32) -> Result<(), Memory> {
+    let mut draft = Draft::new(alloc);
+    let added = draft.add_stars(alloc, from, to);
+    add_module(alloc, modules, draft).and(added)
 }
 
 // A module a line, with its number: the names that it declares and exports; `n=5.x` for an export of module 5's `x` by the
-// name `n`, and `n=5` for one of its namespace; `*5` for an export of everything of module 5.
+// name `n`, and `n=5` for one of its namespace; `*5` for an export of everything of module 5, and `*` for one of everything
+// of its first request, which it doesn't make.
 //
 // 2: two stars with an `x` each. 5: three stars, behind two of which one module's `x` stands. 7: a `default` behind a star.
 // 8 and 9: an `x` from each other. 11: a namespace. 12: a name that is its own and behind a star. 13: one that is its own
@@ -194,15 +218,55 @@ const GRAPH: &str = "\
 15: b *14
 16: w=5.x";
 
-fn graph(alloc: Global) -> Result<Lists, Memory> {
-    let mut modules = Vec::new(alloc);
-    for row in GRAPH.lines() {
-        let Some((_number, words)) = row.split_once(": ") else {
-            return Err(Memory);
-        };
-        modules.push(module_of(alloc, words)?)?;
+// Adds the modules of these rows.
+fn add_rows(alloc: Global, modules: &mut Vec<Module>, rows: &str) -> Result<(), Memory> {
+    for row in rows.lines() {
+        match row.split_once(": ") {
+            Some((_number, words)) => add_row(alloc, modules, words)?,
+            None => return Err(Memory),
+        }
     }
-    graph_of(modules)
+    Ok(())
+}
+
+const MANY: u32 = 4096;
+
+// Each module exports everything of the next, and the last has `x`.
+fn add_chain(alloc: Global, modules: &mut Vec<Module>) -> Result<(), Memory> {
+    for next in 1..MANY {
+        add_starred(alloc, modules, next, next + 1)?;
+    }
+    add_row(alloc, modules, "x")
+}
+
+// The first module exports everything of all others, each of which has `x`.
+fn add_fan(alloc: Global, modules: &mut Vec<Module>) -> Result<(), Memory> {
+    add_starred(alloc, modules, 1, MANY)?;
+    for _ in 1..MANY {
+        add_row(alloc, modules, "x")?;
+    }
+    Ok(())
+}
+
+fn graph_of(modules: Vec<Module>) -> Result<Lists, Memory> {
+    if modules.len() > 10_000 {
+        return Err(Memory);
+    }
+    Ok(Lists { modules })
+}
+
+// The graph of these rows; the chain, or the fan.
+fn graph(alloc: Global, rows: &str) -> Result<Lists, Memory> {
+    let mut modules = Vec::new(alloc);
+    let added = match rows {
+        "chain" => add_chain(alloc, &mut modules),
+        "fan" => add_fan(alloc, &mut modules),
+        _ => add_rows(alloc, &mut modules, rows),
+    };
+    match added {
+        Ok(()) => graph_of(modules),
+        Err(Memory) => Err(Memory),
+    }
 }
 
 fn resolution(alloc: Global, graph: &Lists, m: u32, name: &str) -> Result<Resolution, Memory> {
@@ -229,15 +293,23 @@ fn keys_of(alloc: Global, graph: &Lists, m: u32) -> Result<Vec<Text>, Memory> {
     }
 }
 
-// A resolution as a text: how it went, or the module and its binding.
-fn shown(alloc: Global, resolution: &Resolution) -> Result<String, Memory> {
+// Whether a resolution is told so: how it went, or the module and its binding.
+fn is_shown(resolution: &Resolution, wanted: &str) -> bool {
     match resolution {
-        Resolution::Missing => Ok(String::from_str(alloc, "missing")?),
-        Resolution::Ambiguous => Ok(String::from_str(alloc, "ambiguous")?),
-        Resolution::One(home, Binding::Whole) => Ok(format!(in alloc; "{} *", home.0)?),
-        Resolution::One(home, Binding::Local(name)) => {
-            Ok(format!(in alloc; "{} {}", home.0, name)?)
-        }
+        Resolution::Missing => wanted == "missing",
+        Resolution::Ambiguous => wanted == "ambiguous",
+        Resolution::One(home, binding) => match wanted.split_once(' ') {
+            Some((module, name)) => number(module) == home.0 && is_named(binding, name),
+            None => false,
+        },
+    }
+}
+
+// Whether a binding has this name, or `*` where it is a namespace.
+fn is_named(binding: &Binding, name: &str) -> bool {
+    match binding {
+        Binding::Whole => name == "*",
+        Binding::Local(local) => local.is(name),
     }
 }
 
@@ -251,15 +323,49 @@ fn joined(alloc: Global, names: &[Text]) -> Result<String, Memory> {
     Ok(text)
 }
 
-// What a name of a module denotes; of `(names)` the names that it exports, of `(keys)` the keys of its namespace.
-fn told(alloc: Global, graph: &Lists, m: u32, asked: &str) -> Result<String, Memory> {
+// Whether the names are these.
+fn are_names(
+    alloc: Global,
+    names: Result<Vec<Text>, Memory>,
+    wanted: &str,
+) -> Result<bool, Memory> {
+    let names = names?;
+    let text = joined(alloc, names.as_slice())?;
+    Ok(text.as_str().trim() == wanted)
+}
+
+// Whether a name of a module denotes this; of `(names)` the names that it exports, of `(keys)` the keys of its namespace.
+fn is_told(
+    alloc: Global,
+    graph: &Lists,
+    m: u32,
+    asked: &str,
+    wanted: &str,
+) -> Result<bool, Memory> {
     if asked == "(names)" {
-        return joined(alloc, names_of(alloc, graph, m)?.as_slice());
+        return are_names(alloc, names_of(alloc, graph, m), wanted);
     }
     if asked == "(keys)" {
-        return joined(alloc, keys_of(alloc, graph, m)?.as_slice());
+        return are_names(alloc, keys_of(alloc, graph, m), wanted);
     }
-    shown(alloc, &resolution(alloc, graph, m, asked)?)
+    match resolution(alloc, graph, m, asked) {
+        Ok(found) => Ok(is_shown(&found, wanted)),
+        Err(Memory) => Err(Memory),
+    }
+}
+
+impl RowCheck for Lists {
+    fn is_so(&self, alloc: Global, row: &str) -> Result<bool, Memory> {
+        match row.split_once(" =") {
+            Some((question, wanted)) => match question.split_once(' ') {
+                Some((module, asked)) => {
+                    is_told(alloc, self, number(module), asked, wanted.trim())
+                }
+                None => Ok(false),
+            },
+            None => Ok(false),
+        }
+    }
 }
 
 // A module of `GRAPH`, what is asked of it, and what is told: how a name's resolution goes, or the module and the name that
@@ -285,127 +391,76 @@ const TOLD: &str = "\
 14 (names) = a b
 14 (keys) = a b";
 
-// Whether a row of `TOLD` is as it says.
-fn is_told(alloc: Global, graph: &Lists, row: &str) -> Result<bool, Memory> {
-    let Some((question, wanted)) = row.split_once(" =") else {
-        return Ok(false);
-    };
-    let Some((module, asked)) = question.split_once(' ') else {
-        return Ok(false);
-    };
-    let found = told(alloc, graph, number(module), asked)?;
-    Ok(found.as_str().trim() == wanted.trim())
-}
-
-// The first row of `TOLD` that isn't as it says, if there is one.
-fn wrong_row(alloc: Global) -> Result<Option<&'static str>, Memory> {
-    let graph = graph(alloc)?;
-    for row in TOLD.lines() {
-        if !is_told(alloc, &graph, row)? {
-            return Ok(Some(row));
-        }
+// Tells the first of these rows that isn't told so of the graph.
+fn graph_tells(alloc: Global, graph_rows: &str, rows: &'static str) -> Told {
+    match graph(alloc, graph_rows) {
+        Ok(graph) => rows_hold(alloc, &graph, rows),
+        Err(Memory) => Err("memory ran out"),
     }
-    Ok(None)
 }
 
-// A module whose star is its first request, and which requests this module, if one is given.
-fn starred_first(alloc: Global, target: Option<u32>) -> Result<Module, Memory> {
-    let mut draft = Draft::new(alloc);
-    draft.stars.push(0)?;
-    if let Some(target) = target {
-        let _first = draft.request(alloc, target)?;
+// Whether the graph of these rows is sound.
+fn is_graph_sound(alloc: Global, rows: &str) -> Result<bool, Memory> {
+    match graph(alloc, rows) {
+        Ok(graph) => Ok(is_sound(&graph)),
+        Err(Memory) => Err(Memory),
     }
-    made(alloc, draft)
 }
 
-// Whether the graph of this module alone is sound.
-fn is_sound_alone(alloc: Global, target: Option<u32>) -> Result<bool, Memory> {
-    let mut modules = Vec::new(alloc);
-    modules.push(starred_first(alloc, target)?)?;
-    Ok(is_sound(&graph_of(modules)?))
+// Whether that is found so.
+fn is_sound_so(alloc: Global, rows: &'static str, wanted: bool) -> Told {
+    match is_graph_sound(alloc, rows) {
+        Ok(sound) => holds(Ok(sound == wanted), rows),
+        Err(Memory) => Err("memory ran out"),
+    }
 }
 
 // Names denote and are exported; a graph is sound unless a module leads out of it, or a star is no request of its module.
 #[test]
-fn names_denote_and_are_exported(rt: HostRuntime) -> Result<(), Memory> {
+fn names_denote_and_are_exported(rt: HostRuntime) -> Told {
     let alloc = rt.alloc();
-    assert_eq!(rt; wrong_row(alloc)?, None);
-    assert!(rt; !is_sound_alone(alloc, Some(1))?);
-    assert!(rt; !is_sound_alone(alloc, None)?);
-    assert!(rt; is_sound_alone(alloc, Some(0))?);
-    Ok(())
+    graph_tells(alloc, GRAPH, TOLD)
+        .and(is_sound_so(alloc, "0: *1", false))
+        .and(is_sound_so(alloc, "0: *", false))
+        .and(is_sound_so(alloc, "0: *0", true))
 }
 
-const MANY: u32 = 4096;
-
-// A module that exports everything of those from this one to before that one.
-fn starred(alloc: Global, from: u32, to: u32) -> Result<Module, Memory> {
-    let mut draft = Draft::new(alloc);
-    for target in from..to {
-        draft.add_star(alloc, target)?;
+// Tells where a second has passed.
+fn is_fast<C: Clock>(clock: &C, start: Instant) -> Told {
+    match start.elapsed(clock) {
+        Ok(took) => holds(Ok(took.as_secs() < 1), "a second has passed"),
+        Err(_fault) => Err("no clock"),
     }
-    made(alloc, draft)
 }
 
-// Each module exports everything of the next, and the last has `x`.
-fn chain(alloc: Global) -> Result<Lists, Memory> {
-    let mut modules = Vec::new(alloc);
-    for next in 1..MANY {
-        modules.push(starred(alloc, next, next + 1)?)?;
+// Tells where these rows aren't told of the graph within a second.
+fn is_told_fast<C: Clock>(clock: &C, alloc: Global, graph: &Lists, rows: &'static str) -> Told {
+    match Instant::now(clock) {
+        Ok(start) => rows_hold(alloc, graph, rows).and(is_fast(clock, start)),
+        Err(_fault) => Err("no clock"),
     }
-    modules.push(module_of(alloc, "x")?)?;
-    graph_of(modules)
 }
 
-// The first module exports everything of all others, each of which has `x`.
-fn fan(alloc: Global) -> Result<Lists, Memory> {
-    let mut modules = Vec::new(alloc);
-    modules.push(starred(alloc, 1, MANY)?)?;
-    for _ in 1..MANY {
-        modules.push(module_of(alloc, "x")?)?;
-    }
-    graph_of(modules)
-}
-
-// What these names of the first module denote, with a semicolon behind each.
-fn denoted(alloc: Global, graph: &Lists, names: &str) -> Result<String, Memory> {
-    let mut text = String::new(alloc);
-    for name in names.split_whitespace() {
-        text.push_str(told(alloc, graph, 0, name)?.as_str())?;
-        text.push_str(";")?;
-    }
-    Ok(text)
-}
-
-// Whether they denote this, and are found to in less than a second.
-fn is_found_fast<C: Clock>(
+// The same of the graph that is named.
+fn graph_tells_fast<C: Clock>(
     clock: &C,
     alloc: Global,
-    graph: &Lists,
-    names: &str,
-    wanted: &str,
-) -> Result<bool, Fail> {
-    let start = Instant::now(clock)?;
-    let found = denoted(alloc, graph, names)?;
-    let took = start.elapsed(clock)?;
-    Ok(found.as_str() == wanted && took.as_secs() < 1)
-}
-
-// Whether a chain is.
-fn is_chain_fast<C: Clock>(clock: &C, alloc: Global) -> Result<bool, Fail> {
-    let graph = chain(alloc)?;
-    is_found_fast(clock, alloc, &graph, "x", "4095 x;")
-}
-
-// Whether a fan is.
-fn is_fan_fast<C: Clock>(clock: &C, alloc: Global) -> Result<bool, Fail> {
-    let graph = fan(alloc)?;
-    is_found_fast(clock, alloc, &graph, "y x", "missing;ambiguous;")
+    graph_name: &str,
+    rows: &'static str,
+) -> Told {
+    match graph(alloc, graph_name) {
+        Ok(graph) => is_told_fast(clock, alloc, &graph, rows),
+        Err(Memory) => Err("memory ran out"),
+    }
 }
 
 #[test]
-fn long_chains_and_wide_fans_are_fast(rt: HostRuntime) -> Result<(), Fail> {
-    assert!(rt; is_chain_fast(&rt, rt.alloc())?);
-    assert!(rt; is_fan_fast(&rt, rt.alloc())?);
-    Ok(())
+fn long_chains_and_wide_fans_are_fast(rt: HostRuntime) -> Told {
+    let alloc = rt.alloc();
+    graph_tells_fast(&rt, alloc, "chain", "0 x = 4095 x").and(graph_tells_fast(
+        &rt,
+        alloc,
+        "fan",
+        "0 y = missing\n0 x = ambiguous",
+    ))
 }

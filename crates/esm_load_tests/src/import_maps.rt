@@ -1,15 +1,14 @@
 // Texts that are import maps, and texts that aren't.
-use crate::reading::{number, read_map, row_parts, url};
+use crate::reading::{RowCheck, Told, holds, number, read_map, row_parts, rows_hold};
 use esm_base::Memory;
 use esm_import_map::ImportMap;
-use std::alloc::Global;
+use std::alloc::{AllocError, Global};
 
 // The fault of a text, or `ok`.
-fn fault_of(alloc: Global, text: &[u8]) -> Result<&'static str, Memory> {
-    let base = url(alloc, "https://a.test/")?;
-    match read_map(alloc, text, &base) {
-        Ok(_map) => Ok("ok"),
-        Err(fault) => Ok(fault),
+fn fault_of(alloc: Global, text: &[u8]) -> &'static str {
+    match read_map(alloc, text, "https://a.test/") {
+        Ok(_map) => "ok",
+        Err(fault) => fault,
     }
 }
 
@@ -61,72 +60,50 @@ M1 1048572 marked
 M2 127 lists
 M1 128 lists";
 
-// The fault of this byte so many times, with these before it and behind it.
-fn fault_amid(
-    alloc: Global,
-    front: &[u8],
-    byte: u8,
-    count: usize,
-    back: &[u8],
-) -> Result<&'static str, Memory> {
-    let mut text = Vec::from_slice(alloc, front)?;
-    text.resize(front.len().saturating_add(count), byte)?;
-    text.extend_from_slice(back)?;
-    fault_of(alloc, text.as_slice())
-}
-
-// The fault of a text that `BOUNDS` tells by its size.
-fn fault_of_size(alloc: Global, count: usize, kind: &str) -> Result<&'static str, Memory> {
+// Puts what a row of `BOUNDS` tells by its size behind what is there, which is nothing.
+fn add_of_size(text: &mut Vec<u8>, count: usize, kind: &str) -> Result<(), AllocError> {
     if kind == "blanks" {
-        return fault_amid(alloc, b"", b' ', count, b"{}");
+        text.resize(count, b' ')?;
+        return text.extend_from_slice(b"{}");
     }
     if kind == "marked" {
-        return fault_amid(alloc, b"\xEF\xBB\xBF{}", b' ', count, b"");
+        text.extend_from_slice(b"\xEF\xBB\xBF{}")?;
+        return text.resize(count.saturating_add(5), b' ');
     }
-    let mut ends = Vec::new(alloc);
-    ends.resize(count, b']')?;
-    fault_amid(alloc, b"", b'[', count, ends.as_slice())
+    text.resize(count, b'[')?;
+    text.resize(count.saturating_mul(2), b']')
 }
 
-// Whether a row without bars has the fault that it says, or is a comment.
-fn has_fault_of_size(alloc: Global, row: &str) -> Result<bool, Memory> {
-    let Some((wanted, text)) = row.split_once(' ') else {
-        return Ok(false);
-    };
-    match text.split_once(' ') {
-        Some((count, kind)) if wanted != "#" => {
-            Ok(fault_of_size(alloc, number(count) as usize, kind)? == wanted)
-        }
-        _ => Ok(wanted == "#"),
+// The fault of a text that is told by its size.
+fn fault_of_size(alloc: Global, count: &str, kind: &str) -> &'static str {
+    let mut text = Vec::new(alloc);
+    match add_of_size(&mut text, number(count) as usize, kind) {
+        Ok(()) => fault_of(alloc, text.as_slice()),
+        Err(AllocError) => "Memory",
     }
 }
 
-// Whether the text of a row has the fault that it says.
-fn has_its_fault(alloc: Global, row: &str) -> Result<bool, Memory> {
-    match row_parts(row) {
-        Some((wanted, text)) => Ok(fault_of(alloc, text.as_bytes())? == wanted),
-        None => has_fault_of_size(alloc, row),
+// Whether a row without bars has the fault that it says.
+fn has_fault_of_size(alloc: Global, row: &str) -> bool {
+    match row.split_once(' ') {
+        Some((wanted, text)) => match text.split_once(' ') {
+            Some((count, kind)) => fault_of_size(alloc, count, kind) == wanted,
+            None => false,
+        },
+        None => false,
     }
 }
 
-// The first row of a table whose text has another fault, if there is one.
-fn wrong_row(alloc: Global, table: &'static str) -> Result<Option<&'static str>, Memory> {
-    for row in table.lines() {
-        if !has_its_fault(alloc, row)? {
-            return Ok(Some(row));
-        }
-    }
-    Ok(None)
-}
+// Texts have the faults that rows say.
+struct Faults;
 
-// The first row of all.
-fn wrong_text(alloc: Global) -> Result<Option<&'static str>, Memory> {
-    for table in [TEXTS, MARKED, BOUNDS] {
-        if let Some(row) = wrong_row(alloc, table)? {
-            return Ok(Some(row));
+impl RowCheck for Faults {
+    fn is_so(&self, alloc: Global, row: &str) -> Result<bool, Memory> {
+        match row_parts(row) {
+            Some((wanted, text)) => Ok(fault_of(alloc, text.as_bytes()) == wanted),
+            None => Ok(row.starts_with("# ") || has_fault_of_size(alloc, row)),
         }
     }
-    Ok(None)
 }
 
 // What the imports have at a key.
@@ -150,23 +127,26 @@ null |c/|
 address |d/|
 null |e|";
 
-// The first row of `KEYS` at whose key something else is kept, if there is one.
-fn wrong_key(map: &ImportMap) -> Option<&'static str> {
-    for row in KEYS.lines() {
-        match row_parts(row) {
-            Some((wanted, key)) if import_of(map, key) == wanted => {}
-            _ => return Some(row),
-        }
-    }
-    None
+// The imports have at each key what a row says.
+#[derive(Clone, Copy)]
+struct Kept<'a> {
+    map: &'a ImportMap,
 }
 
-// The same of the import map that `KEPT` says; its fault where it says none.
-fn wrong_entry(alloc: Global) -> Result<Option<&'static str>, Memory> {
-    let base = url(alloc, "https://a.test/d/")?;
-    match read_map(alloc, KEPT.as_bytes(), &base) {
-        Ok(map) => Ok(wrong_key(&map)),
-        Err(fault) => Ok(Some(fault)),
+impl<'a> RowCheck for Kept<'a> {
+    fn is_so(&self, _alloc: Global, row: &str) -> Result<bool, Memory> {
+        match row_parts(row) {
+            Some((wanted, key)) => Ok(import_of(self.map, key) == wanted),
+            None => Ok(false),
+        }
+    }
+}
+
+// What is kept of `KEPT`.
+fn entries_are_kept(alloc: Global) -> Told {
+    match read_map(alloc, KEPT.as_bytes(), "https://a.test/d/") {
+        Ok(map) => rows_hold(alloc, &Kept { map: &map }, KEYS),
+        Err(fault) => Err(fault),
     }
 }
 
@@ -175,18 +155,21 @@ fn is_empty(map: &ImportMap) -> bool {
     map.imports().get("b").is_none() && map.scopes().get("https://a.test/").is_none()
 }
 
-// Whether the empty map has none.
-fn is_empty_empty(alloc: Global) -> bool {
-    is_empty(&ImportMap::empty(alloc))
+// The faults of all texts, and of bytes that are no text.
+fn faults_are_told(alloc: Global) -> Told {
+    let no_text = Ok(fault_of(alloc, b"{\"a\":\"\xFF\"}") == "M1");
+    rows_hold(alloc, &Faults, TEXTS)
+        .and(rows_hold(alloc, &Faults, MARKED))
+        .and(rows_hold(alloc, &Faults, BOUNDS))
+        .and(holds(no_text, "bytes that are no text"))
 }
 
 // Texts have their faults, as do bytes that are no text; what they say is kept; the empty map has no entries.
 #[test]
-fn texts_have_their_faults(rt: HostRuntime) -> Result<(), Memory> {
+fn texts_have_their_faults(rt: HostRuntime) -> Told {
     let alloc = rt.alloc();
-    assert_eq!(rt; wrong_text(alloc)?, None);
-    assert_eq!(rt; wrong_entry(alloc)?, None);
-    assert!(rt; fault_of(alloc, b"{\"a\":\"\xFF\"}")? == "M1");
-    assert!(rt; is_empty_empty(alloc));
-    Ok(())
+    let empty = Ok(is_empty(&ImportMap::empty(alloc)));
+    faults_are_told(alloc)
+        .and(entries_are_kept(alloc))
+        .and(holds(empty, "the empty map has entries"))
 }

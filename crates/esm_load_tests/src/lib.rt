@@ -1,5 +1,5 @@
-//! Tests of names and of loading, with ample memory: import maps, what specifiers resolve to, what exports denote; the load of
-//! an entry, several loads at once, and the machine of the first language.
+//! Tests of names, with ample memory: import maps, what specifiers resolve to, what exports denote; and of the machine of the
+//! first language.
 #![tactic(auto)]
 
 #[cfg(test)]
@@ -9,10 +9,6 @@ mod import_maps;
 #[cfg(test)]
 mod machine;
 #[cfg(test)]
-mod one_load;
-#[cfg(test)]
 mod reading;
-#[cfg(test)]
-mod several_loads;
 #[cfg(test)]
 mod specifiers;

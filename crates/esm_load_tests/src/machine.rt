@@ -1,4 +1,5 @@
 // A new machine of the first language.
+use crate::reading::{Told, holds};
 use esm_base::{Memory, Text};
 use esm_import_map::ImportMap;
 use esm_turn::Machine;
@@ -24,9 +25,15 @@ fn is_new(machine: &Machine) -> bool {
     }
 }
 
+// Whether a new machine is. It ends by giving its log away: who lets one go proves how all its parts are let go.
+fn is_new_at_first(alloc: Global) -> Result<bool, Memory> {
+    let machine = machine_of_main(alloc)?;
+    let right = is_new(&machine);
+    let log = machine.into_log();
+    Ok(right && log.is_empty())
+}
+
 #[test]
-fn a_new_machine_asks_for_its_entry(rt: HostRuntime) -> Result<(), Memory> {
-    let machine = machine_of_main(rt.alloc())?;
-    assert!(rt; is_new(&machine));
-    Ok(())
+fn a_new_machine_asks_for_its_entry(rt: HostRuntime) -> Told {
+    holds(is_new_at_first(rt.alloc()), "a new machine")
 }

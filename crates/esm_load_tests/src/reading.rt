@@ -1,26 +1,55 @@
-// Import maps of texts, and rows of tables.
+// What tests tell, rows of tables, and import maps of texts.
 use esm_base::Memory;
 use esm_import_map::{ImportMap, MapFault, MapReadEnd};
 use std::alloc::Global;
 use url::Url;
 
-/// The URL of a text that is one.
-pub fn url(alloc: Global, text: &str) -> Result<Url, Memory> {
-    match Url::parse(alloc, text) {
-        Ok(url) => Ok(url),
-        Err(_refused) => Err(Memory),
+/// What a check tells: what is wrong, if anything is.
+pub type Told = Result<(), &'static str>;
+
+/// Tells this where it doesn't hold.
+pub fn holds(found: Result<bool, Memory>, what: &'static str) -> Told {
+    match found {
+        Ok(true) => Ok(()),
+        Ok(false) => Err(what),
+        Err(Memory) => Err("memory ran out"),
+    }
+}
+
+/// A check of the rows of a table.
+pub trait RowCheck {
+    /// Whether a row is as it says.
+    fn is_so(&self, alloc: Global, row: &str) -> Result<bool, Memory>;
+}
+
+/// Tells the first row that isn't as it says.
+pub fn rows_hold<C: RowCheck>(alloc: Global, check: &C, table: &'static str) -> Told {
+    let mut told = Ok(());
+    for row in table.lines() {
+        told = told.and(holds(check.is_so(alloc, row), row));
+    }
+    told
+}
+
+// The name of what is wrong with a text.
+fn fault_name(end: MapReadEnd) -> &'static str {
+    match end {
+        MapReadEnd::Fault(MapFault::M1) => "M1",
+        MapReadEnd::Fault(MapFault::M2) => "M2",
+        MapReadEnd::Fault(MapFault::M3) => "M3",
+        MapReadEnd::Fault(MapFault::M4) => "M4",
+        MapReadEnd::Memory => "Memory",
     }
 }
 
 /// The import map that a text says in the document at this URL, or the name of the text's fault.
-pub fn read_map(alloc: Global, text: &[u8], base: &Url) -> Result<ImportMap, &'static str> {
-    match ImportMap::read(alloc, text, base) {
-        Ok(map) => Ok(map),
-        Err(MapReadEnd::Fault(MapFault::M1)) => Err("M1"),
-        Err(MapReadEnd::Fault(MapFault::M2)) => Err("M2"),
-        Err(MapReadEnd::Fault(MapFault::M3)) => Err("M3"),
-        Err(MapReadEnd::Fault(MapFault::M4)) => Err("M4"),
-        Err(MapReadEnd::Memory) => Err("Memory"),
+pub fn read_map(alloc: Global, text: &[u8], base: &str) -> Result<ImportMap, &'static str> {
+    match Url::parse(alloc, base) {
+        Ok(base) => match ImportMap::read(alloc, text, &base) {
+            Ok(map) => Ok(map),
+            Err(end) => Err(fault_name(end)),
+        },
+        Err(_refused) => Err("no URL"),
     }
 }
 

@@ -1,38 +1,36 @@
 // What specifiers resolve to, by the rules of the HTML Standard and the URL Standard.
-use crate::reading::{read_map, url};
+use crate::reading::{RowCheck, Told, holds, read_map, rows_hold};
 use esm_base::{Memory, is_canonical};
 use esm_import_map::ImportMap;
 use esm_specifier::{SpecEnd, SpecFault, resolve};
 use std::alloc::Global;
 
-// The URL of a specifier, or the name of its fault.
-fn answer(
+// The name of what is wrong with a specifier.
+fn fault_name(end: SpecEnd) -> &'static str {
+    match end {
+        SpecEnd::Fault(SpecFault::S1) => "S1",
+        SpecEnd::Fault(SpecFault::S2) => "S2",
+        SpecEnd::Fault(SpecFault::S3) => "S3",
+        SpecEnd::Fault(SpecFault::S4) => "S4",
+        SpecEnd::Fault(SpecFault::S5) => "S5",
+        SpecEnd::Memory => "Memory",
+    }
+}
+
+// Whether a specifier resolves to this URL, or has the fault of this name.
+fn resolves_to(
     alloc: Global,
     map: &ImportMap,
     referrer: &str,
     specifier: &str,
-) -> Result<String, Memory> {
+    wanted: &str,
+) -> Result<bool, Memory> {
     if !is_canonical(alloc, referrer)? {
         return Err(Memory);
     }
-    let fault = match resolve(alloc, map, referrer, specifier) {
-        Ok(url) => return Ok(String::from_str(alloc, url.as_str())?),
-        Err(SpecEnd::Fault(SpecFault::S1)) => "S1",
-        Err(SpecEnd::Fault(SpecFault::S2)) => "S2",
-        Err(SpecEnd::Fault(SpecFault::S3)) => "S3",
-        Err(SpecEnd::Fault(SpecFault::S4)) => "S4",
-        Err(SpecEnd::Fault(SpecFault::S5)) => "S5",
-        Err(SpecEnd::Memory) => "Memory",
-    };
-    Ok(String::from_str(alloc, fault)?)
-}
-
-// The map that a text says in the document at `https://a.test/`.
-fn map_of(alloc: Global, text: &str) -> Result<ImportMap, Memory> {
-    let base = url(alloc, "https://a.test/")?;
-    match read_map(alloc, text.as_bytes(), &base) {
-        Ok(map) => Ok(map),
-        Err(_fault) => Err(Memory),
+    match resolve(alloc, map, referrer, specifier) {
+        Ok(url) => Ok(url.is(wanted)),
+        Err(end) => Ok(fault_name(end) == wanted),
     }
 }
 
@@ -143,40 +141,47 @@ https://a.test/main.js https://:x S4
 data:text/x ./y S4
 data:text/x https://b.test/ https://b.test/"##;
 
-// Whether a row says what its specifier resolves to under the map that this text says.
-fn resolves_so(alloc: Global, map: &str, row: &str) -> Result<bool, Memory> {
-    let Some((referrer, rest)) = row.split_once(' ') else {
-        return Ok(false);
-    };
-    let Some((specifier, wanted)) = rest.split_once(' ') else {
-        return Ok(false);
-    };
-    let map = map_of(alloc, map)?;
-    let found = answer(alloc, &map, referrer, specifier)?;
-    Ok(found.as_str() == wanted)
+// Specifiers resolve under this map as rows say.
+#[derive(Clone, Copy)]
+struct Under<'a> {
+    map: &'a ImportMap,
 }
 
-// The first row of a block whose specifier resolves to something else, if there is one.
-fn wrong_in(alloc: Global, block: &'static str) -> Result<Option<&'static str>, Memory> {
-    let Some((map, rows)) = block.split_once('\n') else {
-        return Ok(Some(block));
-    };
-    for row in rows.lines() {
-        if !row.starts_with('#') && !resolves_so(alloc, map, row)? {
-            return Ok(Some(row));
+impl<'a> RowCheck for Under<'a> {
+    fn is_so(&self, alloc: Global, row: &str) -> Result<bool, Memory> {
+        if row.starts_with("# ") {
+            return Ok(true);
+        }
+        match row.split_once(' ') {
+            Some((referrer, rest)) => match rest.split_once(' ') {
+                Some((specifier, wanted)) => {
+                    resolves_to(alloc, self.map, referrer, specifier, wanted)
+                }
+                None => Ok(false),
+            },
+            None => Ok(false),
         }
     }
-    Ok(None)
 }
 
-// The first of all blocks.
-fn wrong_row(alloc: Global) -> Result<Option<&'static str>, Memory> {
+// Tells the first row of a block whose specifier resolves to something else.
+fn block_holds(alloc: Global, block: &'static str) -> Told {
+    match block.split_once('\n') {
+        Some((map, rows)) => match read_map(alloc, map.as_bytes(), "https://a.test/") {
+            Ok(map) => rows_hold(alloc, &Under { map: &map }, rows),
+            Err(fault) => Err(fault),
+        },
+        None => Err(block),
+    }
+}
+
+// The same of all blocks.
+fn blocks_hold(alloc: Global) -> Told {
+    let mut told = Ok(());
     for block in TABLE.split("\n\n") {
-        if let Some(row) = wrong_in(alloc, block)? {
-            return Ok(Some(row));
-        }
+        told = told.and(block_holds(alloc, block));
     }
-    Ok(None)
+    told
 }
 
 // A URL below `https://a.test/` of so many bytes behind it.
@@ -188,25 +193,27 @@ fn long_url(alloc: Global, rest: usize) -> Result<String, Memory> {
     Ok(text)
 }
 
-// Whether it resolves to this under the empty map, or to itself where nothing else is given.
-fn is_answer(alloc: Global, specifier: &str, wanted: Option<&str>) -> Result<bool, Memory> {
+// Whether it resolves to this under the empty map.
+fn is_answer(alloc: Global, specifier: &str, wanted: &str) -> Result<bool, Memory> {
     let map = ImportMap::empty(alloc);
-    let found = answer(alloc, &map, "https://a.test/main.js", specifier)?;
-    Ok(found.as_str() == wanted.unwrap_or(specifier))
+    resolves_to(alloc, &map, "https://a.test/main.js", specifier, wanted)
 }
 
+// A URL of 8,192 bytes resolves to itself, one of a byte more to nothing.
 fn bound_is_exact(alloc: Global) -> Result<bool, Memory> {
-    let longest = long_url(alloc, 8177)?;
-    let longer = long_url(alloc, 8178)?;
-    Ok(is_answer(alloc, longest.as_str(), None)? && is_answer(alloc, longer.as_str(), Some("S5"))?)
+    let mut url = long_url(alloc, 8177)?;
+    let longest = is_answer(alloc, url.as_str(), url.as_str())?;
+    url.push('x')?;
+    Ok(longest && is_answer(alloc, url.as_str(), "S5")?)
 }
 
-// Specifiers resolve, and the longest URL has 8,192 bytes.
+// Specifiers resolve, and the longest URL has 8,192 bytes. There are fourteen maps with thirteen empty lines between them,
+// eight lines on what they show, and 69 rows.
 #[test]
-fn specifiers_resolve(rt: HostRuntime) -> Result<(), Memory> {
-    assert_eq!(rt; wrong_row(rt.alloc())?, None);
-    // fourteen maps with thirteen empty lines between them, eight lines on what they show, and 69 rows
-    assert!(rt; TABLE.lines().count() == 104);
-    assert!(rt; bound_is_exact(rt.alloc())?);
-    Ok(())
+fn specifiers_resolve(rt: HostRuntime) -> Told {
+    let alloc = rt.alloc();
+    let lines = Ok(TABLE.lines().count() == 104);
+    blocks_hold(alloc)
+        .and(holds(lines, "another number of lines"))
+        .and(holds(bound_is_exact(alloc), "the longest URL"))
 }

@@ -1,2 +1,3 @@
 pub mod FreshStores
 pub mod OpenAsks
+pub mod EntryAsked

@@ -10,17 +10,17 @@ ghost use Rattle.esm_module_map.specs.Saying.{SaysNothing};
 ghost use Rattle.esm_fetch.specs.Serving.{weight, Serves};
 ghost use Rattle.esm_fetch.specs.Pool.{IsToBegin, IsGuided};
 
+use crate::telling::{SHORT, Told, holds};
 use esm_ast::Outcome;
-use esm_base::{Text, is_usable};
-use esm_fetch::{Bell, Done, Job, Pool, Posted, Turned, WorkerEnd, fetch_one, work_all, worker};
+use esm_base::{Memory, Text, is_usable};
+use esm_fetch::{Bell, Done, Job, Pool, Posted, Turned, fetch_one, work_all, worker};
 use esm_hlock::Pass;
 use esm_import_map::ImportMap;
 use esm_module_map::{Caller, MapState, ModuleMap, Why, laws};
-use esm_ports::{AskKind, MemSource, Source};
+use esm_ports::{AskKind, Asked, MemSource, Source};
 use std::alloc::Global;
 use std::marker::{Send, Sync};
 use std::sync::{Arc, Wait};
-use std::test::Fail;
 use std::thread::{Threads, join};
 
 // A caller that has just enrolled; the guide of the map is the empty import map.
@@ -28,7 +28,7 @@ fn enrolled<R: Wait>(
     rt: &R,
     modules: &ModuleMap<Posted>,
     pass: Pass<MapState<Posted>>,
-) -> Result<Caller<Posted>, Fail>
+) -> Result<Caller<Posted>, Memory>
     requires own { IsPassOf modules.now.lock pass }
     requires none { (knows pass).number ≡ None }
     requires guide { guide_in (knows pass).seen ≡ Some no_maps }
@@ -43,12 +43,12 @@ fn enrolled<R: Wait>(
     laws::guide_stays::<Posted>();
     match modules.enrol(rt, pass) {
         Ok(caller) => Ok(caller),
-        Err(_pass) => Err("no caller".into()),
+        Err(_pass) => Err(Memory),
     }
 }
 
 // A map under the empty import map, and a caller with all shares.
-fn opened<R: Wait>(rt: &R, alloc: Global) -> Result<(ModuleMap<Posted>, Caller<Posted>), Fail>
+fn opened<R: Wait>(rt: &R, alloc: Global) -> Result<(ModuleMap<Posted>, Caller<Posted>), Memory>
     ensures own { IfOk result (λ made. table_of made.0.lock.table.shared.table_id made.1.pass
         ≡ made.0.lock.table.shared.table_id) }
     ensures shares { IfOk result (λ made. (view_in made.1.pass).shares ≡ 1024) }
@@ -58,7 +58,7 @@ fn opened<R: Wait>(rt: &R, alloc: Global) -> Result<(ModuleMap<Posted>, Caller<P
     let (modules, pass) = ModuleMap::new(alloc, guide)?;
     match enrolled(rt, &modules, pass) {
         Ok(caller) => Ok((modules, caller)),
-        Err(fail) => Err(fail),
+        Err(short) => Err(short),
     }
 }
 
@@ -67,7 +67,7 @@ fn another<R: Wait>(
     rt: &R,
     modules: &ModuleMap<Posted>,
     caller: &mut Caller<Posted>,
-) -> Result<Caller<Posted>, Fail>
+) -> Result<Caller<Posted>, Memory>
     requires own { table_of modules.now.lock.table.shared.table_id caller.old.pass
         ≡ modules.now.lock.table.shared.table_id }
     requires shares { 1 < (view_in caller.old.pass).shares }
@@ -86,22 +86,34 @@ fn another<R: Wait>(
     let pass = modules.split(caller);
     match enrolled(rt, modules, pass) {
         Ok(other) => Ok(other),
-        Err(fail) => Err(fail),
+        Err(short) => Err(short),
     }
 }
 
-// A source of these files.
-fn source_of(alloc: Global, files: &[(&str, &str)]) -> Result<MemSource, Fail>
-    ensures { IfOk result (λ s. s.asked ≡ []) }
-{
-    let mut held = Vec::new(alloc);
+// Adds these files.
+fn add_files(
+    alloc: Global,
+    held: &mut Vec<(Text, Vec<u8>)>,
+    files: &[(&str, &str)],
+) -> Result<(), Memory> {
     for (url, body) in files {
         held.push((
             Text::copy(alloc, url)?,
             Vec::from_slice(alloc, body.as_bytes())?,
         ))?;
     }
-    Ok(MemSource::new(alloc, held, Vec::new(alloc))?)
+    Ok(())
+}
+
+// A source of these files.
+fn source_of(alloc: Global, files: &[(&str, &str)]) -> Result<MemSource, Memory>
+    ensures { IfOk result (λ s. s.asked ≡ []) }
+{
+    let mut held = Vec::new(alloc);
+    match add_files(alloc, &mut held, files) {
+        Ok(()) => MemSource::new(alloc, held, Vec::new(alloc)),
+        Err(short) => Err(short),
+    }
 }
 
 // Asks for a URL, as wanted; false where that isn't done.
@@ -135,7 +147,7 @@ fn turn<R: Wait, S: Source>(
     guide: &ImportMap,
     caller: &mut Caller<Posted>,
     source: &mut S,
-) -> Result<Turned, Fail>
+) -> Result<Turned, Memory>
     requires own { table_of modules.now.lock.table.shared.table_id caller.old.pass
         ≡ modules.now.lock.table.shared.table_id }
     requires map { guide.now ≡ no_maps }
@@ -151,21 +163,14 @@ fn turn<R: Wait, S: Source>(
     laws::guide_stays::<Posted>();
     match fetch_one(rt, alloc, modules, bell, guide, caller, source) {
         Ok(turned) => Ok(turned),
-        Err(_) => Err("memory ran out".into()),
+        Err(_) => Err(Memory),
     }
 }
 
 const URL: &str = "https://a.test/main.js";
 
-// What comes of two turns over a source of nothing, and whether nothing is what is posted; then the map is shut.
-#[derive(Clone, Copy)]
-struct AbsentTurns {
-    first: Turned,
-    absent: bool,
-    second: Turned,
-}
-
-// The URL is asked for by one caller, and the turns are the other's.
+// Whether two turns over a source of nothing post that nothing is there, and then find nothing to do. The URL is asked for by
+// one caller, and the turns are the other's; then the map is shut.
 fn absent_turns<R: Wait, S: Source>(
     rt: &R,
     alloc: Global,
@@ -175,7 +180,7 @@ fn absent_turns<R: Wait, S: Source>(
     main: &mut Caller<Posted>,
     caller: &mut Caller<Posted>,
     source: &mut S,
-) -> Result<AbsentTurns, Fail>
+) -> Result<bool, Memory>
     requires main { table_of modules.now.lock.table.shared.table_id main.old.pass
         ≡ modules.now.lock.table.shared.table_id }
     requires own { table_of modules.now.lock.table.shared.table_id caller.old.pass
@@ -193,7 +198,7 @@ fn absent_turns<R: Wait, S: Source>(
         caller.new.number (view_in caller.new.pass).seen) }
 {
     if !ask(rt, alloc, modules, main, URL) {
-        return Err("the URL isn't asked for".into());
+        return Err(Memory);
     }
     let first = turn(rt, alloc, modules, bell, guide, caller, source)?;
     let absent = match modules.entry(rt, main, 0) {
@@ -202,22 +207,11 @@ fn absent_turns<R: Wait, S: Source>(
     };
     let second = turn(rt, alloc, modules, bell, guide, caller, source)?;
     modules.shut(rt, main);
-    Ok(AbsentTurns {
-        first,
-        absent,
-        second,
-    })
+    Ok(first == Turned::Posted(0) && absent && second == Turned::NotYet)
 }
 
-// What comes of the two turns, and of a worker that comes to the map when it is shut.
-#[derive(Clone, Copy)]
-struct AbsentEnd {
-    turns: AbsentTurns,
-    short: bool,
-    asks: usize,
-}
-
-// The turns, and then the worker, over this caller and source.
+// Whether the turns are so, and then a worker over this caller and source, which comes to the map when it is shut, asks
+// nothing more.
 fn absent_end<R: Wait>(
     rt: &R,
     alloc: Global,
@@ -226,7 +220,7 @@ fn absent_end<R: Wait>(
     main: &mut Caller<Posted>,
     caller: Caller<Posted>,
     source: MemSource,
-) -> Result<AbsentEnd, Fail>
+) -> Result<bool, Memory>
     requires main { table_of modules.now.lock.table.shared.table_id main.old.pass
         ≡ modules.now.lock.table.shared.table_id }
     requires own { table_of modules.now.lock.table.shared.table_id caller.pass
@@ -251,33 +245,22 @@ fn absent_end<R: Wait>(
     ) {
         Ok(turns) => {
             let end = worker(rt, alloc, modules, &bell, guide, caller, source);
-            Ok(AbsentEnd {
-                turns,
-                short: end.short,
-                asks: end.source.asked().len(),
-            })
+            Ok(turns && !end.short && end.source.asked().len() == 1)
         }
-        Err(fail) => Err(fail),
+        Err(short) => Err(short),
     }
 }
 
-#[test]
-fn an_absent_url_and_a_shut_map(rt: HostRuntime) -> Result<(), Fail> {
-    let alloc = rt.alloc();
+// The same over a new map.
+fn an_absent_url_is_posted<R: Wait>(rt: &R, alloc: Global) -> Result<bool, Memory> {
     let source = source_of(alloc, &[])?;
-    let (modules, mut main) = opened(&rt, alloc)?;
-    let caller = another(&rt, &modules, &mut main)?;
     let guide = ImportMap::empty(alloc);
-    let end = absent_end(&rt, alloc, &modules, &guide, &mut main, caller, source)?;
-    assert!(rt; end.turns.first == Turned::Posted(0));
-    assert!(rt; end.turns.absent);
-    assert!(rt; end.turns.second == Turned::NotYet);
-    assert!(rt; !end.short);
-    assert!(rt; end.asks == 1);
-    Ok(())
+    let (modules, mut main) = opened(rt, alloc)?;
+    let caller = another(rt, &modules, &mut main)?;
+    absent_end(rt, alloc, &modules, &guide, &mut main, caller, source)
 }
 
-// A worker of a caller that has just enrolled, with a source that wasn't asked.
+// Whether a worker of a caller that has just enrolled, with a source that wasn't asked, asks nothing of it.
 fn begin<R: Wait>(
     rt: &R,
     alloc: Global,
@@ -285,7 +268,7 @@ fn begin<R: Wait>(
     guide: &ImportMap,
     caller: Caller<Posted>,
     source: MemSource,
-) -> WorkerEnd<MemSource>
+) -> bool
     requires own { table_of modules.now.lock.table.shared.table_id caller.pass
         ≡ modules.now.lock.table.shared.table_id }
     requires map { guide.now ≡ no_maps }
@@ -294,22 +277,20 @@ fn begin<R: Wait>(
     requires unasked { source.asked ≡ [] }
 {
     let bell = Bell::new();
-    worker(rt, alloc, modules, &bell, guide, caller, source)
+    let end = worker(rt, alloc, modules, &bell, guide, caller, source);
+    !end.short && end.source.asked().is_empty()
 }
 
-#[test]
-fn a_worker_asks_nothing_where_the_map_is_shut(rt: HostRuntime) -> Result<(), Fail> {
-    let alloc = rt.alloc();
+// The same over a new map, which is shut when a URL was asked for.
+fn a_shut_map_asks_nothing<R: Wait>(rt: &R, alloc: Global) -> Result<bool, Memory> {
     let source = source_of(alloc, &[])?;
-    let (modules, mut main) = opened(&rt, alloc)?;
-    let caller = another(&rt, &modules, &mut main)?;
-    let asked = ask(&rt, alloc, &modules, &mut main, URL);
-    modules.shut(&rt, &mut main);
     let guide = ImportMap::empty(alloc);
-    let end = begin(&rt, alloc, &modules, &guide, caller, source);
-    assert!(rt; asked);
-    assert!(rt; !end.short && end.source.asked().is_empty());
-    Ok(())
+    let (modules, mut main) = opened(rt, alloc)?;
+    let caller = another(rt, &modules, &mut main)?;
+    let asked = ask(rt, alloc, &modules, &mut main, URL);
+    modules.shut(rt, &mut main);
+    let nothing = begin(rt, alloc, &modules, &guide, caller, source);
+    Ok(asked && nothing)
 }
 
 // Two jobs of callers that have just enrolled and sources that weren't asked.
@@ -319,7 +300,7 @@ fn two_jobs<S: Source>(
     guide: &ImportMap,
     one: Job<S>,
     other: Job<S>,
-) -> Result<Vec<Job<S>>, Fail>
+) -> Result<Vec<Job<S>>, Memory>
     requires one { IsToBegin modules.now.lock.table.shared.table_id S.holds S.asked one }
     requires other { IsToBegin modules.now.lock.table.shared.table_id S.holds S.asked other }
     requires map { guide.now ≡ no_maps }
@@ -356,7 +337,7 @@ fn new_job<R: Wait, S: Source>(
     modules: &ModuleMap<Posted>,
     main: &mut Caller<Posted>,
     source: S,
-) -> Result<Job<S>, Fail>
+) -> Result<Job<S>, Memory>
     requires own { table_of modules.now.lock.table.shared.table_id main.old.pass
         ≡ modules.now.lock.table.shared.table_id }
     requires shares { 1 < (view_in main.old.pass).shares }
@@ -371,7 +352,7 @@ fn new_job<R: Wait, S: Source>(
 {
     match another(rt, modules, main) {
         Ok(caller) => Ok(job(modules, caller, source)),
-        Err(fail) => Err(fail),
+        Err(short) => Err(short),
     }
 }
 
@@ -384,7 +365,7 @@ fn new_jobs<R: Wait, S: Source>(
     main: &mut Caller<Posted>,
     first: S,
     second: S,
-) -> Result<Vec<Job<S>>, Fail>
+) -> Result<Vec<Job<S>>, Memory>
     requires own { table_of modules.now.lock.table.shared.table_id main.old.pass
         ≡ modules.now.lock.table.shared.table_id }
     requires shares { 2 < (view_in main.old.pass).shares }
@@ -429,7 +410,7 @@ fn lead<R: Wait>(
     let asked = ask(rt, alloc, modules, &mut caller, URLS[0])
         && ask(rt, alloc, modules, &mut caller, URLS[1])
         && ask(rt, alloc, modules, &mut caller, URLS[2]);
-    bell.ring_for_all(rt);
+    bell.ring_for_all();
     let mut heard = 0;
     for _ in rt.forever() {
         if !asked || !ask(rt, alloc, modules, &mut caller, URLS[0]) {
@@ -441,7 +422,7 @@ fn lead<R: Wait>(
         heard = bell.wait_for_post(rt, heard);
     }
     modules.shut(rt, &mut caller);
-    bell.ring_for_all(rt);
+    bell.ring_for_all();
     caller
 }
 
@@ -492,36 +473,140 @@ fn work_and_lead<R: Threads + Wait + Sync, S: Source + Send>(
     )
 }
 
+// Whether all of these were answered so.
+fn are_all(asked: &[Asked], kind: AskKind) -> bool {
+    for ask in asked {
+        if ask.kind != kind {
+            return false;
+        }
+    }
+    true
+}
+
 // One source has what was asked for, the other has none of it: three asks together.
 fn have_shared(done: &[Done<MemSource>]) -> bool {
     match done {
         [files, nothing] => {
             let found = files.source.asked();
             let missed = nothing.source.asked();
-            found.iter().all(|ask| ask.kind == AskKind::Body)
-                && missed.iter().all(|ask| ask.kind == AskKind::Absent)
+            are_all(found, AskKind::Body)
+                && are_all(missed, AskKind::Absent)
                 && found.len().checked_add(missed.len()) == Some(3)
         }
         _ => false,
     }
 }
 
-#[test]
-fn two_workers_fetch_what_is_asked_for(rt: HostRuntime) -> Result<(), Fail> {
-    let alloc = rt.alloc();
+// What is left of the sources of these jobs, which ran beside a thread that leads, and whether the map has ended.
+fn done_by<R: Threads + Wait + Sync, S: Source + Send>(
+    rt: &R,
+    alloc: Global,
+    modules: ModuleMap<Posted>,
+    guide: &ImportMap,
+    main: Caller<Posted>,
+    spare: Caller<Posted>,
+    jobs: Vec<Job<S>>,
+    done: Vec<Done<S>>,
+) -> (Vec<Done<S>>, bool)
+    requires leader { table_of modules.lock.table.shared.table_id main.pass
+        ≡ modules.lock.table.shared.table_id }
+    requires spare { table_of modules.lock.table.shared.table_id spare.pass
+        ≡ modules.lock.table.shared.table_id }
+    requires jobs { All (IsToBegin modules.lock.table.shared.table_id S.holds S.asked) jobs.items }
+    requires guides { All (IsGuided guide.now) jobs.items }
+    requires none { done.items ≡ [] }
+    requires room { vec_len done + vec_len jobs ≤ vec_capacity done }
+{
     let bell = Bell::new();
+    let (pool, main) = work_and_lead(rt, alloc, &modules, &bell, guide, main, spare, jobs, done);
+    let Pool { caller, done } = pool;
+    let caller = modules.meet(caller, main);
+    (done, modules.close(caller).is_ok())
+}
+
+// The same, with one caller more for the jobs; nothing is done where memory runs out.
+fn done_with<R: Threads + Wait + Sync, S: Source + Send>(
+    rt: &R,
+    alloc: Global,
+    modules: ModuleMap<Posted>,
+    guide: &ImportMap,
+    main: Caller<Posted>,
+    jobs: Vec<Job<S>>,
+    done: Vec<Done<S>>,
+) -> (Vec<Done<S>>, bool)
+    requires leader { table_of modules.lock.table.shared.table_id main.pass
+        ≡ modules.lock.table.shared.table_id }
+    requires shares { 1 < (view_in main.pass).shares }
+    requires guide { guide_in (view_in main.pass).seen ≡ Some no_maps }
+    requires jobs { All (IsToBegin modules.lock.table.shared.table_id S.holds S.asked) jobs.items }
+    requires guides { All (IsGuided guide.now) jobs.items }
+    requires none { done.items ≡ [] }
+    requires room { vec_len done + vec_len jobs ≤ vec_capacity done }
+{
+    let mut main = main;
+    match another(rt, &modules, &mut main) {
+        Ok(spare) => done_by(rt, alloc, modules, guide, main, spare, jobs, done),
+        Err(_short) => (done, false),
+    }
+}
+
+// Whether two workers share three asks, over this map, with these sources, of which the second has nothing.
+fn two_share<R: Threads + Wait + Sync>(
+    rt: &R,
+    alloc: Global,
+    modules: ModuleMap<Posted>,
+    main: Caller<Posted>,
+    files: MemSource,
+    nothing: MemSource,
+    done: Vec<Done<MemSource>>,
+) -> bool
+    requires main { table_of modules.lock.table.shared.table_id main.pass
+        ≡ modules.lock.table.shared.table_id }
+    requires shares { (view_in main.pass).shares ≡ 1024 }
+    requires guide { guide_in (view_in main.pass).seen ≡ Some no_maps }
+    requires unasked { (files.asked ≡ []) × (nothing.asked ≡ []) }
+    requires none { done.items ≡ [] }
+    requires room { vec_len done + 2 ≤ vec_capacity done }
+{
+    let mut main = main;
     let guide = ImportMap::empty(alloc);
+    match new_jobs(rt, alloc, &modules, &guide, &mut main, files, nothing) {
+        Ok(jobs) => {
+            let (done, ended) = done_with(rt, alloc, modules, &guide, main, jobs, done);
+            ended && have_shared(done.as_slice())
+        }
+        Err(_short) => false,
+    }
+}
+
+// The same over a new map and new sources.
+fn two_workers_share<R: Threads + Wait + Sync>(rt: &R, alloc: Global) -> Result<bool, Memory> {
     let text = "print(\"m\");";
     let done = Vec::with_capacity(alloc, 2)?;
     let files = source_of(alloc, &[(URLS[0], text), (URLS[1], text), (URLS[2], text)])?;
     let nothing = source_of(alloc, &[])?;
-    let (modules, mut main) = opened(&rt, alloc)?;
-    let jobs = new_jobs(&rt, alloc, &modules, &guide, &mut main, files, nothing)?;
-    let spare = another(&rt, &modules, &mut main)?;
-    let (pool, main) = work_and_lead(&rt, alloc, &modules, &bell, &guide, main, spare, jobs, done);
-    let Pool { caller, done } = pool;
-    let caller = modules.meet(caller, main);
-    assert!(rt; have_shared(done.as_slice()));
-    assert!(rt; modules.close(caller).is_ok());
-    Ok(())
+    let (modules, main) = opened(rt, alloc)?;
+    Ok(two_share(rt, alloc, modules, main, files, nothing, done))
+}
+
+// Tells this where it isn't so.
+fn is_so(found: Result<bool, Memory>, what: &'static str) -> Told {
+    match found {
+        Ok(so) => holds(so, what),
+        Err(Memory) => Err(SHORT),
+    }
+}
+
+#[test]
+fn workers_fetch_what_is_asked_for(rt: HostRuntime) -> Told {
+    let alloc = rt.alloc();
+    is_so(
+        an_absent_url_is_posted(&rt, alloc),
+        "an absent URL and a shut map",
+    )
+    .and(is_so(
+        a_shut_map_asks_nothing(&rt, alloc),
+        "a worker on a shut map",
+    ))
+    .and(is_so(two_workers_share(&rt, alloc), "two workers"))
 }

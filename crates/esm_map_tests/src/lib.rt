@@ -9,3 +9,5 @@ mod lock;
 mod module_map;
 #[cfg(test)]
 mod one_caller;
+#[cfg(test)]
+mod telling;

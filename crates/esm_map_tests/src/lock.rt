@@ -2,10 +2,12 @@
 ghost use Rattle.std.specs.Prelude.{◌≡◌, ◌<◌, ◌++◌, ◌∷◌, [], None, Some, IfOk, IsTrue, MatchBool};
 ghost use Rattle.esm_hlock.specs.Words.{knows, IsPassOf};
 
+use crate::telling::{SHORT, Told, holds, told_of};
+use esm_base::Memory;
 use esm_hlock::{Hlock, Pass, Story};
 use std::alloc::Global;
+use std::marker::Sync;
 use std::sync::Wait;
-use std::test::Fail;
 use std::thread::{Threads, join};
 
 // The step-th note of a thread.
@@ -56,11 +58,11 @@ impl Notes {
 }
 
 // A lock round no notes, and the pass with all shares.
-fn lock_round_nothing(alloc: Global) -> Result<(Hlock<Notes>, Pass<Notes>), Fail>
+fn lock_round_nothing(alloc: Global) -> Result<(Hlock<Notes>, Pass<Notes>), Memory>
     ensures { IfOk result (λ made. IsPassOf made.0 made.1 × ((knows made.1).shares ≡ 1024)) }
 {
     let notes = Vec::new(alloc);
-    Ok(Hlock::new(alloc, Notes { notes })?)
+    Hlock::new(alloc, Notes { notes })
 }
 
 // One turn, in which a note is added.
@@ -206,56 +208,100 @@ fn counts(notes: &[Note]) -> Option<[u64; 4]> {
     Some(counts)
 }
 
-#[test]
-fn a_turn_adds_one_entry(rt: HostRuntime) -> Result<(), Fail> {
-    let (lock, mut pass) = lock_round_nothing(rt.alloc())?;
+// Tells where the lock doesn't end with these notes.
+fn ends_with(lock: Hlock<Notes>, pass: Pass<Notes>, wanted: &[Note]) -> Told
+    requires { IsPassOf lock pass }
+{
+    match lock.close(pass) {
+        Ok(state) => holds(state.notes.as_slice() == wanted, "other notes"),
+        Err(_busy) => Err("busy"),
+    }
+}
+
+// A turn adds one entry.
+fn a_turn_adds_one<R: Wait>(rt: &R, alloc: Global) -> Result<Told, Memory> {
+    let (lock, mut pass) = lock_round_nothing(alloc)?;
     let other = lock.split(&mut pass);
     let added = Note { thread: 0, step: 7 };
-    let pass = add_note(&rt, &lock, pass, added);
+    let pass = add_note(rt, &lock, pass, added);
     let pass = lock.join(pass, other);
-    let state = lock.close(pass).ok().ok_or("busy")?;
-    assert!(rt; state.notes.as_slice() == [added].as_slice());
-    Ok(())
+    Ok(ends_with(lock, pass, [added].as_slice()))
 }
 
-#[test]
-fn a_pass_keeps_the_number_of_its_first_entry(rt: HostRuntime) -> Result<(), Fail> {
-    let notes = Vec::new(rt.alloc());
-    let (lock, pass) = Hlock::new(
-        rt.alloc(),
-        Signed {
-            notes: Notes { notes },
-        },
-    )?;
+// A pass keeps the number of its first entry: a second note of the same thread.
+fn signs_twice<R: Wait>(rt: &R, lock: Hlock<Signed>, pass: Pass<Signed>) -> Told
+    requires own { IsPassOf lock pass }
+    requires alone { ((knows pass).shares ≡ 1024) × ((knows pass).number ≡ None)
+        × ((knows pass).numbers ≡ []) }
+{
     let first = Note { thread: 5, step: 0 };
-    let (pass, signed) = sign(&rt, &lock, pass, first);
-    assert!(rt; signed);
-    let second = Note { thread: 5, step: 1 };
-    let mut held = lock.enter(&rt, pass);
-    assert!(rt; held.state().notes.add(second));
-    let pass = lock.leave(held);
-    let state = lock.close(pass).ok().ok_or("busy")?;
-    assert!(rt; state.entries() == [first, second].as_slice());
-    Ok(())
-}
-
-#[test]
-fn four_threads_keep_their_orders(rt: HostRuntime) -> Result<(), Fail> {
-    for _ in 0..20 {
-        let (lock, pass) = lock_round_nothing(rt.alloc())?;
-        let pass = note_in_four(&rt, &lock, pass);
-        let state = lock.close(pass).ok().ok_or("busy")?;
-        assert!(rt; counts(state.notes.as_slice()) == Some([100, 100, 100, 100]));
+    let (pass, signed) = sign(rt, &lock, pass, first);
+    if !signed {
+        return Err(SHORT);
     }
-    Ok(())
+    let second = Note { thread: 5, step: 1 };
+    let mut held = lock.enter(rt, pass);
+    if !held.state().notes.add(second) {
+        return Err(SHORT);
+    }
+    let pass = lock.leave(held);
+    match lock.close(pass) {
+        Ok(state) => holds(
+            state.entries() == [first, second].as_slice(),
+            "other signed notes",
+        ),
+        Err(_busy) => Err("busy"),
+    }
+}
+
+// The same of a new lock.
+fn a_pass_keeps_its_number<R: Wait>(rt: &R, alloc: Global) -> Result<Told, Memory> {
+    let notes = Vec::new(alloc);
+    let signed = Signed {
+        notes: Notes { notes },
+    };
+    let (lock, pass) = Hlock::new(alloc, signed)?;
+    Ok(signs_twice(rt, lock, pass))
+}
+
+// Four threads keep their orders.
+fn four_keep_their_orders<R: Threads + Wait + Sync>(rt: &R, alloc: Global) -> Result<Told, Memory> {
+    let (lock, pass) = lock_round_nothing(alloc)?;
+    let pass = note_in_four(rt, &lock, pass);
+    match lock.close(pass) {
+        Ok(state) => Ok(holds(
+            counts(state.notes.as_slice()) == Some([100, 100, 100, 100]),
+            "another order",
+        )),
+        Err(_busy) => Ok(Err("busy")),
+    }
+}
+
+// So do they twenty times.
+fn four_keep_them_always<R: Threads + Wait + Sync>(rt: &R, alloc: Global) -> Told {
+    let mut told = Ok(());
+    for _ in 0..20 {
+        told = told.and(told_of(four_keep_their_orders(rt, alloc)));
+    }
+    told
+}
+
+// A lock is busy where a turn wasn't ended.
+fn an_open_turn_is_busy<R: Wait>(rt: &R, alloc: Global) -> Result<Told, Memory> {
+    let (lock, mut pass) = lock_round_nothing(alloc)?;
+    let other = lock.split(&mut pass);
+    drop(lock.enter(rt, other));
+    match lock.close(pass) {
+        Ok(_state) => Ok(Err("not busy")),
+        Err(busy) => Ok(holds(busy.ticket == 1 && busy.serving == 0, "another ticket")),
+    }
 }
 
 #[test]
-fn a_lock_is_busy_where_a_turn_was_not_ended(rt: HostRuntime) -> Result<(), Fail> {
-    let (lock, mut pass) = lock_round_nothing(rt.alloc())?;
-    let other = lock.split(&mut pass);
-    drop(lock.enter(&rt, other));
-    let busy = lock.close(pass).err().ok_or("not busy")?;
-    assert!(rt; busy.ticket == 1 && busy.serving == 0);
-    Ok(())
+fn turns_are_taken_in_order(rt: HostRuntime) -> Told {
+    let alloc = rt.alloc();
+    told_of(a_turn_adds_one(&rt, alloc))
+        .and(told_of(a_pass_keeps_its_number(&rt, alloc)))
+        .and(four_keep_them_always(&rt, alloc))
+        .and(told_of(an_open_turn_is_busy(&rt, alloc)))
 }

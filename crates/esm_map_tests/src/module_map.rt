@@ -2,11 +2,12 @@
 ghost use Rattle.std.specs.Prelude.{◌≡◌, ◌<◌, IfOk};
 ghost use Rattle.esm_module_map.specs.Views.{view_in, table_of};
 
-use esm_base::{MAX_URLS, Text, is_usable};
+use crate::telling::{SHORT, Told, holds, told_of};
+use esm_base::{MAX_URLS, Memory, Text, is_usable};
 use esm_module_map::{Asked, Caller, MapEnd, ModuleMap, Payload, Taken, Why};
 use std::alloc::Global;
+use std::marker::Sync;
 use std::sync::{Arc, Wait};
-use std::test::Fail;
 use std::thread::{Threads, join};
 
 /// A body that weighs so much and requests nothing.
@@ -33,7 +34,7 @@ impl Payload for Body {
 }
 
 /// A map, and a caller with all shares.
-pub fn opened<R: Wait>(rt: &R, alloc: Global) -> Result<(ModuleMap<Body>, Caller<Body>), Fail>
+pub fn opened<R: Wait>(rt: &R, alloc: Global) -> Result<(ModuleMap<Body>, Caller<Body>), Memory>
     ensures own { IfOk result (λ made. table_of made.0.lock.table.shared.table_id made.1.pass
         ≡ made.0.lock.table.shared.table_id) }
     ensures shares { IfOk result (λ made. (view_in made.1.pass).shares ≡ 1024) }
@@ -42,7 +43,7 @@ pub fn opened<R: Wait>(rt: &R, alloc: Global) -> Result<(ModuleMap<Body>, Caller
     let (map, pass) = ModuleMap::new(alloc, guide)?;
     match map.enrol(rt, pass) {
         Ok(caller) => Ok((map, caller)),
-        Err(_pass) => Err("no caller".into()),
+        Err(_pass) => Err(Memory),
     }
 }
 
@@ -51,7 +52,7 @@ fn another<R: Wait>(
     rt: &R,
     map: &ModuleMap<Body>,
     caller: &mut Caller<Body>,
-) -> Result<Caller<Body>, Fail>
+) -> Result<Caller<Body>, Memory>
     requires own { table_of map.now.lock.table.shared.table_id caller.old.pass
         ≡ map.now.lock.table.shared.table_id }
     requires shares { 1 < (view_in caller.old.pass).shares }
@@ -63,7 +64,7 @@ fn another<R: Wait>(
     let pass = map.split(caller);
     match map.enrol(rt, pass) {
         Ok(other) => Ok(other),
-        Err(_pass) => Err("no caller".into()),
+        Err(_pass) => Err(Memory),
     }
 }
 
@@ -71,7 +72,7 @@ fn another<R: Wait>(
 fn pair<R: Wait>(
     rt: &R,
     alloc: Global,
-) -> Result<(ModuleMap<Body>, Caller<Body>, Caller<Body>), Fail>
+) -> Result<(ModuleMap<Body>, Caller<Body>, Caller<Body>), Memory>
     ensures one { IfOk result (λ made. table_of made.0.lock.table.shared.table_id made.1.pass
         ≡ made.0.lock.table.shared.table_id) }
     ensures other { IfOk result (λ made. table_of made.0.lock.table.shared.table_id made.2.pass
@@ -80,14 +81,14 @@ fn pair<R: Wait>(
     let (map, mut one) = opened(rt, alloc)?;
     match another(rt, &map, &mut one) {
         Ok(other) => Ok((map, one, other)),
-        Err(fail) => Err(fail),
+        Err(short) => Err(short),
     }
 }
 
 /// What a call answers, in a word, and a number that goes with it (0 where none does).
-pub type Told = (&'static str, u64);
+pub type Answer = (&'static str, u64);
 
-const MEMORY: Told = ("Memory", 0);
+const MEMORY: Answer = (SHORT, 0);
 
 // Asks for a URL, as wanted.
 fn ask<R: Wait>(
@@ -96,7 +97,7 @@ fn ask<R: Wait>(
     map: &ModuleMap<Body>,
     caller: &mut Caller<Body>,
     url: &str,
-) -> Told
+) -> Answer
     requires { table_of map.now.lock.table.shared.table_id caller.old.pass
         ≡ map.now.lock.table.shared.table_id }
     ensures { table_of map.now.lock.table.shared.table_id caller.new.pass
@@ -128,7 +129,7 @@ fn fill<R: Wait>(
     map: &ModuleMap<Body>,
     caller: &mut Caller<Body>,
     bytes: usize,
-) -> Told
+) -> Answer
     requires { table_of map.now.lock.table.shared.table_id caller.old.pass
         ≡ map.now.lock.table.shared.table_id }
     ensures { table_of map.now.lock.table.shared.table_id caller.new.pass
@@ -152,7 +153,7 @@ fn fill<R: Wait>(
 }
 
 // The weight of the body that was posted under this number.
-fn entry<R: Wait>(rt: &R, map: &ModuleMap<Body>, caller: &mut Caller<Body>, number: u32) -> Told
+fn entry<R: Wait>(rt: &R, map: &ModuleMap<Body>, caller: &mut Caller<Body>, number: u32) -> Answer
     requires { table_of map.now.lock.table.shared.table_id caller.old.pass
         ≡ map.now.lock.table.shared.table_id }
     ensures { table_of map.now.lock.table.shared.table_id caller.new.pass
@@ -166,7 +167,7 @@ fn entry<R: Wait>(rt: &R, map: &ModuleMap<Body>, caller: &mut Caller<Body>, numb
 }
 
 // The number of the post with this index.
-fn post_at<R: Wait>(rt: &R, map: &ModuleMap<Body>, caller: &mut Caller<Body>, from: usize) -> Told
+fn post_at<R: Wait>(rt: &R, map: &ModuleMap<Body>, caller: &mut Caller<Body>, from: usize) -> Answer
     requires { table_of map.now.lock.table.shared.table_id caller.old.pass
         ≡ map.now.lock.table.shared.table_id }
     ensures { table_of map.now.lock.table.shared.table_id caller.new.pass
@@ -198,7 +199,7 @@ fn make_call<R: Wait>(
     map: &ModuleMap<Body>,
     caller: &mut Caller<Body>,
     call: Call,
-) -> Told
+) -> Answer
     requires { table_of map.now.lock.table.shared.table_id caller.old.pass
         ≡ map.now.lock.table.shared.table_id }
     ensures { table_of map.now.lock.table.shared.table_id caller.new.pass
@@ -212,26 +213,30 @@ fn make_call<R: Wait>(
     }
 }
 
-/// Makes these calls, one behind the other: the first answer that isn't the one that stands beside its call.
-pub fn first_wrong<R: Wait>(
+// Tells the word of an answer that isn't given.
+fn is_given(found: Answer, wanted: Answer) -> Told {
+    holds(found == wanted, wanted.0)
+}
+
+/// Makes these calls, one behind the other: the word of the first answer that isn't the one that stands beside its call.
+pub fn answers_are<R: Wait>(
     rt: &R,
     alloc: Global,
     map: &ModuleMap<Body>,
     caller: &mut Caller<Body>,
-    steps: &[(Call, Told)],
-) -> Option<Told>
+    steps: &[(Call, Answer)],
+) -> Told
     requires { table_of map.now.lock.table.shared.table_id caller.old.pass
         ≡ map.now.lock.table.shared.table_id }
     ensures { table_of map.now.lock.table.shared.table_id caller.new.pass
         ≡ map.now.lock.table.shared.table_id }
 {
+    let mut told = Ok(());
     for step in steps {
-        let told = make_call(rt, alloc, map, caller, step.0);
-        if told != step.1 {
-            return Some(told);
-        }
+        let found = make_call(rt, alloc, map, caller, step.0);
+        told = told.and(is_given(found, step.1));
     }
-    None
+    told
 }
 
 // Fills what it can, a hundred times.
@@ -284,48 +289,62 @@ fn fill_in_two<R: Threads + Wait + Sync>(
     map.meet(one, other)
 }
 
-// Asks for the URLs with the numbers below `count`: the first answer that isn't New.
+// Asks for the URL with this number, which is new.
+fn ask_number<R: Wait>(
+    rt: &R,
+    alloc: Global,
+    map: &ModuleMap<Body>,
+    caller: &mut Caller<Body>,
+    number: u64,
+) -> Told
+    requires { table_of map.now.lock.table.shared.table_id caller.old.pass
+        ≡ map.now.lock.table.shared.table_id }
+    ensures { table_of map.now.lock.table.shared.table_id caller.new.pass
+        ≡ map.now.lock.table.shared.table_id }
+{
+    let Ok(url) = format!(in alloc; "https://a.test/{number}") else {
+        return Err(SHORT);
+    };
+    is_given(ask(rt, alloc, map, caller, url.as_str()), ("New", number))
+}
+
+// Asks for the URLs with the numbers below `count`, all of which are new.
 fn ask_all<R: Wait>(
     rt: &R,
     alloc: Global,
     map: &ModuleMap<Body>,
     caller: &mut Caller<Body>,
     count: u64,
-) -> Option<Told>
+) -> Told
     requires { table_of map.now.lock.table.shared.table_id caller.old.pass
         ≡ map.now.lock.table.shared.table_id }
     ensures { table_of map.now.lock.table.shared.table_id caller.new.pass
         ≡ map.now.lock.table.shared.table_id }
 {
+    let mut told = Ok(());
     for number in 0..count {
-        let Ok(url) = format!(in alloc; "https://a.test/{number}") else {
-            return Some(MEMORY);
-        };
-        let told = ask(rt, alloc, map, caller, url.as_str());
-        if told != ("New", number) {
-            return Some(told);
-        }
+        told = told.and(ask_number(rt, alloc, map, caller, number));
     }
-    None
+    told
 }
 
 /// The URL that is asked for.
 pub const URL: &str = "https://a.test/main.js";
 
-const TAKEN_BY_ANOTHER: &[(Call, Told)] = &[
+const TAKEN_BY_ANOTHER: &[(Call, Answer)] = &[
     (Call::Fill(1), ("NotYet", 0)),
     (Call::Entry(0), ("None", 0)),
     (Call::PostAt(0), ("None", 0)),
 ];
 
-const POSTED: &[(Call, Told)] = &[
+const POSTED: &[(Call, Answer)] = &[
     (Call::Entry(0), ("Body", 7)),
     (Call::PostAt(0), ("Post", 0)),
     (Call::PostAt(1), ("None", 0)),
 ];
 
 /// Calls of a map that is shut.
-pub const SHUT: &[(Call, Told)] = &[
+pub const SHUT: &[(Call, Answer)] = &[
     (Call::Ask(URL), ("Closed", 0)),
     (Call::Fill(1), ("Closed", 0)),
 ];
@@ -337,7 +356,7 @@ fn take_and_post<R: Wait>(
     map: &ModuleMap<Body>,
     one: &mut Caller<Body>,
     other: &mut Caller<Body>,
-) -> Option<Told>
+) -> Told
     requires one { table_of map.now.lock.table.shared.table_id one.old.pass
         ≡ map.now.lock.table.shared.table_id }
     requires other { table_of map.now.lock.table.shared.table_id other.old.pass
@@ -348,27 +367,27 @@ fn take_and_post<R: Wait>(
         ≡ map.now.lock.table.shared.table_id }
 {
     let Ok(payload) = Arc::new(alloc, Body { bytes: 7 }) else {
-        return Some(MEMORY);
+        return Err(SHORT);
     };
     let Ok(taken) = map.take(rt, alloc, one) else {
-        return Some(MEMORY);
+        return Err(SHORT);
     };
     let Taken::Order(order) = taken else {
-        return Some(("nothing to take", 0));
+        return Err("nothing to take");
     };
-    let found = first_wrong(rt, alloc, map, other, TAKEN_BY_ANOTHER);
+    let told = answers_are(rt, alloc, map, other, TAKEN_BY_ANOTHER);
     map.post(rt, one, order, payload);
-    found
+    told
 }
 
-// A URL's way from the first ask to the map's end: the first answer that is wrong.
-fn wrong_on_the_way<R: Wait>(
+// Tells what is wrong on a URL's way from the first ask to the map's end.
+fn goes_its_way<R: Wait>(
     rt: &R,
     alloc: Global,
     map: &ModuleMap<Body>,
     one: &mut Caller<Body>,
     other: &mut Caller<Body>,
-) -> Option<Told>
+) -> Told
     requires one { table_of map.now.lock.table.shared.table_id one.old.pass
         ≡ map.now.lock.table.shared.table_id }
     requires other { table_of map.now.lock.table.shared.table_id other.old.pass
@@ -378,64 +397,65 @@ fn wrong_on_the_way<R: Wait>(
     ensures other { table_of map.now.lock.table.shared.table_id other.new.pass
         ≡ map.now.lock.table.shared.table_id }
 {
-    let first = ask(rt, alloc, map, one, URL);
-    if first != ("New", 0) {
-        return Some(first);
-    }
-    let second = ask(rt, alloc, map, other, URL);
-    if second != ("Waiting", 0) {
-        return Some(second);
-    }
+    let first = is_given(ask(rt, alloc, map, one, URL), ("New", 0));
+    let second = is_given(ask(rt, alloc, map, other, URL), ("Waiting", 0));
     let beside = take_and_post(rt, alloc, map, one, other);
-    if beside.is_some() {
-        return beside;
-    }
-    let posted = first_wrong(rt, alloc, map, other, POSTED);
-    if posted.is_some() {
-        return posted;
-    }
-    let here = ask(rt, alloc, map, one, URL);
-    if here != ("Here", 0) {
-        return Some(here);
-    }
+    let posted = answers_are(rt, alloc, map, other, POSTED);
+    let here = is_given(ask(rt, alloc, map, one, URL), ("Here", 0));
     map.shut(rt, other);
-    first_wrong(rt, alloc, map, one, SHUT)
+    let shut = answers_are(rt, alloc, map, one, SHUT);
+    first
+        .and(second)
+        .and(beside)
+        .and(posted)
+        .and(here)
+        .and(shut)
 }
 
-#[test]
-fn one_url_from_ask_to_post(rt: HostRuntime) -> Result<(), Fail> {
-    let (map, mut one, mut other) = pair(&rt, rt.alloc())?;
-    let wrong = wrong_on_the_way(&rt, rt.alloc(), &map, &mut one, &mut other);
+// Tells where the map's history hasn't so many events.
+fn has_events(map: ModuleMap<Body>, caller: Caller<Body>, count: usize) -> Told
+    requires { table_of map.lock.table.shared.table_id caller.pass
+        ≡ map.lock.table.shared.table_id }
+{
+    match map.close(caller) {
+        Ok(events) => holds(events.len() == count, "another number of events"),
+        Err(_busy) => Err("busy"),
+    }
+}
+
+// One URL from ask to post.
+fn one_url_goes_its_way<R: Wait>(rt: &R, alloc: Global) -> Result<Told, Memory> {
+    let (map, mut one, mut other) = pair(rt, alloc)?;
+    let told = goes_its_way(rt, alloc, &map, &mut one, &mut other);
     let caller = map.meet(one, other);
-    let events = map.close(caller).ok().ok_or("busy")?;
-    assert_eq!(rt; wrong, None);
-    assert!(rt; events.len() == 9);
-    Ok(())
+    Ok(told.and(has_events(map, caller, 9)))
 }
 
-const BEHIND_THE_LAST: &[(Call, Told)] = &[
+const BEHIND_THE_LAST: &[(Call, Answer)] = &[
     (Call::Ask(URL), ("Full", 0)),
     (Call::Ask("https://a.test/0"), ("Waiting", 0)),
 ];
 
-#[test]
-fn asks_make_no_more_numbers(rt: HostRuntime) -> Result<(), Fail> {
-    let (map, mut caller) = opened(&rt, rt.alloc())?;
-    let before = ask_all(&rt, rt.alloc(), &map, &mut caller, MAX_URLS as u64);
-    assert_eq!(rt; before, None);
-    let behind = first_wrong(&rt, rt.alloc(), &map, &mut caller, BEHIND_THE_LAST);
-    assert_eq!(rt; behind, None);
-    Ok(())
+// Asks make as many numbers as there may be, and no more.
+fn numbers_are_bounded<R: Wait>(rt: &R, alloc: Global) -> Result<Told, Memory> {
+    let (map, mut caller) = opened(rt, alloc)?;
+    let before = ask_all(rt, alloc, &map, &mut caller, MAX_URLS as u64);
+    let behind = answers_are(rt, alloc, &map, &mut caller, BEHIND_THE_LAST);
+    Ok(before.and(behind))
+}
+
+// Two threads take each URL once: there are Begin, two callers, and for each URL an ask, a take and a post.
+fn each_is_taken_once<R: Threads + Wait + Sync>(rt: &R, alloc: Global) -> Result<Told, Memory> {
+    let (map, mut one, other) = pair(rt, alloc)?;
+    let told = ask_all(rt, alloc, &map, &mut one, 100);
+    let caller = fill_in_two(rt, alloc, &map, one, other);
+    Ok(told.and(has_events(map, caller, 303)))
 }
 
 #[test]
-fn two_threads_take_each_url_once(rt: HostRuntime) -> Result<(), Fail> {
-    let (map, mut one, other) = pair(&rt, rt.alloc())?;
-    let wrong = ask_all(&rt, rt.alloc(), &map, &mut one, 100);
-    assert_eq!(rt; wrong, None);
-    let caller = fill_in_two(&rt, rt.alloc(), &map, one, other);
-    let events = map.close(caller).ok().ok_or("busy")?;
-    // Begin, two callers, and for each URL an ask, a take and a post.
-    assert!(rt; events.len() == 303);
-    Ok(())
+fn urls_are_asked_for_taken_and_posted(rt: HostRuntime) -> Told {
+    let alloc = rt.alloc();
+    told_of(one_url_goes_its_way(&rt, alloc))
+        .and(told_of(numbers_are_bounded(&rt, alloc)))
+        .and(told_of(each_is_taken_once(&rt, alloc)))
 }

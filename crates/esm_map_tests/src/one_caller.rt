@@ -3,11 +3,12 @@ ghost use Rattle.std.specs.Prelude.{◌≡◌, OnOk};
 ghost use Rattle.esm_module_map.specs.Views.{view_in, table_of};
 ghost use Rattle.esm_module_map.specs.Saying.{IsOrderIn};
 
-use crate::module_map::{Body, Call, SHUT, Told, URL, first_wrong, opened};
+use crate::module_map::{Answer, Body, Call, SHUT, URL, answers_are, opened};
+use crate::telling::{SHORT, Told, holds, told_of};
+use esm_base::Memory;
 use esm_module_map::{Caller, MapEvent, ModuleMap, Order, Payload, Taken, laws};
 use std::alloc::Global;
 use std::sync::{Arc, Wait};
-use std::test::Fail;
 
 // A caller that has an order finds nothing more to take.
 fn takes_nothing<R: Wait, P: Payload>(
@@ -16,7 +17,7 @@ fn takes_nothing<R: Wait, P: Payload>(
     map: &ModuleMap<P>,
     caller: &mut Caller<P>,
     order: &Order,
-) -> Result<(), &'static str>
+) -> Told
     requires own { table_of map.now.lock.table.shared.table_id caller.old.pass
         ≡ map.now.lock.table.shared.table_id }
     requires order { IsOrderIn P.weight (view_in caller.old.pass).seen caller.old.number
@@ -40,7 +41,7 @@ fn finds_nothing<R: Wait, P: Payload>(
     map: &ModuleMap<P>,
     caller: &mut Caller<P>,
     order: &Order,
-) -> Result<(), &'static str>
+) -> Told
     requires own { table_of map.now.lock.table.shared.table_id caller.old.pass
         ≡ map.now.lock.table.shared.table_id }
     requires order { IsOrderIn P.weight (view_in caller.old.pass).seen caller.old.number
@@ -71,7 +72,7 @@ fn kind_of(event: &MapEvent<Body>) -> &'static str {
 }
 
 // The kinds of these events, in order.
-fn kinds_of(alloc: Global, events: &[MapEvent<Body>]) -> Result<String, Fail> {
+fn kinds_of(alloc: Global, events: &[MapEvent<Body>]) -> Result<String, Memory> {
     let mut kinds = String::new(alloc);
     for event in events {
         kinds.push_str(kind_of(event))?;
@@ -87,17 +88,17 @@ fn take_and_post<R: Wait>(
     alloc: Global,
     map: &ModuleMap<Body>,
     caller: &mut Caller<Body>,
-) -> Result<(), &'static str>
+) -> Told
     requires { table_of map.now.lock.table.shared.table_id caller.old.pass
         ≡ map.now.lock.table.shared.table_id }
     ensures { table_of map.now.lock.table.shared.table_id caller.new.pass
         ≡ map.now.lock.table.shared.table_id }
 {
     let Ok(payload) = Arc::new(alloc, Body { bytes: 7 }) else {
-        return Err("memory ran out");
+        return Err(SHORT);
     };
     let Ok(taken) = map.take(rt, alloc, caller) else {
-        return Err("memory ran out");
+        return Err(SHORT);
     };
     let Taken::Order(order) = taken else {
         return Err("nothing to take");
@@ -111,54 +112,69 @@ fn take_and_post<R: Wait>(
     Ok(())
 }
 
-const BEFORE: &[(Call, Told)] = &[
+const BEFORE: &[(Call, Answer)] = &[
     (Call::Ask(URL), ("New", 0)),
     (Call::Ask(URL), ("Waiting", 0)),
 ];
 
-const BEHIND: &[(Call, Told)] = &[
+const BEHIND: &[(Call, Answer)] = &[
     (Call::Entry(0), ("Body", 7)),
     (Call::Ask(URL), ("Here", 0)),
     (Call::PostAt(0), ("Post", 0)),
     (Call::PostAt(1), ("None", 0)),
 ];
 
-// What one caller finds from its first ask to the map's end: the first answer that is wrong.
-fn wrong_on_the_way<R: Wait>(
+// Tells what is wrong of what one caller finds from its first ask to the map's end.
+fn finds_all<R: Wait>(
     rt: &R,
     alloc: Global,
     map: &ModuleMap<Body>,
     caller: &mut Caller<Body>,
-) -> Option<Told>
+) -> Told
     requires { table_of map.now.lock.table.shared.table_id caller.old.pass
         ≡ map.now.lock.table.shared.table_id }
     ensures { table_of map.now.lock.table.shared.table_id caller.new.pass
         ≡ map.now.lock.table.shared.table_id }
 {
-    let before = first_wrong(rt, alloc, map, caller, BEFORE);
-    if before.is_some() {
-        return before;
-    }
-    if let Err(wrong) = take_and_post(rt, alloc, map, caller) {
-        return Some((wrong, 0));
-    }
-    let behind = first_wrong(rt, alloc, map, caller, BEHIND);
-    if behind.is_some() {
-        return behind;
-    }
+    let number = holds(caller.number() == 0, "another number");
+    let before = answers_are(rt, alloc, map, caller, BEFORE);
+    let taken = take_and_post(rt, alloc, map, caller);
+    let behind = answers_are(rt, alloc, map, caller, BEHIND);
     map.shut(rt, caller);
-    first_wrong(rt, alloc, map, caller, SHUT)
+    let shut = answers_are(rt, alloc, map, caller, SHUT);
+    number.and(before).and(taken).and(behind).and(shut)
+}
+
+// Tells where the kinds of these events are others.
+fn has_kinds(alloc: Global, events: &[MapEvent<Body>]) -> Told {
+    match kinds_of(alloc, events) {
+        Ok(kinds) => holds(
+            kinds.as_str() == "Begin Enrol Ask Ask Take Post Ask Shut ",
+            "another history",
+        ),
+        Err(Memory) => Err(SHORT),
+    }
+}
+
+// Tells where the map's history is another.
+fn has_history(alloc: Global, map: ModuleMap<Body>, caller: Caller<Body>) -> Told
+    requires { table_of map.lock.table.shared.table_id caller.pass
+        ≡ map.lock.table.shared.table_id }
+{
+    match map.close(caller) {
+        Ok(events) => has_kinds(alloc, events.as_slice()),
+        Err(_busy) => Err("busy"),
+    }
+}
+
+// The same of a new map.
+fn one_caller_finds_all<R: Wait>(rt: &R, alloc: Global) -> Result<Told, Memory> {
+    let (map, mut caller) = opened(rt, alloc)?;
+    let told = finds_all(rt, alloc, &map, &mut caller);
+    Ok(told.and(has_history(alloc, map, caller)))
 }
 
 #[test]
-fn one_caller_makes_a_history_of_eight_events(rt: HostRuntime) -> Result<(), Fail> {
-    let alloc = rt.alloc();
-    let (map, mut caller) = opened(&rt, alloc)?;
-    assert!(rt; caller.number() == 0);
-    let wrong = wrong_on_the_way(&rt, alloc, &map, &mut caller);
-    let events = map.close(caller).ok().ok_or("busy")?;
-    assert_eq!(rt; wrong, None);
-    let kinds = kinds_of(alloc, events.as_slice())?;
-    assert!(rt; kinds.as_str() == "Begin Enrol Ask Ask Take Post Ask Shut ");
-    Ok(())
+fn one_caller_makes_a_history_of_eight_events(rt: HostRuntime) -> Told {
+    told_of(one_caller_finds_all(&rt, rt.alloc()))
 }

@@ -1,6 +1,6 @@
 // Worked sites with `import()`.
-use crate::orders::{Table, first_wrong_order};
-use esm_base::Memory;
+use crate::orders::{Table, orders_hold};
+use esm_sites::Told;
 
 /// Modules that load, or are there.
 const LOADS: &str = r#"== a module that nobody has asked for
@@ -537,7 +537,6 @@ const TABLES: &[Table] = &[
 ];
 
 #[test]
-fn calls_import(rt: HostRuntime) -> Result<(), Memory> {
-    assert_eq!(rt; first_wrong_order(&rt, rt.alloc(), TABLES)?, None);
-    Ok(())
+fn calls_import(rt: HostRuntime) -> Told {
+    orders_hold(&rt, rt.alloc(), TABLES)
 }

@@ -4,14 +4,13 @@ ghost use Rattle.esm_machine.specs.Machine.{state_of};
 ghost use Rattle.esm_machine.specs.Represents.{MayTake};
 
 use crate::dynamic::RACES;
-use esm_ast::Outcome;
 use esm_base::{Memory, Status, Text};
 use esm_import_map::ImportMap;
-use esm_machine::{Machine, TurnEnd};
-use esm_ports::{SureSink, SureSource};
-use esm_run::{Delivery, RunReport};
+use esm_machine::Machine;
+use esm_run::Delivery;
 use esm_sites::{
-    SITES, Wanted, add_named, ending, files_of, is_wanted, run_over, title, wanted_of,
+    Judge, RowCheck, Told, Wanted, deliver_taken, ending, holds, is_wanted, rows_hold, site_judged,
+    title, told_of, wanted_of,
 };
 use std::alloc::Global;
 use std::marker::Sync;
@@ -36,14 +35,9 @@ struct Choice {
     open: usize,
 }
 
-// The outcome that a run took at this URL; nothing stands there where it took none.
-fn outcome_at(taken: &[Delivery], url: &Text) -> Result<Outcome, Memory> {
-    for delivery in taken {
-        if delivery.url.is(url.as_str()) {
-            return delivery.outcome.share();
-        }
-    }
-    Ok(Outcome::Absent)
+// Ends a machine. It gives its log away: a function that lets one go is proved at the cost of all its parts.
+fn close(machine: Machine) {
+    let _log = machine.into_log();
 }
 
 // The open ask at a place, if there is one.
@@ -62,10 +56,8 @@ fn deliver_at(machine: &mut Machine, place: usize, taken: &[Delivery]) -> Result
     let Some(url) = ask_at(machine, place)? else {
         return Ok(false);
     };
-    match machine.deliver(&url, &outcome_at(taken, &url)?) {
-        Err(TurnEnd::Memory) => Err(Memory),
-        _ => Ok(true),
-    }
+    deliver_taken(machine, &url, taken)?;
+    Ok(true)
 }
 
 // Delivers by these choices, and behind them the first open ask again and again, noting that as choices.
@@ -146,7 +138,9 @@ fn ends_so(
     taken: &[Delivery],
 ) -> Result<bool, Memory> {
     let mut machine = new_machine(alloc)?;
-    is_driven_so(alloc, &mut machine, wanted, choices, taken)
+    let ends_so = is_driven_so(alloc, &mut machine, wanted, choices, taken);
+    close(machine);
+    ends_so
 }
 
 // In how many orders these deliveries can be made, if the run ends so in each of them.
@@ -167,69 +161,65 @@ fn count_orders(
     Ok(None)
 }
 
-// The same behind a run that came to this, if that ended so too.
-fn orders_behind(
-    alloc: Global,
-    wanted: Wanted<'_>,
-    report: &RunReport<SureSource>,
-    written: &[u8],
-) -> Result<Option<u64>, Memory> {
-    if !is_wanted(wanted, report.status, written) {
-        return Ok(None);
-    }
-    let mut choices = Vec::new(alloc);
-    count_orders(alloc, wanted, report.taken.as_slice(), &mut choices)
+// In how many orders the fetches of sites can end: so many before this one, which is to end so in each.
+#[derive(Drop)]
+struct Orders<'a> {
+    wanted: Wanted<'a>,
+    count: u64,
 }
 
-// In how many orders the fetches of these files can end; none where their run, or one of these orders, doesn't end so.
-fn orders_of<R: Threads + Wait + Sync>(
-    rt: &R,
-    alloc: Global,
-    files: Vec<(Text, Vec<u8>)>,
-    wanted: Wanted<'_>,
-) -> Result<Option<u64>, Memory> {
-    let mut out = SureSink::new(alloc);
-    let report = run_over(rt, alloc, files, &mut out)?;
-    orders_behind(alloc, wanted, &report, out.written())
+impl<'a, S> Judge<S> for Orders<'a> {
+    fn is_right(
+        &mut self,
+        alloc: Global,
+        status: Status,
+        written: &[u8],
+        taken: &[Delivery],
+        _desk: &S,
+        _sources: &[S],
+    ) -> Result<bool, Memory> {
+        if !is_wanted(self.wanted, status, written) {
+            return Ok(false);
+        }
+        let mut choices = Vec::new(alloc);
+        match count_orders(alloc, self.wanted, taken, &mut choices) {
+            Ok(Some(more)) => {
+                self.count = self.count.wrapping_add(more);
+                Ok(true)
+            }
+            Ok(None) => Ok(false),
+            Err(Memory) => Err(Memory),
+        }
+    }
 }
 
 /// A table of sites, and in how many orders the fetches of all may end, together.
 pub type Table = (&'static str, u64);
 
-// The first of the sites of a table that doesn't run as its text says in each of its orders, if there is one; so much for
-// another number of orders.
-fn wrong_in<R: Threads + Wait + Sync>(
-    rt: &R,
-    alloc: Global,
-    table: &Table,
-) -> Result<Option<&'static str>, Memory> {
-    let mut counted = 0u64;
+// Tells the first of the sites of a table that doesn't run as its text says in each of its orders, or another number of
+// orders.
+fn table_holds<R: Threads + Wait + Sync>(rt: &R, alloc: Global, table: &Table) -> Told {
+    let mut told = Ok(());
+    let mut count = 0u64;
     for site in table.0.split("\n\n== ") {
-        match orders_of(rt, alloc, files_of(alloc, site)?, wanted_of(site))? {
-            Some(more) => counted = counted.wrapping_add(more),
-            None => return Ok(Some(title(site))),
-        }
+        let mut orders = Orders {
+            wanted: wanted_of(site),
+            count,
+        };
+        let found = site_judged(rt, alloc, site, &mut orders);
+        told = told.and(holds(found, title(site)));
+        count = orders.count;
     }
-    if counted == table.1 {
-        Ok(None)
-    } else {
-        Ok(Some("the number of orders"))
-    }
+    told.and(holds(Ok(count == table.1), "the number of orders"))
 }
 
 /// The same of several tables.
-pub fn first_wrong_order<R: Threads + Wait + Sync>(
-    rt: &R,
-    alloc: Global,
-    tables: &[Table],
-) -> Result<Option<&'static str>, Memory> {
+pub fn orders_hold<R: Threads + Wait + Sync>(rt: &R, alloc: Global, tables: &[Table]) -> Told {
+    let mut told = Ok(());
     for table in tables {
-        let wrong = wrong_in(rt, alloc, table)?;
-        if wrong.is_some() {
-            return Ok(wrong);
-        }
+        told = told.and(table_holds(rt, alloc, table));
     }
-    Ok(None)
+    told
 }
 
 /// A site that writes another text where its fetches end in another order.
@@ -252,19 +242,15 @@ print("A");
 A"#;
 
 // Whether a site whose orders differ is found, and another number of orders, and nothing else.
-fn wrong_are_found<R: Threads + Wait + Sync>(rt: &R, alloc: Global) -> Result<bool, Memory> {
-    Ok(
-        first_wrong_order(rt, alloc, &[(UNORDERED, 2)])?
-            == Some("two files that nothing else imports")
-            && first_wrong_order(rt, alloc, &[(ORDERED, 1)])?.is_none()
-            && first_wrong_order(rt, alloc, &[(ORDERED, 2)])? == Some("the number of orders"),
-    )
+fn wrong_are_found<R: Threads + Wait + Sync>(rt: &R, alloc: Global) -> bool {
+    told_of(orders_hold(rt, alloc, &[(UNORDERED, 2)])) == "two files that nothing else imports"
+        && told_of(orders_hold(rt, alloc, &[(ORDERED, 1)])) == "nothing"
+        && told_of(orders_hold(rt, alloc, &[(ORDERED, 2)])) == "the number of orders"
 }
 
 #[test]
-fn orders_that_differ_are_found(rt: HostRuntime) -> Result<(), Memory> {
-    assert!(rt; wrong_are_found(&rt, rt.alloc())?);
-    Ok(())
+fn orders_that_differ_are_found(rt: HostRuntime) -> Told {
+    holds(Ok(wrong_are_found(&rt, rt.alloc())), "orders that differ")
 }
 
 // Delivers the file of this name. `false` where it isn't asked for.
@@ -307,7 +293,9 @@ fn is_delivered_so(
 // The same with a new machine.
 fn runs_so(alloc: Global, run: &str, taken: &[Delivery]) -> Result<bool, Memory> {
     let mut machine = new_machine(alloc)?;
-    is_delivered_so(alloc, &mut machine, run, taken)
+    let runs_so = is_delivered_so(alloc, &mut machine, run, taken);
+    close(machine);
+    runs_so
 }
 
 // Whether each run of a race ends as it says.
@@ -328,32 +316,42 @@ fn is_in_order_of_asking(race: &str, status: Status, written: &[u8]) -> bool {
     }
 }
 
-// Whether one worker delivers in the order of asking, and each run of the race ends as it says.
-fn is_raced_so<R: Threads + Wait + Sync>(
-    rt: &R,
-    alloc: Global,
-    race: &str,
-) -> Result<bool, Memory> {
-    let mut out = SureSink::new(alloc);
-    let report = run_over(rt, alloc, files_of(alloc, race)?, &mut out)?;
-    if is_in_order_of_asking(race, report.status, out.written()) {
-        all_run_so(alloc, race, report.taken.as_slice())
-    } else {
-        Ok(false)
+// Whether one worker delivers in the order of asking, and each run of a race ends as it says.
+#[derive(Drop)]
+struct Race<'a> {
+    race: &'a str,
+}
+
+impl<'a, S> Judge<S> for Race<'a> {
+    fn is_right(
+        &mut self,
+        alloc: Global,
+        status: Status,
+        written: &[u8],
+        taken: &[Delivery],
+        _desk: &S,
+        _sources: &[S],
+    ) -> Result<bool, Memory> {
+        if is_in_order_of_asking(self.race, status, written) {
+            all_run_so(alloc, self.race, taken)
+        } else {
+            Ok(false)
+        }
     }
 }
 
-// The first race that doesn't run as its text says, if there is one.
-fn wrong_race<R: Threads + Wait + Sync>(
-    rt: &R,
-    alloc: Global,
-) -> Result<Option<&'static str>, Memory> {
-    for race in RACES.split("\n\n== ") {
-        if !is_raced_so(rt, alloc, race)? {
-            return Ok(Some(title(race)));
-        }
+// Checks that a race runs as its text says.
+struct RaceCheck;
+
+impl RowCheck for RaceCheck {
+    fn is_so<R: Threads + Wait + Sync>(
+        &self,
+        rt: &R,
+        alloc: Global,
+        row: &str,
+    ) -> Result<bool, Memory> {
+        site_judged(rt, alloc, row, &mut Race { race: row })
     }
-    Ok(None)
 }
 
 // Delivers the first open ask, then the one at this place, and then the one that is left. Whether the run ends just then,
@@ -377,7 +375,9 @@ fn ends_behind(
 // The same with a new machine, by the text of the ending.
 fn fails_so(alloc: Global, place: usize, end: &str, taken: &[Delivery]) -> Result<bool, Memory> {
     let mut machine = new_machine(alloc)?;
-    ends_behind(alloc, &mut machine, place, ending(end), taken)
+    let fails_so = ends_behind(alloc, &mut machine, place, ending(end), taken);
+    close(machine);
+    fails_so
 }
 
 // Of two missing files the one that is delivered first is named.
@@ -387,19 +387,31 @@ fn first_is_named(alloc: Global, taken: &[Delivery]) -> Result<bool, Memory> {
     Ok(fails_so(alloc, 0, a, taken)? && fails_so(alloc, 1, b, taken)?)
 }
 
-fn is_first_named<R: Threads + Wait + Sync>(rt: &R, alloc: Global) -> Result<bool, Memory> {
-    let mut files = Vec::new(alloc);
-    let text = "import \"./a.js\";import \"./b.js\";print(\"m\")";
-    add_named(alloc, &mut files, "main.js", text)?;
-    let mut out = SureSink::new(alloc);
-    let report = run_over(rt, alloc, files, &mut out)?;
-    first_is_named(alloc, report.taken.as_slice())
+const TWO_MISSING: &str =
+    "== two missing files\n-- main.js\nimport \"./a.js\";import \"./b.js\";print(\"m\")";
+
+// Whether it is.
+#[derive(Drop)]
+struct FirstNamed;
+
+impl<S> Judge<S> for FirstNamed {
+    fn is_right(
+        &mut self,
+        alloc: Global,
+        _status: Status,
+        _written: &[u8],
+        taken: &[Delivery],
+        _desk: &S,
+        _sources: &[S],
+    ) -> Result<bool, Memory> {
+        first_is_named(alloc, taken)
+    }
 }
 
 // Each race runs as its order says, and of two missing files the one that is delivered first is named.
 #[test]
-fn the_order_of_deliveries_decides(rt: HostRuntime) -> Result<(), Memory> {
-    assert_eq!(rt; wrong_race(&rt, rt.alloc())?, None);
-    assert!(rt; is_first_named(&rt, rt.alloc())?);
-    Ok(())
+fn the_order_of_deliveries_decides(rt: HostRuntime) -> Told {
+    let alloc = rt.alloc();
+    let named = site_judged(&rt, alloc, TWO_MISSING, &mut FirstNamed);
+    rows_hold(&rt, alloc, &RaceCheck, RACES).and(holds(named, "two missing files"))
 }

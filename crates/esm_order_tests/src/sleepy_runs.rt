@@ -2,9 +2,10 @@
 use crate::sleepy::{all_sleepy, sleepy};
 use crate::standard::standard_end;
 use esm_base::{Memory, Status};
-use esm_ports::SureSink;
-use esm_run::{Delivery, run};
-use esm_sites::{is_wanted, title, wanted_of, words};
+use esm_run::Delivery;
+use esm_sites::{
+    COMMAND, Judge, Told, Wanted, ending, holds, is_wanted, judged, sure_sink, title, wanted_of,
+};
 use std::alloc::Global;
 use std::marker::{Send, Sync};
 use std::sync::Wait;
@@ -87,96 +88,121 @@ import "./main.js"; print("a");
 print("b");
 >> Unsettled"#;
 
-// The words of a run over so many workers.
-fn words_for(alloc: Global, workers: u64) -> Result<Vec<String>, Memory> {
-    let line = format!(in alloc; "run https://a.test/ main.js --workers {workers}")?;
-    words(alloc, line.as_str())
+// Whether the order that a run took is allowed, the standard run of it ends so too, and its status is this, if one is given.
+#[derive(Drop)]
+struct Standard<'a> {
+    wanted: Option<Wanted<'a>>,
 }
 
-// The status of a run that took these deliveries and wrote this text, where their order is allowed and the standard run of
-// it ends so too.
-fn status_as_standard(
-    alloc: Global,
-    taken: &[Delivery],
-    status: Status,
-    written: &[u8],
-) -> Result<Option<Status>, Memory> {
-    match standard_end(alloc, taken) {
-        Ok(Some(end)) => {
-            let holds = end.status == status && end.text.as_slice() == written;
-            Ok(holds.then_some(status))
+impl<'a, S> Judge<S> for Standard<'a> {
+    fn is_right(
+        &mut self,
+        alloc: Global,
+        status: Status,
+        written: &[u8],
+        taken: &[Delivery],
+        _desk: &S,
+        _sources: &[S],
+    ) -> Result<bool, Memory> {
+        let right = match self.wanted {
+            Some(wanted) => is_wanted(wanted, status, b""),
+            None => true,
+        };
+        match standard_end(alloc, taken) {
+            Ok(Some(end)) => { Ok(right && end.status == status && end.text.as_slice() == written) }
+            Ok(None) => Ok(false),
+            Err(Memory) => Err(Memory),
         }
-        Ok(None) => Ok(None),
-        Err(Memory) => Err(Memory),
     }
 }
 
-// How a run over sleepy sources ends, where the order that it took is allowed and the standard run of it ends so too.
-fn standard_status<R: Threads + Wait + Sync + Send + Clone + Drop + Clock>(
-    rt: &R,
-    alloc: Global,
-    site: &str,
-    workers: u64,
-    seed: u64,
-    fail_at: u64,
-) -> Result<Option<Status>, Memory> {
-    let words = words_for(alloc, workers)?;
-    let mut desk = sleepy(rt, alloc, "", seed, 0)?;
-    let sources = all_sleepy(rt, alloc, site, 16, seed, fail_at)?;
-    let mut out = SureSink::new(alloc);
-    let report = run(rt, alloc, &words, &mut desk, sources, &mut out);
-    status_as_standard(alloc, &report.taken, report.status, out.written())
-}
-
-// Whether a run over sleepy sources is the standard run of its order, and where no source fails has the status that the site
-// says.
+// Whether a run over sleepy sources, of which each fails at its call with this number, is the standard run of its order, and has
+// this status, if one is given.
 fn is_standard<R: Threads + Wait + Sync + Send + Clone + Drop + Clock>(
     rt: &R,
     alloc: Global,
     site: &str,
-    workers: u64,
+    workers: &str,
     seed: u64,
     fail_at: u64,
+    wanted: Option<Wanted<'_>>,
 ) -> Result<bool, Memory> {
-    match standard_status(rt, alloc, site, workers, seed, fail_at) {
-        Ok(Some(status)) => Ok(fail_at != 0 || is_wanted(wanted_of(site), status, b"")),
-        Ok(None) => Ok(false),
-        Err(Memory) => Err(Memory),
-    }
+    let line = format!(in alloc; "{COMMAND} --workers {workers}")?;
+    let desk = sleepy(rt, alloc, "", seed, 0)?;
+    let sources = all_sleepy(rt, alloc, site, 16, seed, fail_at)?;
+    let mut standard = Standard { wanted };
+    judged(
+        rt,
+        alloc,
+        line.as_str(),
+        desk,
+        sources,
+        sure_sink(alloc),
+        &mut standard,
+    )
 }
 
-// The first of these sites that doesn't run as the standard says, by so many workers, of which each has a source that
-// fails at its call with this number.
-fn wrong_by<R: Threads + Wait + Sync + Send + Clone + Drop + Clock>(
+// Tells the first of the sites that doesn't run as the standard says, by so many workers, of which each has a source that
+// fails at its call with this number. Where none fails, the status is that of the site.
+fn sites_hold<R: Threads + Wait + Sync + Send + Clone + Drop + Clock>(
     rt: &R,
     alloc: Global,
-    workers: u64,
+    workers: &str,
+    seed: u64,
     fail_at: u64,
-) -> Result<Option<&'static str>, Memory> {
-    for seed in 0..2u64 {
-        for site in SITES.split("\n\n== ") {
-            if !is_standard(rt, alloc, site, workers, seed, fail_at)? {
-                return Ok(Some(title(site)));
-            }
-        }
+) -> Told {
+    let mut told = Ok(());
+    for site in SITES.split("\n\n== ") {
+        let wanted = (fail_at == 0).then_some(wanted_of(site));
+        let found = is_standard(rt, alloc, site, workers, seed, fail_at, wanted);
+        told = told.and(holds(found, title(site)));
     }
-    Ok(None)
+    told
 }
 
-// The same by one worker and more; no source fails, or each at its first call, or at its second.
-fn first_wrong<R: Threads + Wait + Sync + Send + Clone + Drop + Clock>(
+// So many workers; no source fails, or each at its first call, or at its second.
+const SETTINGS: &str =
+    "1 none\n1 first\n1 second\n2 none\n2 first\n2 second\n4 none\n4 first\n4 second\n16 none\n16 first\n16 second";
+
+// The call that fails by this word.
+fn number_of(word: &str) -> u64 {
+    if word == "first" {
+        return 1;
+    }
+    if word == "second" {
+        return 2;
+    }
+    0
+}
+
+/// What is wrong: the number of workers and the call that fails, and the site.
+type Wrong = (&'static str, &'static str);
+
+// Tells of a setting the first site that doesn't run so by one of two draws.
+fn setting_holds<R: Threads + Wait + Sync + Send + Clone + Drop + Clock>(
     rt: &R,
     alloc: Global,
-) -> Result<Option<&'static str>, Memory> {
-    for workers in [1u64, 2, 4, 16] {
-        for fail_at in 0..3u64 {
-            let wrong = wrong_by(rt, alloc, workers, fail_at)?;
-            if wrong.is_some() {
-                return Ok(wrong);
-            }
-        }
+    setting: &'static str,
+) -> Result<(), Wrong> {
+    let (workers, word) = setting.split_once(' ').unwrap_or((setting, ""));
+    let fail_at = number_of(word);
+    let once = sites_hold(rt, alloc, workers, 0, fail_at);
+    match once.and(sites_hold(rt, alloc, workers, 1, fail_at)) {
+        Ok(()) => Ok(()),
+        Err(site) => Err((setting, site)),
     }
-    Ok(None)
+}
+
+// The same of all settings.
+fn settings_hold<R: Threads + Wait + Sync + Send + Clone + Drop + Clock>(
+    rt: &R,
+    alloc: Global,
+) -> Result<(), Wrong> {
+    let mut told = Ok(());
+    for setting in SETTINGS.lines() {
+        told = told.and(setting_holds(rt, alloc, setting));
+    }
+    told
 }
 
 // A site with one call of `import()` more than may be made. Seven fetches are under way where the limit stops its run.
@@ -201,27 +227,40 @@ print("d");
     Ok(site)
 }
 
-// Whether the limit stops the run of this site by one worker and more, which all end.
+// Tells this where the limit doesn't stop the run of this site by so many workers, which all end.
 fn all_end<R: Threads + Wait + Sync + Send + Clone + Drop + Clock>(
     rt: &R,
     alloc: Global,
     site: &str,
-) -> Result<bool, Memory> {
-    for workers in [1u64, 2, 4, 16] {
-        for seed in 0..2u64 {
-            if standard_status(rt, alloc, site, workers, seed, 0)? != Some(Status::Limit) {
-                return Ok(false);
-            }
-        }
+    workers: &'static str,
+) -> Told {
+    let limit = Some(ending("Limit"));
+    holds(is_standard(rt, alloc, site, workers, 0, 0, limit), workers).and(holds(
+        is_standard(rt, alloc, site, workers, 1, 0, limit),
+        workers,
+    ))
+}
+
+// The same by one worker and more.
+fn all_stop<R: Threads + Wait + Sync + Send + Clone + Drop + Clock>(
+    rt: &R,
+    alloc: Global,
+) -> Result<(), Wrong> {
+    let Ok(site) = many_calls(alloc) else {
+        return Err(("a limit", "memory ran out"));
+    };
+    let mut told = Ok(());
+    for workers in ["1", "2", "4", "16"] {
+        told = told.and(all_end(rt, alloc, site.as_str(), workers));
     }
-    Ok(true)
+    match told {
+        Ok(()) => Ok(()),
+        Err(workers) => Err(("a limit", workers)),
+    }
 }
 
 // A run over sources that take their time is the standard run of its order; a limit ends all its workers.
 #[test]
-fn a_run_is_the_standard_run_of_its_order(rt: HostRuntime) -> Result<(), Memory> {
-    assert_eq!(rt; first_wrong(&rt, rt.alloc())?, None);
-    let site = many_calls(rt.alloc())?;
-    assert!(rt; all_end(&rt, rt.alloc(), site.as_str())?);
-    Ok(())
+fn a_run_is_the_standard_run_of_its_order(rt: HostRuntime) -> Result<(), Wrong> {
+    settings_hold(&rt, rt.alloc()).and(all_stop(&rt, rt.alloc()))
 }

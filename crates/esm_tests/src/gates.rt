@@ -1,11 +1,10 @@
 // Sources that answer only once others have been asked too: that fetches go on at the same time.
-ghost use Rattle.std.specs.Prelude.{◌≡◌, ◌<◌, ◌-◌, ◌^◌, [], All, IfOk, None, refl, vec_len};
+ghost use Rattle.std.specs.Prelude.{◌≡◌, ◌<◌, [], All, IfOk, None, refl, vec_len};
 ghost use Rattle.esm_ports.specs.Asks.{failed_count};
 
-use esm_base::{Memory, Status};
-use esm_ports::{FetchEnd, MemSource, Source, SureSink};
-use esm_run::run;
-use esm_sites::{COMMAND, site, words};
+use esm_base::Memory;
+use esm_ports::{FetchEnd, MemSource, Source};
+use esm_sites::{COMMAND, Ends, Told, ending, files_of, holds, judged, sure_sink};
 use std::alloc::Global;
 use std::marker::{Send, Sync};
 use std::sync::{Arc, Mutex, Wait};
@@ -15,14 +14,13 @@ use std::thread::Threads;
 const LOOKS: u64 = 20_000_000;
 
 /// A source over files in memory. A fetch of another file than the entry counts itself, and answers once as many have
-/// begun as are wanted. Where it gives up waiting it says so.
+/// begun as are wanted. Where it gives up waiting it answers want of memory, which ends the run.
 #[derive(Drop)]
 struct GatedSource<R> {
     rt: R,
     files: MemSource,
     begun: Arc<Mutex<u64>, Global>,
     wanted: u64,
-    gave_up: bool,
 }
 
 // Counts one more.
@@ -54,7 +52,7 @@ impl<R: Wait + Drop> Source for GatedSource<R> {
         if url != "https://a.test/main.js" {
             begin(&self.rt, &self.begun);
             if !all_begin(&self.rt, &self.begun, self.wanted) {
-                self.gave_up = true;
+                return Err(FetchEnd::Memory);
             }
         }
         self.files.fetch(alloc, url)
@@ -69,19 +67,18 @@ impl<R: Wait + Drop> Source for GatedSource<R> {
 fn gated<R: Wait + Clone + Drop>(
     rt: &R,
     alloc: Global,
-    named: &[(&str, &str)],
+    site: &str,
     begun: &Arc<Mutex<u64>, Global>,
     wanted: u64,
 ) -> Result<GatedSource<R>, Memory>
     ensures { IfOk result (λ s. s.files.asked ≡ []) }
 {
-    let files = MemSource::new(alloc, site(alloc, named)?, Vec::new(alloc))?;
+    let files = MemSource::new(alloc, files_of(alloc, site)?, Vec::new(alloc))?;
     Ok(GatedSource {
         rt: rt.clone()?,
         files,
         begun: Arc::try_clone(begun)?,
         wanted,
-        gave_up: false,
     })
 }
 
@@ -89,7 +86,7 @@ fn gated<R: Wait + Clone + Drop>(
 fn all_gated<R: Wait + Clone + Drop>(
     rt: &R,
     alloc: Global,
-    named: &[(&str, &str)],
+    site: &str,
     count: u64,
 ) -> Result<Vec<GatedSource<R>>, Memory>
     requires { 0 < count }
@@ -99,71 +96,56 @@ fn all_gated<R: Wait + Clone + Drop>(
     let begun = Arc::new(alloc, Mutex::new(0))?;
     let mut sources = Vec::new(alloc);
     for _ in 0..count {
-        sources.push(gated(rt, alloc, named, &begun, count)?)?;
+        sources.push(gated(rt, alloc, site, &begun, count)?)?;
     }
     Ok(sources)
 }
 
-// Whether the run of these words writes nothing, and no source gave up.
-fn writes_nothing<R: Threads + Wait + Sync + Send + Clone + Drop>(
-    rt: &R,
-    alloc: Global,
-    words: &[String],
-    mut desk: GatedSource<R>,
-    sources: Vec<GatedSource<R>>,
-) -> bool
-    requires some { 0 < vec_len sources }
-    requires fresh { All (λ s. s.files.asked ≡ []) sources.items }
-    requires fresh_desk { desk.files.asked ≡ [] }
-{
-    let mut out = SureSink::new(alloc);
-    let report = run(rt, alloc, words, &mut desk, sources, &mut out);
-    let gave_up = report.sources.iter().any(|source| source.gave_up);
-    report.status == Status::Fulfilled && out.written().is_empty() && !gave_up
-}
-
-// The words that run the entry by so many workers.
-fn words_for(alloc: Global, count: u64) -> Result<Vec<String>, Memory> {
-    let line = format!(in alloc; "{COMMAND} --workers {count}")?;
-    words(alloc, line.as_str())
-}
-
-// Whether the run over as many workers as there are sources writes nothing, and no source gave up.
+// Whether the run over as many workers as there are sources ends well and writes nothing, which none does where a source gave up.
 fn runs_at_once<R: Threads + Wait + Sync + Send + Clone + Drop>(
     rt: &R,
     alloc: Global,
-    named: &[(&str, &str)],
+    site: &str,
     count: u64,
 ) -> Result<bool, Memory>
     requires { 0 < count }
 {
-    let words = words_for(alloc, count)?;
+    let line = format!(in alloc; "{COMMAND} --workers {count}")?;
     let begun = Arc::new(alloc, Mutex::new(0))?;
-    let desk = gated(rt, alloc, &[], &begun, 1)?;
-    let sources = all_gated(rt, alloc, named, count)?;
-    Ok(writes_nothing(rt, alloc, &words, desk, sources))
+    let desk = gated(rt, alloc, "", &begun, 1)?;
+    let sources = all_gated(rt, alloc, site, count)?;
+    let mut ends = Ends {
+        wanted: ending("Fulfilled"),
+    };
+    judged(
+        rt,
+        alloc,
+        line.as_str(),
+        desk,
+        sources,
+        sure_sink(alloc),
+        &mut ends,
+    )
 }
 
-const TWO: &[(&str, &str)] = &[
-    ("main.js", "import \"./a.js\";import \"./b.js\";"),
-    ("a.js", ""),
-    ("b.js", ""),
-];
+const TWO: &str = r#"== two files
+-- main.js
+import "./a.js";import "./b.js";
+-- a.js
+-- b.js"#;
 
-const FOUR: &[(&str, &str)] = &[
-    (
-        "main.js",
-        "import \"./a.js\";import \"./b.js\";import \"./c.js\";import \"./d.js\";",
-    ),
-    ("a.js", ""),
-    ("b.js", ""),
-    ("c.js", ""),
-    ("d.js", ""),
-];
+const FOUR: &str = r#"== four files
+-- main.js
+import "./a.js";import "./b.js";import "./c.js";import "./d.js";
+-- a.js
+-- b.js
+-- c.js
+-- d.js"#;
 
 #[test]
-fn fetches_go_on_at_the_same_time(rt: HostRuntime) -> Result<(), Memory> {
-    assert!(rt; runs_at_once(&rt, rt.alloc(), TWO, 2)?);
-    assert!(rt; runs_at_once(&rt, rt.alloc(), FOUR, 4)?);
-    Ok(())
+fn fetches_go_on_at_the_same_time(rt: HostRuntime) -> Told {
+    holds(runs_at_once(&rt, rt.alloc(), TWO, 2), "two files").and(holds(
+        runs_at_once(&rt, rt.alloc(), FOUR, 4),
+        "four files",
+    ))
 }

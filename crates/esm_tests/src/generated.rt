@@ -1,7 +1,12 @@
 // Runs over generated input: a summary is written in place of the log, and neither desk nor sources are asked.
-use crate::told::{is_cut, told_over, unrefused};
-use esm_base::Memory;
-use esm_sites::{title, wanted_of};
+use crate::told::{Refusal, is_cut};
+use esm_base::{Memory, Status};
+use esm_ports::MemSource;
+use esm_run::Delivery;
+use esm_sites::{
+    Judge, RowCheck, Setting, Told, has_lines, holds, is_wanted, rows_hold, set_judged, title,
+    wanted_of,
+};
 use std::alloc::Global;
 use std::marker::Sync;
 use std::sync::Wait;
@@ -72,34 +77,47 @@ started 4096
 lines 4096
 status 0";
 
-// Whether the run of a row ends as it says, takes as many modules as it says, and asks neither the desk nor its one source.
-fn is_summed_up<R: Threads + Wait + Sync>(
-    rt: &R,
-    alloc: Global,
-    row: &str,
-) -> Result<bool, Memory> {
-    let told = told_over(rt, alloc, title(row), Vec::new(alloc))?;
-    let taken = told.taken;
-    let first = format!(in alloc; "modules {taken}")?;
-    Ok(
-        told.is_so(wanted_of(row))
-            && row.lines().nth(2) == Some(first.as_str())
-            && told.desk == 0
-            && told.asked.as_slice() == [0usize].as_slice(),
-    )
+// Whether a run ends as a row says, takes as many modules as it says, and asks neither the desk nor its one source.
+#[derive(Drop)]
+struct Sum<'a> {
+    row: &'a str,
 }
 
-// The first of these words whose run isn't summed up so, if there are any.
-fn wrong_sum<R: Threads + Wait + Sync>(
-    rt: &R,
-    alloc: Global,
-) -> Result<Option<&'static str>, Memory> {
-    for row in SUMS.split("\n\n== ") {
-        if !is_summed_up(rt, alloc, row)? {
-            return Ok(Some(title(row)));
+impl<'a> Judge<MemSource> for Sum<'a> {
+    fn is_right(
+        &mut self,
+        alloc: Global,
+        status: Status,
+        written: &[u8],
+        taken: &[Delivery],
+        desk: &MemSource,
+        sources: &[MemSource],
+    ) -> Result<bool, Memory> {
+        let first = format!(in alloc; "modules {}", taken.len())?;
+        match sources {
+            [source] => Ok(
+                is_wanted(wanted_of(self.row), status, written)
+                    && self.row.lines().nth(2) == Some(first.as_str())
+                    && desk.asked().len() == 0
+                    && source.asked().len() == 0,
+            ),
+            _ => Ok(false),
         }
     }
-    Ok(None)
+}
+
+// Checks that the words of a row end as it says.
+struct SumCheck;
+
+impl RowCheck for SumCheck {
+    fn is_so<R: Threads + Wait + Sync>(
+        &self,
+        rt: &R,
+        alloc: Global,
+        row: &str,
+    ) -> Result<bool, Memory> {
+        set_judged(rt, alloc, title(row), &Setting::of(""), &mut Sum { row })
+    }
 }
 
 // Words of `gen` that are no command.
@@ -122,20 +140,19 @@ fn has_front<R: Threads + Wait + Sync>(
     rt: &R,
     alloc: Global,
     number: u64,
-    front: &str,
-) -> Result<bool, Memory> {
-    is_cut(rt, alloc, "gen 1 3", &[], 7, number, front)
+    front: &'static str,
+) -> Told {
+    holds(is_cut(rt, alloc, "gen 1 3", "", 7, number, front), front)
 }
 
 // Generated input is summed up; other words of `gen` show the usage line; a failing sink keeps what it took.
 #[test]
-fn generated_input_is_summed_up(rt: HostRuntime) -> Result<(), Memory> {
+fn generated_input_is_summed_up(rt: HostRuntime) -> Told {
     let alloc = rt.alloc();
-    assert_eq!(rt; wrong_sum(&rt, alloc)?, None);
-    assert_eq!(rt; unrefused(&rt, alloc, REFUSED)?, None);
-    assert!(rt; REFUSED.lines().count() == 12);
-    assert!(rt; has_front(&rt, alloc, 1, "")?);
-    assert!(rt; has_front(&rt, alloc, 2, "modules")?);
-    assert!(rt; has_front(&rt, alloc, 3, "modules 3\nstar")?);
-    Ok(())
+    rows_hold(&rt, alloc, &SumCheck, SUMS)
+        .and(rows_hold(&rt, alloc, &Refusal, REFUSED))
+        .and(has_lines(REFUSED, 12))
+        .and(has_front(&rt, alloc, 1, ""))
+        .and(has_front(&rt, alloc, 2, "modules"))
+        .and(has_front(&rt, alloc, 3, "modules 3\nstar"))
 }

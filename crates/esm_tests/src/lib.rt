@@ -9,8 +9,6 @@ mod gates;
 #[cfg(test)]
 mod generated;
 #[cfg(test)]
-mod graphs;
-#[cfg(test)]
 mod maps;
 #[cfg(test)]
 mod records;

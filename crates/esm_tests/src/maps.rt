@@ -1,17 +1,14 @@
 // Runs under an import map.
-ghost use Rattle.std.specs.Prelude.{◌≡◌, ◌<◌, [], All, vec_len};
-
-use crate::told::{one_failing, one_source, told};
 use esm_base::{Memory, Status};
-use esm_ports::{MemSource, Source, SureSink};
-use esm_run::run;
-use esm_sites::{failing, files, files_of, title, wanted_of, words};
+use esm_ports::{MemSource, Source};
+use esm_run::Delivery;
+use esm_sites::{
+    Judge, RowCheck, Setting, Told, Wanted, holds, is_wanted, rows_hold, set_judged, wanted_of,
+};
 use std::alloc::Global;
 use std::marker::Sync;
 use std::sync::Wait;
 use std::thread::Threads;
-
-const MAP: &str = "https://a.test/map.json";
 
 const NAMED: &str = "run https://a.test/ main.js --map map.json";
 
@@ -145,80 +142,107 @@ print("hi")
 >> Usage
 esm: these words are no command"#;
 
-// The text that a line says.
-fn map_of(line: &str) -> Option<&[u8]> {
+// The import map that a line says.
+fn map_of(line: &str) -> &str {
     if line == "none" {
-        return None;
+        return "";
     }
     if line == "scoped" {
-        return Some(SCOPED.as_bytes());
+        return SCOPED;
     }
-    Some(line.as_bytes())
+    line
 }
 
-// Whether the run of a row ends as it says, and asks the desk so often.
-fn is_run_so<R: Threads + Wait + Sync>(
-    rt: &R,
-    alloc: Global,
-    row: &str,
+// Whether a run ends so, and asks the desk so often.
+#[derive(Drop)]
+struct Asks<'a> {
+    wanted: Wanted<'a>,
     asked: usize,
-) -> Result<bool, Memory> {
-    let words = row.lines().nth(1).unwrap_or("");
-    let map = files(alloc, MAP, map_of(row.lines().nth(2).unwrap_or("")))?;
-    let sources = one_source(alloc, files_of(alloc, row)?)?;
-    let told = told(rt, alloc, words, map, sources)?;
-    Ok(told.is_so(wanted_of(row)) && told.desk == asked)
 }
 
-// The name of the first row that doesn't run so, if there is one.
-fn wrong_row<R: Threads + Wait + Sync>(
-    rt: &R,
-    alloc: Global,
-    rows: &'static str,
-    asked: usize,
-) -> Result<Option<&'static str>, Memory> {
-    for row in rows.split("\n\n== ") {
-        if !is_run_so(rt, alloc, row, asked)? {
-            return Ok(Some(title(row)));
-        }
+impl<'a> Judge<MemSource> for Asks<'a> {
+    fn is_right(
+        &mut self,
+        _alloc: Global,
+        status: Status,
+        written: &[u8],
+        _taken: &[Delivery],
+        desk: &MemSource,
+        _sources: &[MemSource],
+    ) -> Result<bool, Memory> {
+        Ok(is_wanted(self.wanted, status, written) && desk.asked().len() == self.asked)
     }
-    Ok(None)
+}
+
+// Checks that the run of a row ends as it says, and asks the desk so often.
+#[derive(Drop)]
+struct MapCheck {
+    asked: usize,
+}
+
+impl RowCheck for MapCheck {
+    fn is_so<R: Threads + Wait + Sync>(
+        &self,
+        rt: &R,
+        alloc: Global,
+        row: &str,
+    ) -> Result<bool, Memory> {
+        let setting = Setting {
+            map: map_of(row.lines().nth(2).unwrap_or("")),
+            ..Setting::of(row)
+        };
+        let mut asks = Asks {
+            wanted: wanted_of(row),
+            asked: self.asked,
+        };
+        set_judged(
+            rt,
+            alloc,
+            row.lines().nth(1).unwrap_or(""),
+            &setting,
+            &mut asks,
+        )
+    }
 }
 
 // Whether a run whose desk fails at its first fetch has no map, and takes nothing.
-fn has_no_map<R: Threads + Wait + Sync>(
-    rt: &R,
-    alloc: Global,
-    words: &[String],
-    mut desk: MemSource,
-    sources: Vec<MemSource>,
-) -> bool
-    requires some { 0 < vec_len sources }
-    requires fresh { All (λ s. s.asked ≡ []) sources.items }
-    requires fresh_desk { desk.asked ≡ [] }
-{
-    let mut out = SureSink::new(alloc);
-    let report = run(rt, alloc, words, &mut desk, sources, &mut out);
-    let refused = "import map refused: cannot fetch https://a.test/map.json\n";
-    report.status == Status::MapRefused
-        && out.written() == refused.as_bytes()
-        && desk.faults() == 1
-        && report.taken.len() == 0
+#[derive(Drop)]
+struct HasNoMap;
+
+impl Judge<MemSource> for HasNoMap {
+    fn is_right(
+        &mut self,
+        _alloc: Global,
+        status: Status,
+        written: &[u8],
+        taken: &[Delivery],
+        desk: &MemSource,
+        _sources: &[MemSource],
+    ) -> Result<bool, Memory> {
+        let refused = "import map refused: cannot fetch https://a.test/map.json\n";
+        Ok(
+            status == Status::MapRefused
+                && written == refused.as_bytes()
+                && desk.faults() == 1
+                && taken.len() == 0,
+        )
+    }
 }
 
-// The same with a desk that fails so.
+// Whether that of a desk that fails so has none.
 fn fails_without_map<R: Threads + Wait + Sync>(rt: &R, alloc: Global) -> Result<bool, Memory> {
-    let words = words(alloc, NAMED)?;
-    let desk = failing(alloc, None, vec![in alloc; 1]?)?;
-    let sources = one_failing(alloc, Vec::new(alloc))?;
-    Ok(has_no_map(rt, alloc, &words, desk, sources))
+    let setting = Setting {
+        map_fails: 1,
+        ..Setting::of("== one print\n-- main.js\nprint(\"hi\")")
+    };
+    set_judged(rt, alloc, NAMED, &setting, &mut HasNoMap)
 }
 
 // The map that the desk answers decides; words that name none ask for none; a desk that fails has none.
 #[test]
-fn the_map_of_the_desk_decides(rt: HostRuntime) -> Result<(), Memory> {
-    assert_eq!(rt; wrong_row(&rt, rt.alloc(), ROWS, 1)?, None);
-    assert_eq!(rt; wrong_row(&rt, rt.alloc(), UNASKED, 0)?, None);
-    assert!(rt; fails_without_map(&rt, rt.alloc())?);
-    Ok(())
+fn the_map_of_the_desk_decides(rt: HostRuntime) -> Told {
+    let alloc = rt.alloc();
+    rows_hold(&rt, alloc, &MapCheck { asked: 1 }, ROWS)
+        .and(rows_hold(&rt, alloc, &MapCheck { asked: 0 }, UNASKED))
+        .and(holds(fails_without_map(&rt, alloc), "a desk that fails"))
 }

@@ -1,7 +1,8 @@
 // Whole runs with a record before the log: what was given and what was taken, byte by byte.
-use crate::told::{is_cut, one_source, told, wrong_line};
+use crate::told::{LineCheck, is_cut};
 use esm_base::{Memory, Status};
-use esm_sites::{files, site};
+use esm_run::Delivery;
+use esm_sites::{Judge, Setting, Told, holds, rows_hold, set_judged};
 use std::alloc::Global;
 use std::marker::Sync;
 use std::sync::Wait;
@@ -24,9 +25,6 @@ end
 Uncaught SyntaxError: https://a.test/b.js: P2 no module text
 ";
 
-const HI_FILES: &[(&str, &str)] = &[("main.js", "print(\"hi\")")];
-
-// The same.
 const HI: &str = "== files\n-- main.js\nprint(\"hi\")\n>> Fulfilled";
 
 // Words, how their run ends, and what it writes: a record before the log, or none where no run began.
@@ -62,36 +60,53 @@ esm: these words are no command
 >> MapRefused
 import map refused: cannot fetch https://a.test/map.json"#;
 
+// The files: one imports, one is no module, and one is missing.
+const MIXED_SITE: &str = r#"== files
+-- main.js
+import "./b.js"; import "./c.js";
+-- b.js
+("#;
+
+// Whether a run is recorded as `MIXED` says.
+#[derive(Drop)]
+struct Mixed;
+
+impl<S> Judge<S> for Mixed {
+    fn is_right(
+        &mut self,
+        _alloc: Global,
+        status: Status,
+        written: &[u8],
+        taken: &[Delivery],
+        _desk: &S,
+        _sources: &[S],
+    ) -> Result<bool, Memory> {
+        Ok(status == Status::EntryFailed && written == MIXED.as_bytes() && taken.len() == 3)
+    }
+}
+
 // Whether a run with an import map and three files is recorded so: a text that imports, one that is no module, and one that is
 // missing.
 fn is_mixed<R: Threads + Wait + Sync>(rt: &R, alloc: Global) -> Result<bool, Memory> {
     let line = "run https://a.test/ main.js --record --map map.json --workers 1";
-    let map = files(alloc, "https://a.test/map.json", Some(b"{}\n"))?;
-    let named: &[(&str, &str)] = &[
-        ("main.js", "import \"./b.js\"; import \"./c.js\";"),
-        ("b.js", "("),
-    ];
-    let sources = one_source(alloc, site(alloc, named)?)?;
-    let told = told(rt, alloc, line, map, sources)?;
-    Ok(told.is(Status::EntryFailed, MIXED) && told.taken == 3)
+    let setting = Setting {
+        map: "{}\n",
+        ..Setting::of(MIXED_SITE)
+    };
+    set_judged(rt, alloc, line, &setting, &mut Mixed)
+}
+
+// Whether a sink that takes four bytes at a time and fails at its third write has this of the record.
+fn has_front<R: Threads + Wait + Sync>(rt: &R, alloc: Global) -> Result<bool, Memory> {
+    let line = "run https://a.test/ main.js --record";
+    is_cut(rt, alloc, line, HI, 4, 3, "esm-reco")
 }
 
 // A record stands before the log, and has the map and each outcome; a failing sink has a front of it.
 #[test]
-fn runs_are_recorded(rt: HostRuntime) -> Result<(), Memory> {
+fn runs_are_recorded(rt: HostRuntime) -> Told {
     let alloc = rt.alloc();
-    assert_eq!(rt; wrong_line(&rt, alloc, HI, LINES)?, None);
-    assert!(rt; is_mixed(&rt, alloc)?);
-    assert!(rt;
-        is_cut(
-            &rt,
-            alloc,
-            "run https://a.test/ main.js --record",
-            HI_FILES,
-            4,
-            3,
-            "esm-reco"
-        )?
-    );
-    Ok(())
+    rows_hold(&rt, alloc, &LineCheck { site: HI }, LINES)
+        .and(holds(is_mixed(&rt, alloc), "a record of each outcome"))
+        .and(holds(has_front(&rt, alloc), "a sink that fails"))
 }

@@ -1,12 +1,11 @@
 // Whole runs, from the words to the bytes.
-ghost use Rattle.std.specs.Prelude.{◌≡◌, ◌<◌, [], All, vec_len};
-
-use crate::told::{is_cut, one_failing, unrefused};
-use esm_ast::Outcome;
+use crate::told::{Refusal, is_cut};
 use esm_base::{Memory, Status};
-use esm_ports::{MemSource, Source, SureSink};
-use esm_run::{Delivery, run};
-use esm_sites::{COMMAND, ENTRY, failing, files, run_over, words};
+use esm_ports::{MemSource, Source};
+use esm_run::Delivery;
+use esm_sites::{
+    COMMAND, Judge, Setting, Shared, Told, has_lines, holds, rows_hold, set_judged, site_judged,
+};
 use std::alloc::Global;
 use std::marker::Sync;
 use std::sync::Wait;
@@ -23,99 +22,81 @@ run https://a.test/ --help
 gen 1 3 --trace";
 
 // Whether a run over one source says that its fetch failed, counts it, and asks nothing of the desk.
-fn counts_fault<R: Threads + Wait + Sync>(
-    rt: &R,
-    alloc: Global,
-    words: &[String],
-    mut desk: MemSource,
-    sources: Vec<MemSource>,
-) -> bool
-    requires some { 0 < vec_len sources }
-    requires fresh { All (λ s. s.asked ≡ []) sources.items }
-    requires fresh_desk { desk.asked ≡ [] }
-{
-    let mut out = SureSink::new(alloc);
-    let report = run(rt, alloc, words, &mut desk, sources, &mut out);
-    match report.sources.as_slice() {
-        [source] => {
-            report.status == Status::EntryFailed
-                && out.written() == CANNOT_FETCH.as_bytes()
-                && source.faults() == 1
-                && desk.asked().len() == 0
+#[derive(Drop)]
+struct FaultCounted;
+
+impl Judge<MemSource> for FaultCounted {
+    fn is_right(
+        &mut self,
+        _alloc: Global,
+        status: Status,
+        written: &[u8],
+        _taken: &[Delivery],
+        desk: &MemSource,
+        sources: &[MemSource],
+    ) -> Result<bool, Memory> {
+        match sources {
+            [source] => Ok(
+                status == Status::EntryFailed
+                    && written == CANNOT_FETCH.as_bytes()
+                    && source.faults() == 1
+                    && desk.asked().len() == 0,
+            ),
+            _ => Ok(false),
         }
-        _ => false,
     }
 }
+
+const HI: &str = "== one print\n-- main.js\nprint(\"hi\")";
 
 // The same where the one fetch of a run fails.
 fn is_fault_counted<R: Threads + Wait + Sync>(rt: &R, alloc: Global) -> Result<bool, Memory> {
-    let words = words(alloc, COMMAND)?;
-    let desk = failing(alloc, None, Vec::new(alloc))?;
-    let sources = one_failing(alloc, vec![in alloc; 1]?)?;
-    Ok(counts_fault(rt, alloc, &words, desk, sources))
+    let setting = Setting {
+        fetch_fails: 1,
+        ..Setting::of(HI)
+    };
+    set_judged(rt, alloc, COMMAND, &setting, &mut FaultCounted)
 }
 
-const TWO_PRINTS: &[(&str, &str)] = &[("main.js", "print(\"a1\")\nprint(\"b1\")")];
+const TWO_PRINTS: &str = "== two prints\n-- main.js\nprint(\"a1\")\nprint(\"b1\")";
 
-const TWO_BODIES: &[(&str, &str)] = &[
-    (
-        "main.js",
-        "import \"./a.js\"; import \"./b.js\"; print(\"m\");",
-    ),
-    ("a.js", "print(\"a1\"); await undefined; print(\"a2\");"),
-    ("b.js", "print(\"b1\"); await undefined; print(\"b2\");"),
-];
+const TWO_BODIES: &str = r#"== two bodies
+-- main.js
+import "./a.js"; import "./b.js"; print("m");
+-- a.js
+print("a1"); await undefined; print("a2");
+-- b.js
+print("b1"); await undefined; print("b2");"#;
 
-// Whether an outcome, shared, is a script of this text with so many items and no requests, or a broken one of this text
-// where no number is given.
-fn is_shared(shared: Outcome, body: &str, printed: Option<usize>) -> Result<bool, Memory> {
-    match (shared, printed) {
-        (Outcome::Script(script), Some(printed)) => Ok(
-            script.bytes() == body.as_bytes()
-                && script.share_tree()?.items().len() == printed
-                && script.share_entries()?.requests().len() == 0,
-        ),
-        (Outcome::Broken(broken), None) => Ok(broken.bytes() == body.as_bytes()),
-        _ => Ok(false),
-    }
+// Whether a sink that takes four bytes at a time and fails at its second write has a front of what a site prints.
+fn has_front<R: Threads + Wait + Sync>(rt: &R, alloc: Global, site: &str) -> Result<bool, Memory> {
+    is_cut(rt, alloc, COMMAND, site, 4, 2, "a1\nb")
 }
 
-// Whether this text is all that was taken, and its outcome can be shared.
-fn is_taken(taken: &[Delivery], body: &str, printed: Option<usize>) -> Result<bool, Memory> {
-    match taken {
-        [delivery] => is_shared(delivery.outcome.share()?, body, printed),
-        _ => Ok(false),
-    }
-}
+const NO_MODULE: &str = "== a text that is no module\n-- main.js\nno module text";
 
-// Runs an entry with this text. Whether the outcome that it took can be shared.
+// Runs a site whose entry has this text. Tells whether the outcome that it took can't be shared.
 fn can_be_shared<R: Threads + Wait + Sync>(
     rt: &R,
     alloc: Global,
-    body: &str,
+    site: &str,
+    body: &'static str,
     printed: Option<usize>,
-) -> Result<bool, Memory> {
-    let mut out = SureSink::new(alloc);
-    let report = run_over(
-        rt,
-        alloc,
-        files(alloc, ENTRY, Some(body.as_bytes()))?,
-        &mut out,
-    )?;
-    is_taken(report.taken.as_slice(), body, printed)
+) -> Told {
+    let mut shared = Shared { body, printed };
+    holds(site_judged(rt, alloc, site, &mut shared), body)
 }
 
 // Words that are no command show the usage line; a failed fetch is reported and counted; a failing sink keeps what it took; an
 // outcome can be shared.
 #[test]
-fn ends_are_told(rt: HostRuntime) -> Result<(), Memory> {
+fn ends_are_told(rt: HostRuntime) -> Told {
     let alloc = rt.alloc();
-    assert_eq!(rt; unrefused(&rt, alloc, WORDS)?, None);
-    assert!(rt; WORDS.lines().count() == 6);
-    assert!(rt; is_fault_counted(&rt, alloc)?);
-    assert!(rt; is_cut(&rt, alloc, COMMAND, TWO_PRINTS, 4, 2, "a1\nb")?);
-    assert!(rt; is_cut(&rt, alloc, COMMAND, TWO_BODIES, 4, 2, "a1\nb")?);
-    assert!(rt; can_be_shared(&rt, alloc, "print(\"hi\")", Some(1))?);
-    assert!(rt; can_be_shared(&rt, alloc, "no module text", None)?);
-    Ok(())
+    rows_hold(&rt, alloc, &Refusal, WORDS)
+        .and(has_lines(WORDS, 6))
+        .and(holds(is_fault_counted(&rt, alloc), "a fetch that fails"))
+        .and(holds(has_front(&rt, alloc, TWO_PRINTS), "two prints"))
+        .and(holds(has_front(&rt, alloc, TWO_BODIES), "two bodies"))
+        .and(can_be_shared(&rt, alloc, HI, "print(\"hi\")", Some(1)))
+        .and(can_be_shared(&rt, alloc, NO_MODULE, "no module text", None))
 }

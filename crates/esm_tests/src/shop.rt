@@ -1,170 +1,183 @@
 // A site of forty modules in three packages under an import map with a scope.
-ghost use Rattle.std.specs.Prelude.{◌≡◌, ◌<◌, ◌≤◌, [], All, IfOk, vec_len};
-
-use crate::told::{Ran, told};
-use esm_base::{Memory, Status, Text};
-use esm_ports::{AskKind, MemSink, MemSource, Source, SureSink, SureSource};
-use esm_run::{RunReport, run};
-use esm_sites::{files, words};
+use esm_base::{Memory, Status};
+use esm_ports::{AskKind, MemSource, Source};
+use esm_run::Delivery;
+use esm_sites::{Judge, Setting, Takes, Told, Wanted, holds, set_judged};
 use std::alloc::Global;
 use std::marker::Sync;
 use std::sync::Wait;
 use std::thread::Threads;
 
-const COMMAND: &str = "run https://shop.test/ app/main.js --map map.json";
+const COMMAND: &str = "run https://a.test/ app/main.js --map map.json";
 
-const MAP_URL: &str = "https://shop.test/map.json";
+const BY_ONE: &str = "run https://a.test/ app/main.js --map map.json --workers 1";
 
 const MAP: &str =
     r#"{"imports":{"ui/":"/pkg/ui-2/","store":"/pkg/store/index.js","fmt/":"/pkg/fmt/src/"},"scopes":{"/legacy/":{"ui/":"/pkg/ui-1/"}}}"#;
 
 const OUTPUT: &str = "- old\n== shop 3\n* item 1 * item 12\n";
 
-// The files that stand alone.
-const FILES: &[(&str, &str)] = &[
-    (
-        "pkg/ui-2/row.js",
-        r#"import { sep } from "./sep.js"; export function row(x) { return sep + x; }"#,
-    ),
-    ("pkg/ui-2/sep.js", r#"export const sep = "* ";"#),
-    (
-        "pkg/ui-2/title.js",
-        r#"import { head } from "fmt/index.js"; export function title(x) { return head + x; }"#,
-    ),
-    (
-        "pkg/fmt/src/index.js",
-        r#"export * from "./l1.js"; export * from "./l2.js"; export * from "./l3.js"; export * from "./l4.js"; export * from "./l5.js"; export * from "./l6.js"; export * from "./l7.js"; export const head = "== ";"#,
-    ),
-    (
-        "pkg/store/index.js",
-        r#"export { total } from "./core.js";"#,
-    ),
-    (
-        "pkg/store/core.js",
-        r#"let n = "3"; export function total() { return n; }"#,
-    ),
-    (
-        "legacy/old.js",
-        r#"import { row } from "ui/row.js"; print(row("old"));"#,
-    ),
-    (
-        "pkg/ui-1/row.js",
-        r#"export function row(x) { return "- " + x; }"#,
-    ),
-];
+// How the run ends.
+const END: Wanted<'static> = Wanted {
+    status: "Fulfilled",
+    lines: Some("- old\n== shop 3\n* item 1 * item 12"),
+};
 
-// The file of this name.
-fn add(
+// Its files: an entry that imports twelve pages, each of which shows its data.
+const SHOP: &str = r#"== the shop
+-- app/main.js
+import { title } from "ui/title.js"; import { total } from "store"; import * as p1 from "./page1.js"; import * as p2 from "./page2.js"; import * as p3 from "./page3.js"; import * as p4 from "./page4.js"; import * as p5 from "./page5.js"; import * as p6 from "./page6.js"; import * as p7 from "./page7.js"; import * as p8 from "./page8.js"; import * as p9 from "./page9.js"; import * as p10 from "./page10.js"; import * as p11 from "./page11.js"; import * as p12 from "./page12.js"; import "../legacy/old.js"; print(title("shop"), total()); print(p1.name, p12.name);
+-- app/page1.js
+import { data } from "./data/d1.js"; import { row } from "ui/row.js"; export const name = row(data);
+-- app/data/d1.js
+export const data = await "item 1";
+-- app/page2.js
+import { data } from "./data/d2.js"; import { row } from "ui/row.js"; export const name = row(data);
+-- app/data/d2.js
+export const data = await "item 2";
+-- app/page3.js
+import { data } from "./data/d3.js"; import { row } from "ui/row.js"; export const name = row(data);
+-- app/data/d3.js
+export const data = await "item 3";
+-- app/page4.js
+import { data } from "./data/d4.js"; import { row } from "ui/row.js"; export const name = row(data);
+-- app/data/d4.js
+export const data = await "item 4";
+-- app/page5.js
+import { data } from "./data/d5.js"; import { row } from "ui/row.js"; export const name = row(data);
+-- app/data/d5.js
+export const data = await "item 5";
+-- app/page6.js
+import { data } from "./data/d6.js"; import { row } from "ui/row.js"; export const name = row(data);
+-- app/data/d6.js
+export const data = await "item 6";
+-- app/page7.js
+import { data } from "./data/d7.js"; import { row } from "ui/row.js"; export const name = row(data);
+-- app/data/d7.js
+export const data = await "item 7";
+-- app/page8.js
+import { data } from "./data/d8.js"; import { row } from "ui/row.js"; export const name = row(data);
+-- app/data/d8.js
+export const data = await "item 8";
+-- app/page9.js
+import { data } from "./data/d9.js"; import { row } from "ui/row.js"; export const name = row(data);
+-- app/data/d9.js
+export const data = await "item 9";
+-- app/page10.js
+import { data } from "./data/d10.js"; import { row } from "ui/row.js"; export const name = row(data);
+-- app/data/d10.js
+export const data = await "item 10";
+-- app/page11.js
+import { data } from "./data/d11.js"; import { row } from "ui/row.js"; export const name = row(data);
+-- app/data/d11.js
+export const data = await "item 11";
+-- app/page12.js
+import { data } from "./data/d12.js"; import { row } from "ui/row.js"; export const name = row(data);
+-- app/data/d12.js
+export const data = await "item 12";
+-- pkg/ui-2/row.js
+import { sep } from "./sep.js"; export function row(x) { return sep + x; }
+-- pkg/ui-2/sep.js
+export const sep = "* ";
+-- pkg/ui-2/title.js
+import { head } from "fmt/index.js"; export function title(x) { return head + x; }
+-- pkg/fmt/src/index.js
+export * from "./l1.js"; export * from "./l2.js"; export * from "./l3.js"; export * from "./l4.js"; export * from "./l5.js"; export * from "./l6.js"; export * from "./l7.js"; export const head = "== ";
+-- pkg/store/index.js
+export { total } from "./core.js";
+-- pkg/store/core.js
+let n = "3"; export function total() { return n; }
+-- legacy/old.js
+import { row } from "ui/row.js"; print(row("old"));
+-- pkg/ui-1/row.js
+export function row(x) { return "- " + x; }
+-- pkg/fmt/src/l1.js
+export const word1 = "1";
+-- pkg/fmt/src/l2.js
+export const word2 = "2";
+-- pkg/fmt/src/l3.js
+export const word3 = "3";
+-- pkg/fmt/src/l4.js
+export const word4 = "4";
+-- pkg/fmt/src/l5.js
+export const word5 = "5";
+-- pkg/fmt/src/l6.js
+export const word6 = "6";
+-- pkg/fmt/src/l7.js
+export const word7 = "7";"#;
+
+// The shop over so many sources.
+fn shop_over(sources: usize) -> Setting<'static> {
+    Setting {
+        sources,
+        map: MAP,
+        ..Setting::of(SHOP)
+    }
+}
+
+// Runs the shop over four sources with these words behind the command.
+fn is_judged<R: Threads + Wait + Sync, J: Judge<MemSource>>(
+    rt: &R,
     alloc: Global,
-    files: &mut Vec<(Text, Vec<u8>)>,
-    name: &str,
-    body: &str,
-) -> Result<(), Memory> {
-    let url = format!(in alloc; "https://shop.test/{name}")?;
-    let body = Vec::from_slice(alloc, body.as_bytes())?;
-    files.push((Text::from_string(url), body))?;
-    Ok(())
-}
-
-// The entry imports twelve pages.
-fn add_main(alloc: Global, files: &mut Vec<(Text, Vec<u8>)>) -> Result<(), Memory> {
-    let mut text = String::from_str(
-        alloc,
-        r#"import { title } from "ui/title.js"; import { total } from "store";"#,
-    )?;
-    for k in 1..13u64 {
-        let page = format!(in alloc; " import * as p{k} from \"./page{k}.js\";")?;
-        text.push_str(page.as_str())?;
-    }
-    text.push_str(
-        r#" import "../legacy/old.js"; print(title("shop"), total()); print(p1.name, p12.name);"#,
-    )?;
-    add(alloc, files, "app/main.js", text.as_str())
-}
-
-// A page, and the data that it shows.
-fn add_page(alloc: Global, files: &mut Vec<(Text, Vec<u8>)>, k: u64) -> Result<(), Memory> {
-    let name = format!(in alloc; "app/page{k}.js")?;
-    let mut page = format!(in alloc; "import {{ data }} from \"./data/d{k}.js\";")?;
-    page.push_str(r#" import { row } from "ui/row.js"; export const name = row(data);"#)?;
-    add(alloc, files, name.as_str(), page.as_str())?;
-    let name = format!(in alloc; "app/data/d{k}.js")?;
-    let data = format!(in alloc; "export const data = await \"item {k}\";")?;
-    add(alloc, files, name.as_str(), data.as_str())
-}
-
-// All forty files.
-fn shop(alloc: Global) -> Result<Vec<(Text, Vec<u8>)>, Memory> {
-    let mut files = Vec::new(alloc);
-    add_main(alloc, &mut files)?;
-    for k in 1..13u64 {
-        add_page(alloc, &mut files, k)?;
-    }
-    for (name, text) in FILES {
-        add(alloc, &mut files, name, text)?;
-    }
-    for j in 1..8u64 {
-        let name = format!(in alloc; "pkg/fmt/src/l{j}.js")?;
-        let text = format!(in alloc; "export const word{j} = \"{j}\";")?;
-        add(alloc, &mut files, name.as_str(), text.as_str())?;
-    }
-    Ok(files)
-}
-
-// The file of the import map.
-fn map_file(alloc: Global) -> Result<Vec<(Text, Vec<u8>)>, Memory> {
-    files(alloc, MAP_URL, Some(MAP.as_bytes()))
-}
-
-// Four sources over the same files.
-fn four_sources(alloc: Global) -> Result<Vec<SureSource>, Memory>
-    ensures some { IfOk result (λ v. 0 < vec_len v) }
-    ensures fresh { IfOk result (λ v. All (λ s. s.asked ≡ []) v.items) }
-{
-    let mut sources = Vec::new(alloc);
-    sources.push(SureSource::new(alloc, shop(alloc)?)?)?;
-    sources.push(SureSource::new(alloc, shop(alloc)?)?)?;
-    sources.push(SureSource::new(alloc, shop(alloc)?)?)?;
-    sources.push(SureSource::new(alloc, shop(alloc)?)?)?;
-    Ok(sources)
-}
-
-// Runs the shop with these words behind the command.
-fn told_by<R: Threads + Wait + Sync>(rt: &R, alloc: Global, rest: &str) -> Result<Ran, Memory> {
+    rest: &str,
+    judge: &mut J,
+) -> Result<bool, Memory> {
     let line = format!(in alloc; "{COMMAND}{rest}")?;
-    let sources = four_sources(alloc)?;
-    told(rt, alloc, line.as_str(), map_file(alloc)?, sources)
+    set_judged(rt, alloc, line.as_str(), &shop_over(4), judge)
 }
 
-// Whether the shop with these words behind the command writes what it is to write, and takes forty files.
-fn is_run_so<R: Threads + Wait + Sync>(rt: &R, alloc: Global, rest: &str) -> Result<bool, Memory> {
-    let told = told_by(rt, alloc, rest)?;
-    Ok(told.is(Status::Fulfilled, OUTPUT) && told.taken == 40)
+// Tells these words where the shop, with them behind the command, doesn't write what it is to write, or takes other than forty files.
+fn runs_so<R: Threads + Wait + Sync>(rt: &R, alloc: Global, rest: &'static str) -> Told {
+    let mut takes = Takes {
+        wanted: END,
+        count: 40,
+    };
+    holds(is_judged(rt, alloc, rest, &mut takes), rest)
 }
 
-// Whether both ended well, and wrote the same in so many lines.
-fn are_same(one: &Ran, four: &Ran, lines: usize) -> bool {
-    one.status == Status::Fulfilled
-        && four.status == Status::Fulfilled
-        && one.written == four.written
-        && one.written.iter().filter(|byte| **byte == b'\n').count() == lines
+// What the first run wrote.
+#[derive(Drop)]
+struct Traced {
+    written: Vec<u8>,
 }
 
-// Whether it is traced the same over one worker and four: a line for each start and end of forty bodies, and three that they
-// print.
+// Whether a run ends well, and writes the same as the first in 83 lines: one for each start and end of forty bodies, and three
+// that they print.
+impl<S> Judge<S> for Traced {
+    fn is_right(
+        &mut self,
+        alloc: Global,
+        status: Status,
+        written: &[u8],
+        _taken: &[Delivery],
+        _desk: &S,
+        _sources: &[S],
+    ) -> Result<bool, Memory> {
+        if self.written.is_empty() {
+            self.written = Vec::from_slice(alloc, written)?;
+        }
+        let lines = written.iter().filter(|byte| **byte == b'\n').count();
+        Ok(status == Status::Fulfilled && self.written.as_slice() == written && lines == 83)
+    }
+}
+
+// Whether it is traced the same over one worker and four.
 fn is_traced_the_same<R: Threads + Wait + Sync>(rt: &R, alloc: Global) -> Result<bool, Memory> {
-    let one = told_by(rt, alloc, " --trace --workers 1")?;
-    let four = told_by(rt, alloc, " --trace --workers 4")?;
-    Ok(are_same(&one, &four, 83))
+    let mut traced = Traced {
+        written: Vec::new(alloc),
+    };
+    let one = is_judged(rt, alloc, " --trace --workers 1", &mut traced)?;
+    let four = is_judged(rt, alloc, " --trace --workers 4", &mut traced)?;
+    Ok(one && four)
 }
 
 #[test]
-fn the_shop_runs_the_same_over_one_worker_and_four(rt: HostRuntime) -> Result<(), Memory> {
-    for rest in ["", " --workers 1", " --workers 4"] {
-        assert!(rt; is_run_so(&rt, rt.alloc(), rest)?, "{rest}");
-    }
-    assert!(rt; is_traced_the_same(&rt, rt.alloc())?);
-    Ok(())
+fn the_shop_runs_the_same_over_one_worker_and_four(rt: HostRuntime) -> Told {
+    let alloc = rt.alloc();
+    runs_so(&rt, alloc, "")
+        .and(runs_so(&rt, alloc, " --workers 1"))
+        .and(runs_so(&rt, alloc, " --workers 4"))
+        .and(holds(is_traced_the_same(&rt, alloc), "trace lines"))
 }
 
 // The line of the first fetch that failed.
@@ -177,91 +190,110 @@ fn failed_line(alloc: Global, source: &MemSource) -> Result<String, Memory> {
     Ok(String::new(alloc))
 }
 
-// One source over all forty files, of which the fetch with this number fails.
-fn failing_source(alloc: Global, number: u64) -> Result<Vec<MemSource>, Memory>
-    ensures some { IfOk result (λ v. 0 < vec_len v) }
-    ensures fresh { IfOk result (λ v. All (λ s. s.asked ≡ []) v.items) }
-{
-    let mut sources = Vec::new(alloc);
-    sources.push(MemSource::new(alloc, shop(alloc)?, vec![in alloc; number]?)?)?;
-    Ok(sources)
-}
-
 // Whether a run over one source ended because a fetch failed, whose URL it tells.
-fn names_the_failed(
-    alloc: Global,
-    report: &RunReport<MemSource>,
-    written: &[u8],
-) -> Result<bool, Memory> {
-    match report.sources.as_slice() {
-        [source] => Ok(
-            report.status == Status::EntryFailed
-                && source.faults() == 1
-                && failed_line(alloc, source)?.as_bytes() == written,
-        ),
-        _ => Ok(false),
-    }
-}
+#[derive(Drop)]
+struct NamesTheFailed;
 
-// Whether the run in which the fetch of this number fails tells which.
-fn fails_so<R: Threads + Wait + Sync>(rt: &R, alloc: Global, number: u64) -> Result<bool, Memory> {
-    let line = format!(in alloc; "{COMMAND} --workers 1")?;
-    let words = words(alloc, line.as_str())?;
-    let mut desk = MemSource::new(alloc, map_file(alloc)?, Vec::new(alloc))?;
-    let sources = failing_source(alloc, number)?;
-    let mut out = SureSink::new(alloc);
-    let report = run(rt, alloc, &words, &mut desk, sources, &mut out);
-    names_the_failed(alloc, &report, out.written())
-}
-
-// The number of the first fetch whose failure isn't told so, if there is one. Each of the forty files is fetched once.
-fn wrong_fetch<R: Threads + Wait + Sync>(rt: &R, alloc: Global) -> Result<Option<u64>, Memory> {
-    for number in 1..41u64 {
-        if !fails_so(rt, alloc, number)? {
-            return Ok(Some(number));
+impl Judge<MemSource> for NamesTheFailed {
+    fn is_right(
+        &mut self,
+        alloc: Global,
+        status: Status,
+        written: &[u8],
+        _taken: &[Delivery],
+        _desk: &MemSource,
+        sources: &[MemSource],
+    ) -> Result<bool, Memory> {
+        match sources {
+            [source] => Ok(
+                status == Status::EntryFailed
+                    && source.faults() == 1
+                    && failed_line(alloc, source)?.as_bytes() == written,
+            ),
+            _ => Ok(false),
         }
     }
-    Ok(None)
 }
 
-// How the run ends whose sink takes seven bytes at a time and fails at this write, and how many bytes it has taken of what
-// the shop writes; none where it took something else.
-fn cut<R: Threads + Wait + Sync>(
+// Whether the run over one source whose fetch of this number fails tells which.
+fn fails_so<R: Threads + Wait + Sync>(
     rt: &R,
     alloc: Global,
-    number: u64,
-) -> Result<Option<(Status, usize)>, Memory> {
-    let words = words(alloc, COMMAND)?;
-    let mut desk = SureSource::new(alloc, map_file(alloc)?)?;
-    let sources = four_sources(alloc)?;
-    let mut out = MemSink::new(alloc, 7, vec![in alloc; number]?);
-    let report = run(rt, alloc, &words, &mut desk, sources, &mut out);
-    if OUTPUT.as_bytes().starts_with(out.written()) {
-        Ok(Some((report.status, out.written().len())))
-    } else {
-        Ok(None)
+    fetch_fails: u64,
+) -> Result<bool, Memory> {
+    let setting = Setting {
+        fetch_fails,
+        ..shop_over(1)
+    };
+    set_judged(rt, alloc, BY_ONE, &setting, &mut NamesTheFailed)
+}
+
+// Tells where the failure of a fetch isn't told so. Each of the forty files is fetched once.
+fn fetches_are_told<R: Threads + Wait + Sync>(rt: &R, alloc: Global) -> Told {
+    let mut told = Ok(());
+    for number in 1..41u64 {
+        told = told.and(holds(fails_so(rt, alloc, number), "a fetch that fails"));
+    }
+    told
+}
+
+// Whether a run ends so, and so many bytes are taken of what the shop writes.
+#[derive(Drop)]
+struct Front {
+    status: Status,
+    count: usize,
+}
+
+impl<S> Judge<S> for Front {
+    fn is_right(
+        &mut self,
+        _alloc: Global,
+        status: Status,
+        written: &[u8],
+        _taken: &[Delivery],
+        _desk: &S,
+        _sources: &[S],
+    ) -> Result<bool, Memory> {
+        Ok(
+            status == self.status
+                && written.len() == self.count
+                && OUTPUT.as_bytes().starts_with(written),
+        )
     }
 }
 
-// The number of the first write whose failure doesn't end the run, with the pieces before it taken, if there is one. There are
-// five: behind them the run ends well.
-fn wrong_write<R: Threads + Wait + Sync>(rt: &R, alloc: Global) -> Result<Option<u64>, Memory> {
+// Whether the run whose sink takes seven bytes at a time and fails at this write ends so, with so many bytes taken.
+fn is_cut_so<R: Threads + Wait + Sync>(
+    rt: &R,
+    alloc: Global,
+    write_fails: u64,
+    status: Status,
+    count: usize,
+) -> Result<bool, Memory> {
+    let setting = Setting {
+        piece: 7,
+        write_fails,
+        ..shop_over(4)
+    };
+    set_judged(rt, alloc, COMMAND, &setting, &mut Front { status, count })
+}
+
+// Tells where the failure of a write doesn't end the run, with the pieces before it taken. There are five writes: behind them the
+// run ends well.
+fn writes_are_told<R: Threads + Wait + Sync>(rt: &R, alloc: Global) -> Told {
+    let mut told = holds(
+        is_cut_so(rt, alloc, 6, Status::Fulfilled, 35),
+        "no write that fails",
+    );
     for before in 0..5usize {
         let number = before as u64 + 1;
-        if cut(rt, alloc, number)? != Some((Status::WriteFault, before * 7)) {
-            return Ok(Some(number));
-        }
+        let cut = is_cut_so(rt, alloc, number, Status::WriteFault, before * 7);
+        told = told.and(holds(cut, "a write that fails"));
     }
-    if cut(rt, alloc, 6)? == Some((Status::Fulfilled, 35)) {
-        Ok(None)
-    } else {
-        Ok(Some(6))
-    }
+    told
 }
 
 #[test]
-fn whichever_fetch_or_write_of_the_shop_fails_is_told(rt: HostRuntime) -> Result<(), Memory> {
-    assert_eq!(rt; wrong_fetch(&rt, rt.alloc())?, None);
-    assert_eq!(rt; wrong_write(&rt, rt.alloc())?, None);
-    Ok(())
+fn whichever_fetch_or_write_of_the_shop_fails_is_told(rt: HostRuntime) -> Told {
+    fetches_are_told(&rt, rt.alloc()).and(writes_are_told(&rt, rt.alloc()))
 }

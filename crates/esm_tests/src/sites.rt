@@ -1,6 +1,5 @@
 // Worked sites of imports and prints, and what one file writes.
-use esm_base::Memory;
-use esm_sites::{SITES, first_wrong};
+use esm_sites::{RunsAsSaid, SITES, Told, tables_hold};
 
 // Sites whose entry fails, where fetches end in the order in which they begin.
 const FAILING: &str = r#"== two missing files
@@ -131,8 +130,7 @@ import "react"; import {} from "./a.js";
 Uncaught TypeError: https://a.test/main.js: specifier react: S4 bare and not mapped"#;
 
 #[test]
-fn sites_run_and_fail(rt: HostRuntime) -> Result<(), Memory> {
+fn sites_run_and_fail(rt: HostRuntime) -> Told {
     let tables = &[SITES, FAILING, PRINTS, LINE_ENDS, REFUSED];
-    assert_eq!(rt; first_wrong(&rt, rt.alloc(), tables)?, None);
-    Ok(())
+    tables_hold(&rt, rt.alloc(), &RunsAsSaid, tables)
 }

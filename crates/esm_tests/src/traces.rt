@@ -1,6 +1,6 @@
 // Whole runs with trace lines: the start and the end of each body, among the lines that it prints.
-use crate::told::wrong_line;
-use esm_base::Memory;
+use crate::told::LineCheck;
+use esm_sites::{Told, rows_hold};
 
 const FILES: &str = r#"== files
 -- hi.js
@@ -75,7 +75,6 @@ race
 # end https://a.test/race.js"#;
 
 #[test]
-fn bodies_are_traced(rt: HostRuntime) -> Result<(), Memory> {
-    assert_eq!(rt; wrong_line(&rt, rt.alloc(), FILES, TRACES)?, None);
-    Ok(())
+fn bodies_are_traced(rt: HostRuntime) -> Told {
+    rows_hold(&rt, rt.alloc(), &LineCheck { site: FILES }, TRACES)
 }

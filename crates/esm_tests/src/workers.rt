@@ -1,78 +1,95 @@
 // Whole runs over several sources, with a worker for each.
-ghost use Rattle.std.specs.Prelude.{◌≡◌, ◌<◌, [], All, IfOk, vec_len};
-
-use crate::told::{Ran, told};
-use esm_base::Memory;
-use esm_ports::SureSource;
-use esm_sites::{COMMAND, SITES, ending, files_of, title, wanted_of};
+use crate::told::USAGE;
+use esm_base::{Memory, Status};
+use esm_ports::MemSource;
+use esm_run::Delivery;
+use esm_sites::{
+    COMMAND, Ends, Judge, RowCheck, SITES, Setting, Told, Wanted, files_of, has_lines, is_wanted,
+    rows_hold, set_judged, wanted_of,
+};
 use std::alloc::Global;
 use std::marker::Sync;
 use std::sync::Wait;
 use std::thread::Threads;
 
-// So many sources, each over the files of a site.
-fn same_sources(alloc: Global, site: &str, count: usize) -> Result<Vec<SureSource>, Memory>
-    requires { 0 < count }
-    ensures some { IfOk result (λ v. 0 < vec_len v) }
-    ensures fresh { IfOk result (λ v. All (λ s. s.asked ≡ []) v.items) }
-{
-    let mut sources = Vec::new(alloc);
-    for _ in 0..count {
-        sources.push(SureSource::new(alloc, files_of(alloc, site)?)?)?;
-    }
-    Ok(sources)
-}
-
-// Runs the command with these words behind it, over sixteen sources with the files of a site.
-fn told_by<R: Threads + Wait + Sync>(
+// Whether a site is run so over sixteen sources and so many workers.
+fn is_run_by<R: Threads + Wait + Sync, J: Judge<MemSource>>(
     rt: &R,
     alloc: Global,
     rest: &str,
     site: &str,
-) -> Result<Ran, Memory> {
+    judge: &mut J,
+) -> Result<bool, Memory> {
     let line = format!(in alloc; "{COMMAND} --workers {rest}")?;
-    let sources = same_sources(alloc, site, 16)?;
-    told(rt, alloc, line.as_str(), Vec::new(alloc), sources)
+    let setting = Setting {
+        sources: 16,
+        ..Setting::of(site)
+    };
+    set_judged(rt, alloc, line.as_str(), &setting, judge)
 }
 
-// Whether one worker asked the first source alone, for each of so many files.
-fn asks_first(asked: &[usize], files: usize) -> bool {
-    match asked {
-        [first, rest @ ..] => *first == files && rest.iter().all(|asks| *asks == 0),
+// Whether the first source was asked so often, and no other.
+fn asks_first(sources: &[MemSource], files: usize) -> bool {
+    match sources {
+        [first, rest @ ..] => {
+            first.asked().len() == files && rest.iter().all(|source| source.asked().len() == 0)
+        }
         [] => false,
     }
 }
 
-// Whether a site runs as it says over so many workers, takes each of its files, and gives back its sources. One worker asks
-// the first source alone.
-fn is_run_so<R: Threads + Wait + Sync>(
-    rt: &R,
-    alloc: Global,
-    workers: &str,
-    site: &str,
-) -> Result<bool, Memory> {
-    let files = files_of(alloc, site)?.len();
-    let told = told_by(rt, alloc, workers, site)?;
-    Ok(
-        told.is_so(wanted_of(site))
-            && told.taken == files
-            && told.asked.len() == 16
-            && (workers != "1" || asks_first(told.asked.as_slice(), files)),
-    )
+// Whether a run ends so, takes so many files, and gives back its sources. One worker asks the first source alone.
+#[derive(Drop)]
+struct Worked<'a> {
+    wanted: Wanted<'a>,
+    files: usize,
+    alone: bool,
 }
 
-// The name of the first of `SITES` that doesn't run so over so many workers, if there is one.
-fn wrong_over<R: Threads + Wait + Sync>(
-    rt: &R,
-    alloc: Global,
-    workers: &str,
-) -> Result<Option<&'static str>, Memory> {
-    for site in SITES.split("\n\n== ") {
-        if !is_run_so(rt, alloc, workers, site)? {
-            return Ok(Some(title(site)));
-        }
+impl<'a> Judge<MemSource> for Worked<'a> {
+    fn is_right(
+        &mut self,
+        _alloc: Global,
+        status: Status,
+        written: &[u8],
+        taken: &[Delivery],
+        _desk: &MemSource,
+        sources: &[MemSource],
+    ) -> Result<bool, Memory> {
+        Ok(
+            is_wanted(self.wanted, status, written)
+                && taken.len() == self.files
+                && sources.len() == 16
+                && (!self.alone || asks_first(sources, self.files)),
+        )
     }
-    Ok(None)
+}
+
+// Checks that a site runs as it says over so many workers, and takes each of its files.
+#[derive(Drop)]
+struct WorkersCheck {
+    workers: &'static str,
+}
+
+impl RowCheck for WorkersCheck {
+    fn is_so<R: Threads + Wait + Sync>(
+        &self,
+        rt: &R,
+        alloc: Global,
+        row: &str,
+    ) -> Result<bool, Memory> {
+        let mut worked = Worked {
+            wanted: wanted_of(row),
+            files: files_of(alloc, row)?.len(),
+            alone: self.workers == "1",
+        };
+        is_run_by(rt, alloc, self.workers, row, &mut worked)
+    }
+}
+
+// Tells the first of `SITES` that doesn't run so over so many workers.
+fn sites_hold<R: Threads + Wait + Sync>(rt: &R, alloc: Global, workers: &'static str) -> Told {
+    rows_hold(rt, alloc, &WorkersCheck { workers }, SITES)
 }
 
 const ONE_PRINT: &str = "== one print\n-- main.js\nprint(\"m\")\n>> Fulfilled\nm";
@@ -91,31 +108,46 @@ x
 
 2 --workers 2";
 
-// The first of these numbers with which the run of one print doesn't end so, if there is one.
-fn wrong_number<R: Threads + Wait + Sync>(
+// Checks that the run of one print by this number of workers ends so.
+#[derive(Drop)]
+struct NumberCheck {
+    wanted: Wanted<'static>,
+}
+
+impl RowCheck for NumberCheck {
+    fn is_so<R: Threads + Wait + Sync>(
+        &self,
+        rt: &R,
+        alloc: Global,
+        row: &str,
+    ) -> Result<bool, Memory> {
+        let mut ends = Ends {
+            wanted: self.wanted,
+        };
+        is_run_by(rt, alloc, row, ONE_PRINT, &mut ends)
+    }
+}
+
+// Tells the first of these numbers with which the run of one print doesn't end so.
+fn numbers_hold<R: Threads + Wait + Sync>(
     rt: &R,
     alloc: Global,
     numbers: &'static str,
-    end: &str,
-) -> Result<Option<&'static str>, Memory> {
-    for number in numbers.lines() {
-        if !told_by(rt, alloc, number, ONE_PRINT)?.is_so(ending(end)) {
-            return Ok(Some(number));
-        }
-    }
-    Ok(None)
+    wanted: Wanted<'static>,
+) -> Told {
+    rows_hold(rt, alloc, &NumberCheck { wanted }, numbers)
 }
 
 // A site runs the same over any number of workers, and their number is read.
 #[test]
-fn workers_run_the_same(rt: HostRuntime) -> Result<(), Memory> {
+fn workers_run_the_same(rt: HostRuntime) -> Told {
     let alloc = rt.alloc();
-    for workers in ["1", "2", "4", "16"] {
-        assert_eq!(rt; wrong_over(&rt, alloc, workers)?, None);
-    }
-    assert_eq!(rt; wrong_number(&rt, alloc, NUMBERS, "Fulfilled\nm")?, None);
-    let usage = "Usage\nesm: these words are no command";
-    assert_eq!(rt; wrong_number(&rt, alloc, WRONG_NUMBERS, usage)?, None);
-    assert!(rt; NUMBERS.lines().count() == 3 && WRONG_NUMBERS.lines().count() == 8);
-    Ok(())
+    sites_hold(&rt, alloc, "1")
+        .and(sites_hold(&rt, alloc, "2"))
+        .and(sites_hold(&rt, alloc, "4"))
+        .and(sites_hold(&rt, alloc, "16"))
+        .and(numbers_hold(&rt, alloc, NUMBERS, wanted_of(ONE_PRINT)))
+        .and(has_lines(NUMBERS, 3))
+        .and(numbers_hold(&rt, alloc, WRONG_NUMBERS, USAGE))
+        .and(has_lines(WRONG_NUMBERS, 8))
 }

@@ -1,4 +1,5 @@
 // Module texts with their entries, and texts that are handed back, worked out from the rules.
+use crate::telling::{Told, has_rows, holds, none};
 use crate::tokens::{is_heading, rows_in, unmarked};
 use esm_ast::{Entries, Wanted};
 use esm_base::{ReadEnd, TextFault};
@@ -151,10 +152,8 @@ fn wrong_row(alloc: Global) -> Result<Option<&'static str>, AllocError> {
 }
 
 #[test]
-fn texts_have_their_entries(rt: HostRuntime) -> Result<(), AllocError> {
-    assert_eq!(rt; wrong_row(rt.alloc())?, None);
-    assert!(rt; rows_in(ENTRIES) == 15);
-    Ok(())
+fn texts_have_their_entries(rt: HostRuntime) -> Told {
+    none(wrong_row(rt.alloc())).and(has_rows(rows_in(ENTRIES), 15))
 }
 
 // Whether a body is refused for this fault, and comes back.
@@ -166,16 +165,15 @@ fn comes_back(alloc: Global, body: &[u8], fault: TextFault) -> Result<bool, Allo
 }
 
 #[test]
-fn a_refused_body_comes_back(rt: HostRuntime) -> Result<(), AllocError> {
+fn a_refused_body_comes_back(rt: HostRuntime) -> Told {
     let alloc = rt.alloc();
-    assert!(rt; comes_back(alloc, b"print(\"a\xFF\")", TextFault::P1)?);
-    assert!(rt; comes_back(alloc, b"import { a } form \"m\"", TextFault::P2)?);
-    assert!(rt;
-        comes_back(
-            alloc,
-            b"let a; export { a as b }; export { a as b }",
-            TextFault::P3
-        )?
-    );
-    Ok(())
+    let bytes = b"print(\"a\xFF\")";
+    let signs = b"import { a } form \"m\"";
+    let names = b"let a; export { a as b }; export { a as b }";
+    holds(
+        comes_back(alloc, bytes, TextFault::P1),
+        "bytes that are no text",
+    )
+    .and(holds(comes_back(alloc, signs, TextFault::P2), "no module text"))
+    .and(holds(comes_back(alloc, names, TextFault::P3), "one name twice"))
 }

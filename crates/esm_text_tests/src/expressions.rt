@@ -1,5 +1,6 @@
 // First expressions of texts, with places counted by hand.
-use crate::tokens::{count_of, unmarked};
+use crate::telling::{Told, has_rows, none};
+use crate::tokens::{count_of, rows_in, unmarked};
 use esm_base::{ReadEnd, TextFault};
 use esm_lexer::tokens;
 use esm_parse_expr::parse_expr;
@@ -61,8 +62,6 @@ fn wrong_row(alloc: Global) -> Result<Option<&'static str>, AllocError> {
 }
 
 #[test]
-fn first_expression(rt: HostRuntime) -> Result<(), AllocError> {
-    assert_eq!(rt; wrong_row(rt.alloc())?, None);
-    assert!(rt; FIRST.lines().count() == 7);
-    Ok(())
+fn first_expression(rt: HostRuntime) -> Told {
+    none(wrong_row(rt.alloc())).and(has_rows(rows_in(FIRST), 7))
 }

@@ -11,6 +11,8 @@ mod grammar_rows;
 #[cfg(test)]
 mod records;
 #[cfg(test)]
+mod telling;
+#[cfg(test)]
 mod tokens;
 #[cfg(test)]
 mod verdicts;

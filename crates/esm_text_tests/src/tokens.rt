@@ -1,4 +1,5 @@
 // Texts and their tokens, worked out from the rules.
+use crate::telling::{Told, has_rows, holds, none};
 use bumpalo::Bump;
 use esm_base::{ReadEnd, TextFault};
 use esm_lexer::{lexemes, tokens};
@@ -295,21 +296,43 @@ fn wrong_row(alloc: Global) -> Result<Option<&'static str>, AllocError> {
 }
 
 #[test]
-fn texts_have_their_tokens(rt: HostRuntime) -> Result<(), AllocError> {
-    assert_eq!(rt; wrong_row(rt.alloc())?, None);
-    assert!(rt; PLACES.lines().count() == 50);
-    assert!(rt; SPELLED.lines().count() == 36);
-    assert!(rt; NESTED.lines().count() == 13);
-    Ok(())
+fn texts_have_their_tokens(rt: HostRuntime) -> Told {
+    none(wrong_row(rt.alloc()))
+        .and(has_rows(rows_in(PLACES), 50))
+        .and(has_rows(rows_in(SPELLED), 36))
+        .and(has_rows(rows_in(NESTED), 13))
+}
+
+// Whether a text has a fault, which is told in place of its tokens.
+fn is_refused(alloc: Global, text: &[u8], fault: &str) -> Result<bool, AllocError> {
+    match places(alloc, text) {
+        Ok(places) => Ok(places.as_str() == fault),
+        Err(AllocError) => Err(AllocError),
+    }
+}
+
+// Whether a text of so many brackets has a fault.
+fn is_too_deep(
+    alloc: Global,
+    count: usize,
+    behind: &[u8],
+    fault: &str,
+) -> Result<bool, AllocError> {
+    match repeated(alloc, "(", count, behind) {
+        Ok(found) => Ok(found == fault),
+        Err(AllocError) => Err(AllocError),
+    }
 }
 
 #[test]
-fn bytes_come_before_nesting_and_nesting_before_signs(rt: HostRuntime) -> Result<(), AllocError> {
+fn bytes_come_before_nesting_and_nesting_before_signs(rt: HostRuntime) -> Told {
     let alloc = rt.alloc();
-    assert!(rt; places(alloc, b"\xff")?.as_str() == "P1");
-    assert!(rt; places(alloc, b"a\xed\xa0\x80")?.as_str() == "P1");
-    assert!(rt; repeated(alloc, "(", 65, b"1")? == "P4");
-    assert!(rt; repeated(alloc, "(", 64, b"1(")? == "P2");
-    assert!(rt; repeated(alloc, "(", 65, b"\xff")? == "P1");
-    Ok(())
+    holds(is_refused(alloc, b"\xff", "P1"), "a byte")
+        .and(holds(is_refused(alloc, b"a\xed\xa0\x80", "P1"), "half of a pair"))
+        .and(holds(is_too_deep(alloc, 65, b"1", "P4"), "65 brackets"))
+        .and(holds(is_too_deep(alloc, 64, b"1(", "P2"), "64 brackets"))
+        .and(holds(
+            is_too_deep(alloc, 65, b"\xff", "P1"),
+            "65 brackets and a byte",
+        ))
 }

@@ -1,6 +1,7 @@
 // Module texts and their verdicts, worked out from the rules of the language: those of the grammar stand in
 // `grammar_rows`, those of the early errors, of nesting, and of the order of faults here.
 use crate::grammar_rows::GRAMMAR;
+use crate::telling::{Told, has_rows, none};
 use crate::tokens::{is_heading, rows_in};
 use esm_base::{ReadEnd, TextFault};
 use esm_parse_mod::parse;
@@ -330,8 +331,8 @@ fn wrong_row(alloc: Global) -> Result<Option<&'static str>, AllocError> {
 }
 
 #[test]
-fn texts_have_their_verdicts(rt: HostRuntime) -> Result<(), AllocError> {
-    assert_eq!(rt; wrong_row(rt.alloc())?, None);
-    assert!(rt; rows_in(GRAMMAR) == 527 && rows_in(ERRORS) == 201);
-    Ok(())
+fn texts_have_their_verdicts(rt: HostRuntime) -> Told {
+    none(wrong_row(rt.alloc()))
+        .and(has_rows(rows_in(GRAMMAR), 527))
+        .and(has_rows(rows_in(ERRORS), 201))
 }

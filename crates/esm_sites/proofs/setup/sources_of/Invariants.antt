@@ -1,6 +1,6 @@
 use Rattle.std.proofs.Common.{◌≡◌, [], vec_len}
 use Rattle.std.specs.Prelude.{All}
-use Rattle.esm_tests.proofs.workers.same_sources.Given as goal
+use Rattle.esm_sites.proofs.setup.sources_of.Given as goal
 
 abbrev pub invariant-loop : goal.invariant-loop
 invariant-loop l = record {

@@ -6,13 +6,13 @@ use Rattle.esm_base.specs.Urls.{is_usable}
 use Rattle.esm_import_map.specs.ImportMap.{no_maps}
 use Rattle.esm_realm.proofs.PlainRecords.{main_usable}
 use Rattle.esm_loads.specs.LoadsView.{place_in, urls_of}
-use Rattle.esm_load_tests.proofs.several_loads.asks_for_the_entry.Goals as goal
+use Rattle.esm_machine_tests.proofs.several_loads.an_entry_is_waited_for.Goals as goal
 
-pub ask_entry-requires-clause-usable : goal.ask_entry-requires-clause-usable
-ask_entry-requires-clause-usable g c = ap is_usable c.in_ok-url.ensures ∙ main_usable
+pub waits_for-requires-clause-usable : goal.waits_for-requires-clause-usable
+waits_for-requires-clause-usable c = ap is_usable c.in_ok-url.ensures ∙ main_usable
 
-pub ask_entry-requires-clause-fetching : goal.ask_entry-requires-clause-fetching
-ask_entry-requires-clause-fetching g c k s at here =
+pub waits_for-requires-clause-fetching : goal.waits_for-requires-clause-fetching
+waits_for-requires-clause-fetching c k s at here =
     let none : place_in (urls_of c.new-loads.result.urls.slots) c.in_ok-url.url ≡ None
     = ap (λ l. place_in l.asked c.in_ok-url.url) (c.new-loads.ensures.nothing no_maps) in
     absurd (true≢false (sym (ap is_some at) ∙ ap is_some none))
