@@ -17,6 +17,7 @@ ghost use Rattle.esm_machine.specs.Represents.{Represents, RepresentsOn, TakesDe
 ghost use Rattle.esm_record.specs.Delivered.{deliveries_of};
 ghost use Rattle.esm_run.specs.Inner.Leading.{IsResolved, HasTicket, History, IsHeard, IsLed, IsNew, IsShared, Leads, LeadsOn};
 
+use crate::settings::Settings;
 use crate::tickets::{Chosen, Queue, Ticket, ask_open, choose, hear_next};
 use esm_base::{Memory, Text};
 use esm_fetch::{Bell, Posted, Turned, fetch_one, laws as fetch_laws};
@@ -114,22 +115,19 @@ fn deliver(machine: &mut Machine, chosen: Chosen, taken: &mut Vec<Delivery>) -> 
 
 // Fetches what there is to take, or waits for the bell. The map is shut here only where memory ran out.
 fn fetch_or_wait<R: Wait, S: Source>(
-    rt: &R,
-    alloc: Global,
-    modules: &ModuleMap<Posted>,
-    bell: &Bell,
-    guide: &ImportMap,
+    settings: &Settings<R>,
     caller: &mut Caller<Posted>,
     source: &mut S,
     queue: &mut Queue,
 ) -> Result<(), Memory>
-    requires own { table_of modules.now.lock.table.shared.table_id caller.old.pass
-        ≡ modules.now.lock.table.shared.table_id }
-    requires guide { guide_in (view_in caller.old.pass).seen ≡ Some guide.now }
+    requires own { table_of settings.now.modules.now.lock.table.shared.table_id caller.old.pass
+        ≡ settings.now.modules.now.lock.table.shared.table_id }
+    requires guide { guide_in (view_in caller.old.pass).seen
+        ≡ Some (arc_value settings.now.import_map.now) }
     requires served { Serves (S.holds source.old) (S.asked source.old) caller.old.number
         (view_in caller.old.pass).seen }
-    ensures own { table_of modules.now.lock.table.shared.table_id caller.new.pass
-        ≡ modules.now.lock.table.shared.table_id }
+    ensures own { table_of settings.now.modules.now.lock.table.shared.table_id caller.new.pass
+        ≡ settings.now.modules.now.lock.table.shared.table_id }
     ensures same { Same (view_in caller.old.pass) (view_in caller.new.pass)
         × (caller.new.number ≡ caller.old.number) }
     ensures begins { Begins (view_in caller.old.pass).seen (view_in caller.new.pass).seen }
@@ -141,13 +139,21 @@ fn fetch_or_wait<R: Wait, S: Source>(
     ensures tickets { queue.new.tickets ≡ queue.old.tickets }
     ensures posted { queue.new.posted ≡ queue.old.posted }
 {
-    let Ok(turned) = fetch_one(rt, alloc, modules, bell, guide, caller, source) else {
+    let Ok(turned) = fetch_one(
+        settings.rt,
+        settings.alloc,
+        settings.modules,
+        settings.bell,
+        settings.import_map,
+        caller,
+        source,
+    ) else {
         return Err(Memory);
     };
     match turned {
         Turned::Posted(_) => Ok(()),
         Turned::NotYet => {
-            queue.heard = bell.wait_for_post(rt, queue.heard);
+            queue.heard = settings.bell.wait_for_post(settings.rt, queue.heard);
             Ok(())
         }
         Turned::Closed => Err(Memory),
@@ -156,28 +162,25 @@ fn fetch_or_wait<R: Wait, S: Source>(
 
 // Asks for what is open, and delivers what was posted first; where nothing is, it fetches or waits.
 fn advance<R: Wait, S: Source>(
-    rt: &R,
-    alloc: Global,
-    modules: &ModuleMap<Posted>,
-    bell: &Bell,
-    guide: &ImportMap,
+    settings: &Settings<R>,
     caller: &mut Caller<Posted>,
     source: &mut S,
     machine: &mut Machine,
     queue: &mut Queue,
     taken: &mut Vec<Delivery>,
 ) -> Result<(), Memory>
-    requires own { table_of modules.now.lock.table.shared.table_id caller.old.pass
-        ≡ modules.now.lock.table.shared.table_id }
+    requires own { table_of settings.now.modules.now.lock.table.shared.table_id caller.old.pass
+        ≡ settings.now.modules.now.lock.table.shared.table_id }
     requires served { Serves (S.holds source.old) (S.asked source.old) caller.old.number
         (view_in caller.old.pass).seen }
-    requires guide { guide_in (view_in caller.old.pass).seen ≡ Some guide.now }
+    requires guide { guide_in (view_in caller.old.pass).seen
+        ≡ Some (arc_value settings.now.import_map.now) }
     requires maps { (state_of machine.old).stopped ≡ None
-        → maps_of (state_of machine.old) ≡ guide.now }
+        → maps_of (state_of machine.old) ≡ arc_value settings.now.import_map.now }
     requires tickets { All (HasTicket (view_in caller.old.pass).seen) queue.old.tickets.items }
     requires posted { All (IsHeard (view_in caller.old.pass).seen) queue.old.posted.items }
-    ensures own { table_of modules.now.lock.table.shared.table_id caller.new.pass
-        ≡ modules.now.lock.table.shared.table_id }
+    ensures own { table_of settings.now.modules.now.lock.table.shared.table_id caller.new.pass
+        ≡ settings.now.modules.now.lock.table.shared.table_id }
     ensures same { Same (view_in caller.old.pass) (view_in caller.new.pass)
         × (caller.new.number ≡ caller.old.number) }
     ensures begins { Begins (view_in caller.old.pass).seen (view_in caller.new.pass).seen }
@@ -199,34 +202,22 @@ fn advance<R: Wait, S: Source>(
     map_laws::posts_stay::<Posted>();
     map_laws::guide_stays::<Posted>();
     fetch_laws::posts_resolve();
-    let Ok(()) = ask_open(
-        rt,
-        alloc,
-        modules,
-        bell,
-        caller,
-        machine,
-        &mut queue.tickets,
-    ) else {
+    let Ok(()) = ask_open(settings, caller, machine, &mut queue.tickets) else {
         return Err(Memory);
     };
-    let Ok(()) = hear_next(rt, modules, caller, queue) else {
+    let Ok(()) = hear_next(settings, caller, queue) else {
         return Err(Memory);
     };
     match choose(queue) {
         Some(chosen) => deliver(machine, chosen, taken),
-        None => fetch_or_wait(rt, alloc, modules, bell, guide, caller, source, queue),
+        None => fetch_or_wait(settings, caller, source, queue),
     }
 }
 
 // Drives the machine of an entry under an import map until no ask is open or a limit has stopped it. At most `WINDOW` URLs
 // are asked of the map and not delivered.
 fn drive<R: Wait, S: Source>(
-    rt: &R,
-    alloc: Global,
-    modules: &ModuleMap<Posted>,
-    bell: &Bell,
-    map: &Arc<ImportMap, Global>,
+    settings: &Settings<R>,
     entry: &Text,
     trace: bool,
     caller: &mut Caller<Posted>,
@@ -234,45 +225,35 @@ fn drive<R: Wait, S: Source>(
     taken: &mut Vec<Delivery>,
 ) -> Result<Machine, Memory>
     requires usable { is_usable entry.now ≡ true }
-    requires own { table_of modules.now.lock.table.shared.table_id caller.old.pass
-        ≡ modules.now.lock.table.shared.table_id }
-    requires guide { guide_in (view_in caller.old.pass).seen ≡ Some (arc_value map.now) }
+    requires own { table_of settings.now.modules.now.lock.table.shared.table_id caller.old.pass
+        ≡ settings.now.modules.now.lock.table.shared.table_id }
+    requires guide { guide_in (view_in caller.old.pass).seen
+        ≡ Some (arc_value settings.now.import_map.now) }
     requires served { Serves (S.holds source.old) (S.asked source.old) caller.old.number
         (view_in caller.old.pass).seen }
     requires unasked { asks_by weight caller.old.number (view_in caller.old.pass).seen ≡ [] }
     requires nothing { taken.old.items ≡ [] }
-    ensures own { table_of modules.now.lock.table.shared.table_id caller.new.pass
-        ≡ modules.now.lock.table.shared.table_id }
+    ensures own { table_of settings.now.modules.now.lock.table.shared.table_id caller.new.pass
+        ≡ settings.now.modules.now.lock.table.shared.table_id }
     ensures same { Same (view_in caller.old.pass) (view_in caller.new.pass)
         × (caller.new.number ≡ caller.old.number) }
     ensures holds { S.holds source.new ≡ S.holds source.old }
     ensures served { Served 1 (S.holds source.old) (S.asked source.new) caller.old.number
         (view_in caller.new.pass).seen }
-    ensures ends { Leads (arc_value map.now) entry.now trace result caller.old.number
-        (view_in caller.new.pass).seen (deliveries_of taken.new.items) }
+    ensures ends { Leads (arc_value settings.now.import_map.now) entry.now trace result
+        caller.old.number (view_in caller.new.pass).seen (deliveries_of taken.new.items) }
 {
     machine_laws::keeps_its_map();
     map_laws::guide_stays::<Posted>();
-    let Ok(mut machine) = start(alloc, map, entry, trace) else {
+    let Ok(mut machine) = start(settings.alloc, settings.import_map, entry, trace) else {
         return Err(Memory);
     };
-    let mut queue = Queue::new(alloc);
-    for _ in rt.forever() {
+    let mut queue = Queue::new(settings.alloc);
+    for _ in settings.rt.forever() {
         if has_no_ask(&machine) {
             return Ok(machine);
         }
-        let Ok(()) = advance(
-            rt,
-            alloc,
-            modules,
-            bell,
-            map,
-            caller,
-            source,
-            &mut machine,
-            &mut queue,
-            taken,
-        ) else {
+        let Ok(()) = advance(settings, caller, source, &mut machine, &mut queue, taken) else {
             return Err(Memory);
         };
     }
@@ -320,15 +301,18 @@ pub(crate) fn lead<R: Wait, S: Source>(
 {
     map_laws::urls_stay::<Posted>();
     map_laws::posts_stay::<Posted>();
-    let mut caller = caller;
-    let mut sources = sources;
-    let mut taken = Vec::new(alloc);
-    let driven = drive(
+    let settings = Settings {
         rt,
         alloc,
         modules,
         bell,
         import_map,
+    };
+    let mut caller = caller;
+    let mut sources = sources;
+    let mut taken = Vec::new(alloc);
+    let driven = drive(
+        &settings,
         entry,
         trace,
         &mut caller,

@@ -13,11 +13,12 @@ ghost use Rattle.esm_ast.specs.Deliveries.{Delivery};
 ghost use Rattle.esm_run.specs.Inner.Leading as spec;
 ghost use Rattle.esm_run.specs.Inner.Leading.{AsksOn, HasTicket, HearsMore, History, IsFirstPosted, KeepsServing};
 
+use crate::settings::Settings;
 use esm_base::{Memory, Text};
-use esm_fetch::{Bell, Posted};
+use esm_fetch::Posted;
 use esm_loads::NOWHERE;
 use esm_machine::Machine;
-use esm_module_map::{Asked, Caller, Heard, ModuleMap, laws as map_laws};
+use esm_module_map::{Asked, Caller, Heard, laws as map_laws};
 use esm_world::laws;
 use std::alloc::Global;
 use std::sync::{Arc, Wait};
@@ -151,18 +152,16 @@ fn between(texts: &[Text], from: usize, to: usize) -> &[Text]
 
 // Asks the map for the machine's open asks in their order, up to the window, in one turn.
 fn ask_more<R: Wait>(
-    rt: &R,
-    alloc: Global,
-    modules: &ModuleMap<Posted>,
+    settings: &Settings<R>,
     caller: &mut Caller<Posted>,
     machine: &Machine,
     tickets: &mut Vec<Ticket>,
 ) -> Result<(), Memory>
-    requires own { table_of modules.now.lock.table.shared.table_id caller.old.pass
-        ≡ modules.now.lock.table.shared.table_id }
+    requires own { table_of settings.now.modules.now.lock.table.shared.table_id caller.old.pass
+        ≡ settings.now.modules.now.lock.table.shared.table_id }
     requires tickets { All (HasTicket (view_in caller.old.pass).seen) tickets.old.items }
-    ensures own { table_of modules.now.lock.table.shared.table_id caller.new.pass
-        ≡ modules.now.lock.table.shared.table_id }
+    ensures own { table_of settings.now.modules.now.lock.table.shared.table_id caller.new.pass
+        ≡ settings.now.modules.now.lock.table.shared.table_id }
     ensures same { Same (view_in caller.old.pass) (view_in caller.new.pass)
         × (caller.new.number ≡ caller.old.number) }
     ensures begins { Begins (view_in caller.old.pass).seen (view_in caller.new.pass).seen }
@@ -182,7 +181,10 @@ fn ask_more<R: Wait>(
     if urls.is_empty() {
         return Ok(());
     }
-    let Ok(asked) = modules.ask_all(rt, alloc, caller, urls) else {
+    let Ok(asked) = settings
+        .modules
+        .ask_all(settings.rt, settings.alloc, caller, urls)
+    else {
         return Err(Memory);
     };
     add_tickets(tickets, urls, asked.as_slice(), machine.ask_places())
@@ -191,19 +193,16 @@ fn ask_more<R: Wait>(
 /// The same, where no more than half of the window is full, and rings the bell once for all that was asked. The tickets are
 /// those of the first open asks.
 pub(crate) fn ask_open<R: Wait>(
-    rt: &R,
-    alloc: Global,
-    modules: &ModuleMap<Posted>,
-    bell: &Bell,
+    settings: &Settings<R>,
     caller: &mut Caller<Posted>,
     machine: &Machine,
     tickets: &mut Vec<Ticket>,
 ) -> Result<(), Memory>
-    requires own { table_of modules.now.lock.table.shared.table_id caller.old.pass
-        ≡ modules.now.lock.table.shared.table_id }
+    requires own { table_of settings.now.modules.now.lock.table.shared.table_id caller.old.pass
+        ≡ settings.now.modules.now.lock.table.shared.table_id }
     requires tickets { All (HasTicket (view_in caller.old.pass).seen) tickets.old.items }
-    ensures own { table_of modules.now.lock.table.shared.table_id caller.new.pass
-        ≡ modules.now.lock.table.shared.table_id }
+    ensures own { table_of settings.now.modules.now.lock.table.shared.table_id caller.new.pass
+        ≡ settings.now.modules.now.lock.table.shared.table_id }
     ensures same { Same (view_in caller.old.pass) (view_in caller.new.pass)
         × (caller.new.number ≡ caller.old.number) }
     ensures begins { Begins (view_in caller.old.pass).seen (view_in caller.new.pass).seen }
@@ -221,8 +220,10 @@ pub(crate) fn ask_open<R: Wait>(
     if before > REFILL {
         return Ok(());
     }
-    let asked = ask_more(rt, alloc, modules, caller, machine, tickets);
-    bell.ring_for_orders(tickets.len().saturating_sub(before));
+    let asked = ask_more(settings, caller, machine, tickets);
+    settings
+        .bell
+        .ring_for_orders(tickets.len().saturating_sub(before));
     asked
 }
 
@@ -275,15 +276,14 @@ pub(crate) fn choose(queue: &mut Queue) -> Option<Chosen>
 /// Puts what was posted behind the posts that are known into the queue, in order. Where memory runs out it may be a part
 /// of that.
 pub(crate) fn hear<R: Wait>(
-    rt: &R,
-    modules: &ModuleMap<Posted>,
+    settings: &Settings<R>,
     caller: &mut Caller<Posted>,
     queue: &mut Queue,
 ) -> Result<(), Memory>
-    requires own { table_of modules.now.lock.table.shared.table_id caller.old.pass
-        ≡ modules.now.lock.table.shared.table_id }
-    ensures own { table_of modules.now.lock.table.shared.table_id caller.new.pass
-        ≡ modules.now.lock.table.shared.table_id }
+    requires own { table_of settings.now.modules.now.lock.table.shared.table_id caller.old.pass
+        ≡ settings.now.modules.now.lock.table.shared.table_id }
+    ensures own { table_of settings.now.modules.now.lock.table.shared.table_id caller.new.pass
+        ≡ settings.now.modules.now.lock.table.shared.table_id }
     ensures same { Same (view_in caller.old.pass) (view_in caller.new.pass)
         × (caller.new.number ≡ caller.old.number) }
     ensures says { Stays weight caller.old.number (view_in caller.old.pass).seen
@@ -295,11 +295,14 @@ pub(crate) fn hear<R: Wait>(
         queue.new.known ≡ None) }
 {
     map_laws::posts_stay::<Posted>();
-    for _ in rt.forever() {
+    for _ in settings.rt.forever() {
         let Ok(()) = queue.posted.reserve(WINDOW) else {
             return Err(Memory);
         };
-        let Ok(()) = modules.hear(rt, caller, &mut queue.known, &mut queue.posted) else {
+        let Ok(()) = settings
+            .modules
+            .hear(settings.rt, caller, &mut queue.known, &mut queue.posted)
+        else {
             return Err(Memory);
         };
         if queue.posted.len() < queue.posted.capacity() {
@@ -312,15 +315,14 @@ pub(crate) fn hear<R: Wait>(
 /// The same where nothing is known that isn't delivered. Else nothing is done, so that the lock is entered once for all that
 /// was posted meanwhile.
 pub(crate) fn hear_next<R: Wait>(
-    rt: &R,
-    modules: &ModuleMap<Posted>,
+    settings: &Settings<R>,
     caller: &mut Caller<Posted>,
     queue: &mut Queue,
 ) -> Result<(), Memory>
-    requires own { table_of modules.now.lock.table.shared.table_id caller.old.pass
-        ≡ modules.now.lock.table.shared.table_id }
-    ensures own { table_of modules.now.lock.table.shared.table_id caller.new.pass
-        ≡ modules.now.lock.table.shared.table_id }
+    requires own { table_of settings.now.modules.now.lock.table.shared.table_id caller.old.pass
+        ≡ settings.now.modules.now.lock.table.shared.table_id }
+    ensures own { table_of settings.now.modules.now.lock.table.shared.table_id caller.new.pass
+        ≡ settings.now.modules.now.lock.table.shared.table_id }
     ensures same { Same (view_in caller.old.pass) (view_in caller.new.pass)
         × (caller.new.number ≡ caller.old.number) }
     ensures says { Stays weight caller.old.number (view_in caller.old.pass).seen
@@ -330,7 +332,7 @@ pub(crate) fn hear_next<R: Wait>(
         queue.new.known queue.new.posted.items }
 {
     if queue.posted.is_empty() {
-        hear(rt, modules, caller, queue)
+        hear(settings, caller, queue)
     } else {
         Ok(())
     }

@@ -25,10 +25,10 @@ deliver-requires g c =
     let q0 = c.args.queue.now in let q2 = c.hear_next.new.queue in
     let heard1 = heard_stay c.posts_stay.ensures h0 h1 q0.posted.items c.ask_open.ensures.begins c.requires.posted in
     let heard2 = heard_more c.posts_stay.ensures h1 h2 q0.known q0.posted.items q2.known q2.posted.items says.0 c.hear_next.ensures.order heard1 in
-    let guide2 = c.guide_stays.ensures c.args.guide.now h0 h2 (begins_on h0 h1 h2 c.ask_open.ensures.begins says.0) c.requires.guide in
+    let guide2 = c.guide_stays.ensures (arc_value c.args.settings.now.import_map.now) h0 h2 (begins_on h0 h1 h2 c.ask_open.ensures.begins says.0) c.requires.guide in
     let ticket = All-contains (HasTicket h2) q2.tickets.items c.in-Some.chosen.ticket t3 c.in-Some.ensures.among in
     let post = chosen_post h2 q2.tickets.items q2.posted.items c.in-Some.chosen c.choose.new.queue.posted.items heard2 c.in-Some.ensures.first in
-    resolved c.posts_resolve.ensures (state_of c.args.machine.now) c.args.guide.now h2 c.in-Some.chosen.ticket (arc_value c.in-Some.chosen.payload) c.hear_next.new.caller.fit guide2 c.requires.maps ticket post
+    resolved c.posts_resolve.ensures (state_of c.args.machine.now) (arc_value c.args.settings.now.import_map.now) h2 c.in-Some.chosen.ticket (arc_value c.in-Some.chosen.payload) c.hear_next.new.caller.fit guide2 c.requires.maps ticket post
 
 pub fetch_or_wait-requires-clause-guide : goal.fetch_or_wait-requires-clause-guide
 fetch_or_wait-requires-clause-guide g c =
@@ -36,7 +36,7 @@ fetch_or_wait-requires-clause-guide g c =
     let h0 = (view_in c.args.caller.now.pass).seen in let h1 = (view_in c.ask_open.new.caller.pass).seen in
     let h2 = (view_in c.hear_next.new.caller.pass).seen in let e1 : n1 ≡ n0 = c.ask_open.ensures.same.1 in
     let says : Stays weight n0 h1 h2 = subst (λ m. Stays weight m h1 h2) e1 c.hear_next.ensures.says in
-    let guide2 = c.guide_stays.ensures c.args.guide.now h0 h2 (begins_on h0 h1 h2 c.ask_open.ensures.begins says.0) c.requires.guide in
+    let guide2 = c.guide_stays.ensures (arc_value c.args.settings.now.import_map.now) h0 h2 (begins_on h0 h1 h2 c.ask_open.ensures.begins says.0) c.requires.guide in
     guide2
 
 pub fetch_or_wait-requires-clause-served : goal.fetch_or_wait-requires-clause-served

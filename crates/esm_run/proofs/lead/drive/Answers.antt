@@ -1,4 +1,4 @@
-use Rattle.std.proofs.Common.{◌∙◌, Some, ap, sym, subst, refl, inl, arith, length}
+use Rattle.std.proofs.Common.{◌∙◌, ap, sym, subst, refl, inl, arith, length}
 use Rattle.std.specs.Prelude.{All}
 use Rattle.std.specs.Arc.{arc_value}
 use Rattle.std.proofs.lemmas.List.Elements.{All-nil}
@@ -29,16 +29,13 @@ loop-init g c = record {
   led = led_new _ _ _ _ _ c.in-Ok.machine _ c.in-Ok.ensures (ap deliveries_of c.requires.nothing) c.requires.unasked;
 }
 
-pub advance-requires-clause-guide : goal.advance-requires-clause-guide
-advance-requires-clause-guide g c = c.loop.invariant.guide ∙ ap Some (sym c.deref.ensures)
-
 pub advance-requires-clause-maps : goal.advance-requires-clause-maps
-advance-requires-clause-maps g c = λ live. c.keeps_its_map.ensures (arc_value c.args.map.now) c.args.entry.now c.args.trace (state_of c.loop.machine) (deliveries_of c.loop.taken.items) c.loop.invariant.led.driven.represents live ∙ sym c.deref.ensures
+advance-requires-clause-maps g c = λ live. c.keeps_its_map.ensures (arc_value c.args.settings.now.import_map.now) c.args.entry.now c.args.trace (state_of c.loop.machine) (deliveries_of c.loop.taken.items) c.loop.invariant.led.driven.represents live
 
 pub loop-preserved : goal.loop-preserved
 loop-preserved g c =
     let inv = c.loop.invariant in let n0 = c.args.caller.now.number in
-    let M = arc_value c.args.map.now in let E = c.args.entry.now in
+    let M = arc_value c.args.settings.now.import_map.now in let E = c.args.entry.now in
     let old = (view_in c.loop.caller.pass).seen in let new = (view_in c.advance.new.caller.pass).seen in
     record {
       own = c.advance.ensures.own;
@@ -68,7 +65,7 @@ returns-in_default-advance-clause-served g c = served_next (g.S.Source.holds c.a
 pub returns-in_default-advance-clause-ends : goal.returns-in_default-advance-clause-ends
 returns-in_default-advance-clause-ends g c =
     let inv = c.loop.invariant in
-    let M = arc_value c.args.map.now in let E = c.args.entry.now in
+    let M = arc_value c.args.settings.now.import_map.now in let E = c.args.entry.now in
     let old = (view_in c.loop.caller.pass).seen in let new = (view_in c.advance.new.caller.pass).seen in
     subst (λ m. IsLedShort M E c.args.trace m new (deliveries_of c.advance.new.taken.items)) inv.number
     (c.in_default-advance.ensures.led M E c.args.trace (subst (λ m. IsLed M E c.args.trace m old c.loop.machine (deliveries_of c.loop.taken.items)) (sym inv.number) inv.led))

@@ -10,14 +10,14 @@ use Rattle.esm_run.proofs.lead.drive.Given as goal
 
 abbrev pub invariant-loop : goal.invariant-loop
 invariant-loop g l = record {
-  own : table_of l.modules.lock.table.shared.table_id l.caller.pass ≡ l.modules.lock.table.shared.table_id;
+  own : table_of l.settings.modules.now.lock.table.shared.table_id l.caller.pass ≡ l.settings.modules.now.lock.table.shared.table_id;
   same : Same (view_in l.initial.caller.pass) (view_in l.caller.pass);
   number : l.caller.number ≡ l.initial.caller.number;
   holds : g.S.Source.holds l.source ≡ g.S.Source.holds l.initial.source;
   served : Serves (g.S.Source.holds l.source) (g.S.Source.asked l.source) l.caller.number (view_in l.caller.pass).seen;
-  guide : guide_in (view_in l.caller.pass).seen ≡ Some (arc_value l.map);
+  guide : guide_in (view_in l.caller.pass).seen ≡ Some (arc_value l.settings.import_map.now);
   tickets : All (HasTicket (view_in l.caller.pass).seen) l.queue.tickets.items;
   posted : All (IsHeard (view_in l.caller.pass).seen) l.queue.posted.items;
   window : length l.queue.tickets.items ≤ 32;
-  led : IsLed (arc_value l.map) l.entry l.trace l.initial.caller.number (view_in l.caller.pass).seen l.machine (deliveries_of l.taken.items);
+  led : IsLed (arc_value l.settings.import_map.now) l.entry l.trace l.initial.caller.number (view_in l.caller.pass).seen l.machine (deliveries_of l.taken.items);
 }

@@ -7,7 +7,7 @@ use Rattle.esm_run.proofs.tickets.hear.Given as goal
 
 abbrev pub invariant-loop : goal.invariant-loop
 invariant-loop g l = record {
-  own : table_of l.modules.lock.table.shared.table_id l.caller.pass ≡ l.modules.lock.table.shared.table_id;
+  own : table_of l.settings.modules.now.lock.table.shared.table_id l.caller.pass ≡ l.settings.modules.now.lock.table.shared.table_id;
   same : Same (view_in l.initial.caller.pass) (view_in l.caller.pass);
   number : l.caller.number ≡ l.initial.caller.number;
   says : Stays weight l.initial.caller.number (view_in l.initial.caller.pass).seen (view_in l.caller.pass).seen;
