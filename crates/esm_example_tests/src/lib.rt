@@ -1,4 +1,4 @@
-//! Tests of the examples for callers.
+//! Tests of the examples for callers, and of workers that fetch over a module map.
 #![tactic(auto)]
 
 #[cfg(test)]
@@ -9,3 +9,5 @@ mod fetches;
 mod import_maps;
 #[cfg(test)]
 mod pages;
+#[cfg(test)]
+mod workers;

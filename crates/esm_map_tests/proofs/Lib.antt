@@ -1,4 +1,2 @@
 pub mod NewMakers
-pub mod Served
 pub mod OrderLemmas
-pub mod Guided

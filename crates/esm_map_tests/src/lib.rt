@@ -1,8 +1,6 @@
-//! Tests of the lock, of the module map and of workers over it, in one thread and in several.
+//! Tests of the lock and of the module map, in one thread and in several.
 #![tactic(auto)]
 
-#[cfg(test)]
-mod fetching;
 #[cfg(test)]
 mod lock;
 #[cfg(test)]

@@ -1,7 +1,7 @@
 use Rattle.esm_hlock.specs.Words.{knows}
 use Rattle.esm_module_map.specs.Views.{view_in}
-use Rattle.esm_map_tests.proofs.Guided.{same_guide}
-use Rattle.esm_map_tests.proofs.fetching.another.Goals as goal
+use Rattle.esm_example_tests.proofs.Guided.{same_guide}
+use Rattle.esm_example_tests.proofs.workers.another.Goals as goal
 
 pub enrolled-requires-clause-guide : goal.enrolled-requires-clause-guide
 enrolled-requires-clause-guide g c = same_guide (view_in c.args.caller.now.pass).seen (knows c.split-pass.result).seen c.split-pass.ensures.seen.1 c.requires.guide

@@ -1,6 +1,6 @@
 use Rattle.std.proofs.Common.{◌≡◌}
 use Rattle.esm_module_map.specs.Views.{table_of}
-use Rattle.esm_map_tests.proofs.fetching.lead.Given as goal
+use Rattle.esm_example_tests.proofs.workers.lead.Given as goal
 
 abbrev pub invariant-loop : goal.invariant-loop
 invariant-loop g l = table_of l.modules.lock.table.shared.table_id l.caller.pass ≡ l.modules.lock.table.shared.table_id

@@ -2,7 +2,7 @@ use Rattle.std.proofs.Common.{ap, ◌∙◌, sym, subst, ◌∷◌, [], ◌++◌
 use Rattle.std.specs.Prelude.{All}
 use Rattle.std.proofs.lemmas.List.Elements.{All-nil, All-cons}
 use Rattle.esm_fetch.specs.Pool.{IsToBegin, IsGuided}
-use Rattle.esm_map_tests.proofs.fetching.two_jobs.Goals as goal
+use Rattle.esm_example_tests.proofs.workers.two_jobs.Goals as goal
 
 pub returns-clause-jobs : goal.returns-clause-jobs
 returns-clause-jobs g c = let P = IsToBegin c.args.modules.now.lock.table.shared.table_id g.S.Source.holds g.S.Source.asked in

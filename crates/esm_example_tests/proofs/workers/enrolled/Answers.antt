@@ -1,8 +1,8 @@
 use Rattle.esm_hlock.specs.Words.{knows}
 use Rattle.esm_import_map.specs.ImportMap.{no_maps}
 use Rattle.esm_module_map.specs.Views.{view_in}
-use Rattle.esm_map_tests.proofs.Guided.{begins_on}
-use Rattle.esm_map_tests.proofs.fetching.enrolled.Goals as goal
+use Rattle.esm_example_tests.proofs.Guided.{begins_on}
+use Rattle.esm_example_tests.proofs.workers.enrolled.Goals as goal
 
 pub returns-in-Ok-clause-guide : goal.returns-in-Ok-clause-guide
 returns-in-Ok-clause-guide g c =
