@@ -70,7 +70,7 @@ started 64
 lines 64
 status 0
 
-== gen 7 4096 --workers 2
+== gen 1 4096 --workers 4
 >> Fulfilled
 modules 4096
 started 4096
