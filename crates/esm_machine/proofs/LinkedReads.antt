@@ -1,13 +1,15 @@
 -- What is read of a module that is linked.
 use Rattle.std.proofs.Common.{◌≡◌, ◌<◌, ◌+◌, ℕ, zero, suc, true, false, List, [], ◌∷◌, Some, length, slice_get, arith, refl, ap, subst, sym, ◌∙◌}
 use Rattle.esm_import_map.specs.ImportMap.{Maps}
-use Rattle.esm_realm.specs.ById.{entries_at, loaded_at}
-use Rattle.esm_realm.specs.Sound.{RecordParts}
+use Rattle.esm_ast.specs.Entries.{EntryLists}
+use Rattle.esm_realm.specs.ById.{entries_at, entries_by, loaded_at, loaded_by}
+use Rattle.esm_realm.specs.Sound.{AreLoaded, RecordParts}
 use Rattle.esm_env.specs.Modules.{Modules, entries}
 use Rattle.esm_loads.specs.declared.loads.Loads.{Loads}
+use Rattle.esm_loads.proofs.Places.{all_get, get_within}
 use Rattle.esm_link.specs.Link.{targets, targets_from}
 use Rattle.esm_machine.specs.ModuleStore.{Imported, imported, loaded_or, seen_of}
-use Rattle.esm_machine.specs.Inner.Importing.{there}
+use Rattle.esm_machine.specs.Inner.Importing.{there, there_too}
 use Rattle.esm_machine.specs.Kept.{IsKept}
 use Rattle.esm_machine.specs.Seen.{linked, modules}
 use Rattle.esm_machine.specs.declared.condition.Condition.{Condition}
@@ -37,6 +39,14 @@ targets_by conditions.Lost R t maps k m request l lt = let e : false ≡ true = 
 module _ (i : Imported) (k : IsKept i) (m : ℕ) (l : linked (seen_of i) m ≡ true) where
   pub entries_read : entries_at i.records m ≡ entries (modules (seen_of i)) m
   entries_read = entries_right i.condition i.records i.loads i.maps k m (there i m l)
+
+  -- what it has loaded has a place for each request
+  pub loaded_read : length (loaded_at i.records m) ≡ length (entries (modules (seen_of i)) m).requests
+  loaded_read =
+      let g = get_within i.records m (there_too i m l) in
+      let a = all_get (λ (r : RecordParts). AreLoaded (length i.records) r.entries r.loaded) i.records m g.0 k.sound.loaded g.1 in
+      ap (λ o. length (loaded_by o)) g.1 ∙ a.as_many ∙ ap (λ o. length (entries_by o).requests) (sym g.1)
+      ∙ ap (λ (e : EntryLists). length e.requests) entries_read
 
   -- the requests are as many as the targets
   pub count_read : length (entries (modules (seen_of i)) m).requests ≡ length (targets (modules (seen_of i)) m)

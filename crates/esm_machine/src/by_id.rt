@@ -52,6 +52,14 @@ pub fn loaded_of(realm: &Realm, m: ModuleId, request: usize) -> ModuleId
     }
 }
 
+/// How many requests a module has: so many modules it has loaded, or has a place for.
+pub fn loaded_count(realm: &Realm, m: ModuleId) -> usize
+    requires { m.0 < length (records_of realm.now) }
+    ensures { result ≡ length (loaded_at (records_of realm.now) m.0) }
+{
+    realm.records[m.0 as usize].loaded.len()
+}
+
 /// The URL of a module; empty where there is none.
 pub fn url_of(realm: &Realm, m: ModuleId) -> &str
     ensures { result.now ≡ url_at (records_of realm.now) m.0 }

@@ -11,7 +11,7 @@ ghost use Rattle.esm_machine.specs.Linking.{KeepsScopes, LinksSeen, NamesRecords
 ghost use Rattle.esm_machine.specs.Seen.{linked, modules, names};
 ghost use Rattle.esm_machine.specs.SeenScopes.{AreScopesIn};
 
-use crate::by_id::{entries_of, loaded_of, record_count};
+use crate::by_id::{entries_of, loaded_count, loaded_of, record_count};
 use crate::condition::condition_unlinked;
 use crate::laws::linking_is_of_the_world;
 use crate::module_store::ModuleStore;
@@ -33,7 +33,7 @@ impl ModuleStore {
         requires { linked (seen_of self.now) m.0 ≡ true }
         ensures { result ≡ length (targets (modules (seen_of self.now)) m.0) }
     {
-        entries_of(&self.realm, m).requests().len()
+        loaded_count(&self.realm, m)
     }
 
     /// The module of a request of a module that is linked.

@@ -26,8 +26,8 @@ use std::sync::{Arc, Wait};
 /// How many URLs are asked of the map and not delivered, at the most.
 pub(crate) const WINDOW: usize = 32;
 
-/// Behind how many of them nothing more is asked: workers are woken for half a window at once, and not for each URL.
-const REFILL: usize = 16;
+/// Behind how many of them nothing more is asked: workers are woken for a quarter of a window at once, not for each URL.
+const REFILL: usize = 24;
 
 /// An open ask of the machine that the map was asked for, and its number there. Its place in the machine's table of URLs
 /// spares look-ups.
@@ -190,8 +190,8 @@ fn ask_more<R: Wait>(
     add_tickets(tickets, urls, asked.as_slice(), machine.ask_places())
 }
 
-/// The same, where no more than half of the window is full, and rings the bell once for all that was asked. The tickets are
-/// those of the first open asks.
+/// The same, where no more than three quarters of the window are full, and rings the bell once for all that was asked. The
+/// tickets are those of the first open asks.
 pub(crate) fn ask_open<R: Wait>(
     settings: &Settings<R>,
     caller: &mut Caller<Posted>,
