@@ -217,7 +217,11 @@ DEEP = [
     ("if(", "(", '"x"', ")", "){}", True),
     ("export default function(){", "{", "", "}", "}", True), ("export const a=", "(", '"x"', ")", ";", True),
     ("", '""+(', '""', ")", ";", True),
-    ("", '"x"===(', '"x"', ")", ";", True), ("", 'true&&(', 'true', ")", ";", True), ("", 'false||(', 'true', ")", ";", True),
+    ("", '"x"===(', '"x"', ")", ";", True), ("", '"x"!==(', '"x"', ")", ";", True), ("", 'true&&(', 'true', ")", ";", True),
+    ("", 'false||(', 'true', ")", ";", True),
+    ("let a=", "(", '"x"', ")", ";", True), ("const a=await ", "(", '"x"', ")", ";", True), ("await ", "import(", '"./a.js"', ")", ";", True),
+    ("let a;", "(", "a", ").b", ";", True), ("function f(){return f}", "(", "f", ")()", ";", True),
+    ("export function f(){", "{", "", "}", "}", True),
 ]
 LONG = [  # what may be repeated without depth
     ("let a;a", ".b", "", "", ";"), ("let a;a", "()", "", "", ";"), ('""', '+""', "", "", ";"), ("true", "&&true", "", "", ";"),
