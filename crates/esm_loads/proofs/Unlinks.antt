@@ -1,5 +1,5 @@
 -- Records whose modules become Unlinked stay as they are but for the status, and a load ends.
-use Rattle.std.proofs.Common.{◌≡◌, ℕ, suc, zero, ◌+◌, ◌≤◌, Bool, true, false, List, [], ◌∷◌, ◌++◌, length, map, take, Option, Some, None, refl, ap, subst, sym, ◌∙◌, arith, add-one}
+use Rattle.std.proofs.Common.{◌≡◌, ℕ, suc, zero, ◌+◌, ◌≤◌, Bool, true, false, List, [], ◌∷◌, ◌++◌, length, map, take, Option, Some, None, refl, ap, subst, sym, ◌∙◌, arith}
 use Rattle.std.specs.Prelude.{◌||◌, ◌==◌, slice_get, slice_set, nat_eq}
 use Rattle.std.specs.List.{list_any}
 use Rattle.esm_tree.specs.Syntax.{Item}
@@ -27,6 +27,7 @@ use Rattle.esm_loads.proofs.PlacesOfUrls.{place_at}
 use Rattle.esm_loads.proofs.UrlIndices.{urls_many}
 use Rattle.esm_loads.proofs.Lookups.{modules_or, in_push}
 use Rattle.esm_loads.proofs.LoadSteps.{open_is, over_is, joined_load}
+use Rattle.esm_loads.proofs.Flags.{take_next}
 
 -- ---- records
 
@@ -81,13 +82,8 @@ pub one_more : (first R new : List RecordParts) (ids : List ℕ) (i id : ℕ) �
 one_more first R new ids i id h e more n =
     more n ∙ (ap (λ b. b || nat_eq n id) (h n) ∙ (by (is_unlinked first n) (is_in (take i ids) n) (nat_eq n id) ∙ ap (λ b. is_unlinked first n || b) (sym (in_push (take i ids) id n) ∙ ap (λ ids. is_in ids n) (sym next))))
   where
-    take_one : (ks : List ℕ) (i k : ℕ) → slice_get ks i ≡ Some k → take (suc i) ks ≡ take i ks ++ k ∷ []
-    take_one [] i k e = cc
-    take_one (j ∷ ks) zero k e = ap (λ j. j ∷ []) (some_is e)
-    take_one (j ∷ ks) (suc i) k e = ap (λ ks. j ∷ ks) (take_one ks i k e)
-
     next : take (i + 1) ids ≡ take i ids ++ id ∷ []
-    next = rw add-one (take_one ids i id e)
+    next = take_next ids i id e
 
     by : (a b c : Bool) → ((a || b) || c) ≡ (a || (b || c))
     by true b c = refl

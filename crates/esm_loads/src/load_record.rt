@@ -1,7 +1,7 @@
 // How far a load has come, and the modules that it has visited.
-ghost use Rattle.std.specs.Prelude.{◌≡◌, ◌<◌, ◌++◌, [], ◌∷◌, OnOk, List, ℕ, length};
+ghost use Rattle.std.specs.Prelude.{◌≡◌, ◌<◌, ◌++◌, [], ◌∷◌, OnOk, IfOk, List, ℕ, length};
 ghost use Rattle.esm_loads.specs.LoadsView.{is_in};
-ghost use Rattle.esm_loads.specs.Inner.Flags.{asked_load, begun_record, root_in, AreFlags};
+ghost use Rattle.esm_loads.specs.Inner.Flags.{asked_load, begun_record, root_in, AreFlags, HaveFlags};
 
 use crate::data::Stage;
 use esm_base::Memory;
@@ -14,9 +14,13 @@ pub struct LoadRecord {
     stage: Stage,
     /// The ids of the visited modules, in order of visiting.
     visited: Vec<u32>,
-    /// For each id up to the greatest visited one, whether it was visited.
+    /// For each id up to the greatest visited one, whether it was visited; none while few are visited.
     flags: Vec<bool>,
 }
+
+// So many visited modules are looked through; where there are more, each has a flag. A load of few modules amid many has no
+// flags for the others.
+const FEW: usize = 16;
 
 impl Model for LoadRecord {
     ghost use Rattle.std.specs.Coded.{codes};
@@ -24,24 +28,72 @@ impl Model for LoadRecord {
 
     ghost Value = { LoadView };
 
-    ghost use Rattle.esm_loads.specs.Inner.Flags.{AreFlags};
+    ghost use Rattle.esm_loads.specs.Inner.Flags.{HaveFlags};
 
     ghost view = { λ l. record { stage = l.stage; visited = l.visited.items } };
 
-    ghost invariant = { λ l. AreFlags l.flags.items l.visited.items };
+    ghost invariant = { λ l. HaveFlags l.flags.items l.visited.items };
 }
 
 // Makes room for the flag of an id.
-fn grow(flags: &mut Vec<bool>, id: usize) -> Result<(), Memory>
-    requires { id < 4096 }
+fn grow(flags: &mut Vec<bool>, id: u32) -> Result<(), Memory>
     ensures flags { (visited : List ℕ)
         → AreFlags flags.old.items visited → AreFlags flags.new.items visited }
     ensures room { OnOk result (id < length flags.new.items) }
 {
-    if id < flags.len() {
+    let place = id as usize;
+    if place < flags.len() {
         return Ok(());
     }
-    flags.resize(id + 1, false)?;
+    flags.resize(place + 1, false)?;
+    Ok(())
+}
+
+// The flag of an id says that it was visited.
+fn mark(flags: &mut Vec<bool>, id: u32) -> Result<(), Memory>
+    ensures { (visited : List ℕ) → AreFlags flags.old.items visited
+        → OnOk result (AreFlags flags.new.items (visited ++ id ∷ [])) }
+{
+    grow(flags, id)?;
+    flags[id as usize] = true;
+    Ok(())
+}
+
+// The flags of visited ids.
+fn flags_of(alloc: Global, visited: &[u32]) -> Result<Vec<bool>, Memory>
+    ensures { IfOk result (λ flags. AreFlags flags.items visited.now) }
+{
+    let mut flags = Vec::new(alloc);
+    for i in 0..visited.len() {
+        mark(&mut flags, visited[i])?;
+    }
+    Ok(flags)
+}
+
+// Makes the flags of visited ids, unless they are there.
+fn make_flags(flags: &mut Vec<bool>, visited: &[u32]) -> Result<(), Memory>
+    requires { HaveFlags flags.old.items visited.now }
+    ensures flags { OnOk result (AreFlags flags.new.items visited.now) }
+    ensures kept { HaveFlags flags.new.items visited.now }
+{
+    if !flags.is_empty() {
+        return Ok(());
+    }
+    let alloc = *flags.allocator();
+    *flags = flags_of(alloc, visited)?;
+    Ok(())
+}
+
+// Visits an id, where the visited ones have flags from now on.
+fn visit_by_flags(flags: &mut Vec<bool>, visited: &mut Vec<u32>, id: u32) -> Result<(), Memory>
+    requires { HaveFlags flags.old.items visited.old.items }
+    ensures kept { HaveFlags flags.new.items visited.new.items }
+    ensures visits { OnOk result (visited.new.items ≡ visited.old.items ++ id ∷ []) }
+{
+    make_flags(flags, visited.as_slice())?;
+    grow(flags, id)?;
+    visited.push(id)?;
+    flags[id as usize] = true;
     Ok(())
 }
 
@@ -101,6 +153,9 @@ impl LoadRecord {
     pub fn has_visited(&self, id: u32) -> bool
         ensures { result ≡ is_in self.now.visited id }
     {
+        if self.flags.is_empty() {
+            return self.visited.contains(&id);
+        }
         let place = id as usize;
         place < self.flags.len() && self.flags[place]
     }
@@ -111,10 +166,10 @@ impl LoadRecord {
         ensures { OnOk result
             (self.new ≡ record self.old { visited = self.old.visited ++ id ∷ [] }) }
     {
-        let place = id as usize;
-        grow(&mut self.flags, place)?;
-        self.visited.push(id)?;
-        self.flags[place] = true;
-        Ok(())
+        if self.flags.is_empty() && self.visited.len() < FEW {
+            self.visited.push(id)?;
+            return Ok(());
+        }
+        visit_by_flags(&mut self.flags, &mut self.visited, id)
     }
 }

@@ -15,6 +15,10 @@ pub record AreFlags (flags : List Bool) (visited : List ℕ) : Type 0 where
   pub each : (k : ℕ) (b : Bool) → slice_get flags k ≡ Some b → is_in visited k ≡ b
   pub within : All (λ (k : ℕ). k < length flags) visited
 
+-- there are no flags, or each says so
+pub record HaveFlags (flags : List Bool) (visited : List ℕ) : Type 0 where
+  pub right : 0 < length flags → AreFlags flags visited
+
 -- the root of a load that goes on
 abbrev pub root_in : Stage → Option ℕ
 root_in stages.Asked = None
