@@ -1,2 +1,4 @@
 pub mod NewMakers
 pub mod OrderLemmas
+pub mod LeadLemmas
+pub mod TurnLemmas

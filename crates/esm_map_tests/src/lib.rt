@@ -2,6 +2,10 @@
 #![tactic(auto)]
 
 #[cfg(test)]
+mod asking;
+#[cfg(test)]
+mod calls;
+#[cfg(test)]
 mod lock;
 #[cfg(test)]
 mod module_map;
@@ -9,3 +13,5 @@ mod module_map;
 mod one_caller;
 #[cfg(test)]
 mod telling;
+#[cfg(test)]
+mod turns;

@@ -3,7 +3,7 @@ ghost use Rattle.std.specs.Prelude.{◌≡◌, OnOk};
 ghost use Rattle.esm_module_map.specs.Views.{view_in, table_of};
 ghost use Rattle.esm_module_map.specs.Saying.{IsOrderIn};
 
-use crate::module_map::{Answer, Body, Call, SHUT, URL, answers_are, opened};
+use crate::calls::{Answer, Body, Call, SHUT, URL, answers_are, opened};
 use crate::telling::{SHORT, Told, holds, told_of};
 use esm_base::Memory;
 use esm_module_map::{Caller, MapEvent, ModuleMap, Order, Payload, Taken, laws};
@@ -122,6 +122,7 @@ const BEHIND: &[(Call, Answer)] = &[
     (Call::Ask(URL), ("Here", 0)),
     (Call::PostAt(0), ("Post", 0)),
     (Call::PostAt(1), ("None", 0)),
+    (Call::Hear(0, 8, &[(0, 7)]), ("Heard", 0)),
 ];
 
 // Tells what is wrong of what one caller finds from its first ask to the map's end.
