@@ -137,7 +137,7 @@ fn usable(alloc: Global, url: &str) -> Result<Text, Answer>
     }
 }
 
-// Whether any URL may be asked for so: as wanted always, ahead where something is posted under the number, all of which
+// Whether any URL may be asked for so: as wanted always, ahead where something is posted under the number, since each payload
 // leads to each URL.
 fn may_ask<R: Wait, P: Payload>(
     rt: &R,
