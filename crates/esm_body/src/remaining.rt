@@ -32,6 +32,21 @@ impl Model for Remaining {
     ghost view = { λ r. wholes r.statements.items ++ r.front.items };
 }
 
+/// Takes room for one part where there is room for none: mostly no second stands beside it. Where there is no memory it
+/// answers no.
+fn has_room(front: &mut Vec<Work>) -> bool
+    ensures { front.new.items ≡ front.old.items }
+{
+    front.capacity() > 0 || front.reserve_exact(1).is_ok()
+}
+
+/// Adds a part behind the others, where there is memory.
+fn is_put(front: &mut Vec<Work>, one: Work) -> bool
+    ensures { IsTrue result → front.new.items ≡ front.old.items ++ one ∷ [] }
+{
+    has_room(front) && front.push(one).is_ok()
+}
+
 /// Takes the last part, if there is one.
 fn last_part(front: &mut Vec<Work>) -> Option<Work>
     ensures { IsLast front.old.items result front.new.items }
@@ -65,7 +80,7 @@ impl Remaining {
     pub(crate) fn is_pushed(&mut self, one: Work) -> bool
         ensures { IsTrue result → self.new ≡ self.old ++ one ∷ [] }
     {
-        self.front.push(one).is_ok()
+        is_put(&mut self.front, one)
     }
 
     /// Takes the first part, if there is one.

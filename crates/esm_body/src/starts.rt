@@ -65,11 +65,12 @@ fn body_work(alloc: Global, items: &[ItemNode]) -> Result<Remaining, Memory>
     Ok(Remaining::of(alloc, statements))
 }
 
-/// The outermost level: without names, and with this work.
+/// The outermost level: without names, and with this work. Most bodies have no other at their awaits, so there is room for
+/// one, and more is taken where a block begins.
 fn outermost(alloc: Global, work: Remaining) -> Result<Vec<Level>, Memory>
     ensures { IfOk result (λ levels. IsOutermost work levels.items) }
 {
-    let mut levels = Vec::new(alloc);
+    let mut levels = Vec::with_capacity(alloc, 1)?;
     let level = Level {
         kind: Kind::Block,
         slots: Slots::none(alloc),
