@@ -49,3 +49,4 @@ pub mod LinkedScopes
 pub mod Starts
 pub mod Counted
 pub mod KeptMap
+pub mod Awaiting

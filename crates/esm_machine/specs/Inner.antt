@@ -11,3 +11,4 @@ pub mod Leads
 pub mod Between
 pub mod HostLaws
 pub mod Stops
+pub mod Awaiting

@@ -1,12 +1,16 @@
 // What is read of the records of modules, by id.
-ghost use Rattle.std.specs.Prelude.{◌≡◌, ◌≤◌, ◌<◌, length, slice_get, true, false};
+ghost use Rattle.std.specs.Prelude.{◌≡◌, ◌≤◌, ◌<◌, List, map, length, slice_get, true, false, Some, OnOk};
 ghost use Rattle.esm_base.specs.declared.limits.TheConstants.{MAX_URLS};
+ghost use Rattle.esm_base.specs.Urls.{Url};
 ghost use Rattle.esm_realm.specs.ById.{entries_at, loaded_at, url_at};
-ghost use Rattle.esm_realm.specs.Sound.{records_of};
+ghost use Rattle.esm_realm.specs.Sound.{RecordParts, records_of};
+ghost use Rattle.esm_loads.specs.Fits.{records_with};
+ghost use Rattle.esm_loads.specs.UrlTable.{Found};
 ghost use Rattle.esm_machine.specs.ModuleStore.{loaded_or};
+ghost use Rattle.esm_machine.specs.Inner.Awaiting.{awaits_of};
 
 use esm_ast::Entries;
-use esm_base::ModuleId;
+use esm_base::{Memory, ModuleId};
 use esm_realm::Realm;
 
 /// How many modules there are.
@@ -38,6 +42,37 @@ pub fn entries_of(realm: &Realm, m: ModuleId) -> &Entries
     ensures { result.now ≡ entries_at (records_of realm.now) m.0 }
 {
     &realm.records[m.0 as usize].entries
+}
+
+/// Whether the body of the module with this place awaits.
+fn awaits_at(realm: &Realm, at: usize) -> bool
+    requires { at < length (records_of realm.now) }
+    ensures { result ≡ (entries_at (records_of realm.now) at).awaits }
+{
+    realm.records[at].entries.awaits()
+}
+
+/// Where a module has arrived, whether its body awaits is noted behind the flags of the others.
+pub fn note_arrived(realm: &Realm, flags: &mut Vec<bool>) -> Result<(), Memory>
+    ensures { (before : List RecordParts) (url : Url) (found : Found)
+        → records_of realm.now ≡ records_with before url found
+        → flags.old.items ≡ map awaits_of before
+        → OnOk result (flags.new.items ≡ map awaits_of (records_of realm.now)) }
+{
+    let at = flags.len();
+    if at >= realm.records.len() {
+        return Ok(());
+    }
+    flags.push(awaits_at(realm, at))?;
+    Ok(())
+}
+
+/// The flag of a module.
+pub fn flag_of(flags: &[bool], m: ModuleId) -> bool
+    requires { m.0 < length flags.now }
+    ensures { slice_get flags.now m.0 ≡ Some result }
+{
+    flags[m.0 as usize]
 }
 
 /// The module that a request has loaded, or the module itself where it has loaded none.

@@ -19,6 +19,7 @@ ghost use Rattle.esm_machine.specs.ModuleStore.{is_whole, seen_of};
 ghost use Rattle.esm_machine.specs.Seen.{names};
 ghost use Rattle.esm_machine.specs.declared.condition.Condition.TheVariants as conditions;
 
+use crate::by_id::note_arrived;
 use crate::condition::{Condition, condition_after};
 use crate::module_store::ModuleStore;
 use esm_ast::Outcome;
@@ -52,12 +53,14 @@ impl ModuleStore {
         esm_loads::laws::stays_whole();
         let realm = Realm::new(alloc);
         let mut loads = Loads::new(alloc);
+        let awaiting = Vec::new(alloc);
         match loads.ask_entry(&realm, entry, promise) {
             Ok(()) => Ok(ModuleStore {
                 realm,
                 loads,
                 import_map,
                 condition: Condition::Whole,
+                awaiting,
             }),
             Err(_end) => Err(Memory),
         }
@@ -147,7 +150,13 @@ impl ModuleStore {
             outcome,
             targets,
         ) {
-            Ok(()) => Ok(()),
+            Ok(()) => match note_arrived(&self.realm, &mut self.awaiting) {
+                Ok(()) => Ok(()),
+                Err(Memory) => {
+                    self.condition = Condition::Lost;
+                    Err(LoadEnd::Memory)
+                }
+            },
             Err(end) => {
                 self.condition = Condition::Lost;
                 Err(end)

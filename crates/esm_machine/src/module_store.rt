@@ -20,7 +20,7 @@ use std::alloc::Global;
 use std::marker::Model;
 use std::sync::Arc;
 
-/// The records of modules, the loads, and the import map.
+/// The records of modules, the loads, the import map, and whether each module awaits.
 ///
 /// The loads fit the records as long as nothing was refused. Where a limit has stopped an `import()` or an answer, what was
 /// linked is there still; where memory ran out, or a limit has stopped the end of a fetch, nothing is.
@@ -30,6 +30,8 @@ pub struct ModuleStore {
     pub(crate) loads: Loads,
     pub(crate) import_map: Arc<ImportMap>,
     pub(crate) condition: Condition,
+    /// Whether the body of each module awaits, in order of ids: evaluation asks so of each module that it comes to.
+    pub(crate) awaiting: Vec<bool>,
 }
 
 impl Model for ModuleStore {
@@ -39,7 +41,7 @@ impl Model for ModuleStore {
     ghost use Rattle.esm_import_map.specs.ImportMap.{maps_code};
     ghost use Rattle.esm_realm.specs.Sound.{records_of};
     ghost use Rattle.esm_machine.specs.ModuleStore.{Imported, imported};
-    ghost use Rattle.esm_machine.specs.Kept.{IsKept};
+    ghost use Rattle.esm_machine.specs.Inner.Awaiting.{IsKeptWith};
 
     ghost Value = { Imported };
 
@@ -47,7 +49,8 @@ impl Model for ModuleStore {
 
     ghost view = { λ i. imported (records_of i.realm) i.loads (arc_value i.import_map) i.condition };
 
-    ghost invariant = { λ i. IsKept (imported (records_of i.realm) i.loads (arc_value i.import_map) i.condition) };
+    ghost invariant = { λ i. IsKeptWith (imported (records_of i.realm) i.loads (arc_value i.import_map) i.condition)
+        i.awaiting.items };
 }
 
 impl ExportGraph for ModuleStore {

@@ -11,7 +11,7 @@ ghost use Rattle.esm_machine.specs.Linking.{KeepsScopes, LinksSeen, NamesRecords
 ghost use Rattle.esm_machine.specs.Seen.{linked, modules, names};
 ghost use Rattle.esm_machine.specs.SeenScopes.{AreScopesIn};
 
-use crate::by_id::{entries_of, loaded_count, loaded_of, record_count};
+use crate::by_id::{flag_of, loaded_count, loaded_of, record_count};
 use crate::condition::condition_unlinked;
 use crate::laws::linking_is_of_the_world;
 use crate::module_store::ModuleStore;
@@ -50,7 +50,7 @@ impl ModuleStore {
         requires { linked (seen_of self.now) m.0 ≡ true }
         ensures { result ≡ (entries (modules (seen_of self.now)) m.0).awaits }
     {
-        entries_of(&self.realm, m).awaits()
+        flag_of(self.awaiting.as_slice(), m)
     }
 
     /// Links a module that is loaded with all that it reaches: it and the Unlinked modules that it reaches have their

@@ -16,14 +16,15 @@ use Rattle.esm_loads.specs.UrlTable.{found}
 use Rattle.esm_machine.proofs.Shows.{goes, loading_is}
 use Rattle.esm_machine.proofs.Began.{kept_whole}
 use Rattle.esm_machine.proofs.Answered.{whole_is}
+use Rattle.esm_machine.proofs.Awaiting.{flags_arrived}
 use Rattle.esm_machine.proofs.Fetched.{refused_fetch, fetch_keeps, fetches_ok, fetches_err, linked_still, urls_more}
 use Rattle.esm_machine.proofs.module_store.ModuleStore.arrive_resolved.Goals as goal
 
 pub arrive_resolved-requires-clause-fits : goal.arrive_resolved-requires-clause-fits
-arrive_resolved-requires-clause-fits c = (goes c.self.inside.condition (records_of c.self.inside.realm) c.self.inside.loads (arc_value c.self.inside.import_map) (subst (λ (i : Imported). is_whole i.condition ≡ true) (sym c.self.view_is) c.requires.whole) c.self.invariant).fits
+arrive_resolved-requires-clause-fits c = (goes c.self.inside.condition (records_of c.self.inside.realm) c.self.inside.loads (arc_value c.self.inside.import_map) (subst (λ (i : Imported). is_whole i.condition ≡ true) (sym c.self.view_is) c.requires.whole) c.self.invariant.kept).fits
 
 pub arrive_resolved-requires-clause-sound : goal.arrive_resolved-requires-clause-sound
-arrive_resolved-requires-clause-sound c = c.self.invariant.sound
+arrive_resolved-requires-clause-sound c = c.self.invariant.kept.sound
 
 pub arrive_resolved-requires-clause-open : goal.arrive_resolved-requires-clause-open
 arrive_resolved-requires-clause-open c =
@@ -42,33 +43,43 @@ arrive_resolved-requires-clause-targets c =
 
 pub invariant_of-self : goal.invariant_of-self
 invariant_of-self c =
-    kept_whole (records_of c.self.inside.realm) (records_of c.arrive_resolved.new.realm) c.self.inside.loads c.arrive_resolved.new.self (arc_value c.self.inside.import_map) c.self.inside.condition (subst (λ (i : Imported). is_whole i.condition ≡ true) (sym c.self.view_is) c.requires.whole) c.self.invariant c.arrive_resolved.ensures.sound
-    (λ k. fetch_keeps (records_of c.self.inside.realm) (records_of c.arrive_resolved.new.realm) c.self.inside.loads c.arrive_resolved.new.self (arc_value c.self.inside.import_map) (λ n. []) no_promises c.args.errors.now c.arrive_resolved.new.errors c.args.url.now (outcome_view c.args.outcome.now) c.stays_orderly.ensures c.stays_whole.ensures k c.in-Ok.ensures.fits c.in-Ok.ensures.loaded
-    (subst (λ (m : Maps). records_of c.arrive_resolved.new.realm ≡ records_with (records_of c.self.inside.realm) c.args.url.now (found m every_form c.args.url.now (outcome_view c.args.outcome.now))) c.deref.ensures c.in-Ok.ensures.records)
-    (subst (λ (m : Maps). host_of (λ n. []) no_promises c.arrive_resolved.new.errors (loading_of m c.arrive_resolved.new.self (records_of c.arrive_resolved.new.realm)) ≡ after_fetch (host_of (λ n. []) no_promises c.args.errors.now (loading_of m c.self.inside.loads (records_of c.self.inside.realm))) c.args.url.now (outcome_view c.args.outcome.now)) c.deref.ensures (c.in-Ok.ensures.arrives (λ n. []) no_promises))
-    (subst (λ l. has (open_asks l) c.args.url.now ≡ true) (loading_is c.self.inside.condition (records_of c.self.inside.realm) c.self.inside.loads (arc_value c.self.inside.import_map) (subst (λ (i : Imported). is_whole i.condition ≡ true) (sym c.self.view_is) c.requires.whole))
-    (subst (λ (i : Imported). has (open_asks (seen_of i).loading) c.args.url.now ≡ true) (sym c.self.view_is) c.requires.«open»)))
+    record {
+      kept =
+          kept_whole (records_of c.self.inside.realm) (records_of c.arrive_resolved.new.realm) c.self.inside.loads c.arrive_resolved.new.self (arc_value c.self.inside.import_map) c.self.inside.condition (subst (λ (i : Imported). is_whole i.condition ≡ true) (sym c.self.view_is) c.requires.whole) c.self.invariant.kept c.arrive_resolved.ensures.sound
+          (λ k. fetch_keeps (records_of c.self.inside.realm) (records_of c.arrive_resolved.new.realm) c.self.inside.loads c.arrive_resolved.new.self (arc_value c.self.inside.import_map) (λ n. []) no_promises c.args.errors.now c.arrive_resolved.new.errors c.args.url.now (outcome_view c.args.outcome.now) c.stays_orderly.ensures c.stays_whole.ensures k c.in-Ok.ensures.fits c.in-Ok.ensures.loaded
+          (subst (λ (m : Maps). records_of c.arrive_resolved.new.realm ≡ records_with (records_of c.self.inside.realm) c.args.url.now (found m every_form c.args.url.now (outcome_view c.args.outcome.now))) c.deref.ensures c.in-Ok.ensures.records)
+          (subst (λ (m : Maps). host_of (λ n. []) no_promises c.arrive_resolved.new.errors (loading_of m c.arrive_resolved.new.self (records_of c.arrive_resolved.new.realm)) ≡ after_fetch (host_of (λ n. []) no_promises c.args.errors.now (loading_of m c.self.inside.loads (records_of c.self.inside.realm))) c.args.url.now (outcome_view c.args.outcome.now)) c.deref.ensures (c.in-Ok.ensures.arrives (λ n. []) no_promises))
+          (subst (λ l. has (open_asks l) c.args.url.now ≡ true) (loading_is c.self.inside.condition (records_of c.self.inside.realm) c.self.inside.loads (arc_value c.self.inside.import_map) (subst (λ (i : Imported). is_whole i.condition ≡ true) (sym c.self.view_is) c.requires.whole))
+          (subst (λ (i : Imported). has (open_asks (seen_of i).loading) c.args.url.now ≡ true) (sym c.self.view_is) c.requires.«open»)));
+      flags =
+          flags_arrived c.self.inside.condition (records_of c.self.inside.realm) (records_of c.arrive_resolved.new.realm) c.self.inside.awaiting.items c.note_arrived.new.flags.items (subst (λ (i : Imported). is_whole i.condition ≡ true) (sym c.self.view_is) c.requires.whole) c.self.invariant.flags
+          (c.in-Ok-note_arrived.ensures (records_of c.self.inside.realm) c.args.url.now (found (arc_value c.self.inside.import_map) every_form c.args.url.now (outcome_view c.args.outcome.now))
+          (subst (λ (m : Maps). records_of c.arrive_resolved.new.realm ≡ records_with (records_of c.self.inside.realm) c.args.url.now (found m every_form c.args.url.now (outcome_view c.args.outcome.now))) c.deref.ensures c.in-Ok.ensures.records));
+    }
 
 pub invariant_of-self-in-Err : goal.invariant_of-self-in-Err
-invariant_of-self-in-Err c = record { sound = c.arrive_resolved.ensures.sound; known = tt }
+invariant_of-self-in-Err c = record { kept = record { sound = c.arrive_resolved.ensures.sound; known = tt }; flags = tt }
 
-pub returns-in-Ok-clause-fetches : goal.returns-in-Ok-clause-fetches
-returns-in-Ok-clause-fetches c named promises =
+pub invariant_of-self-in-Err-note_arrived : goal.invariant_of-self-in-Err-note_arrived
+invariant_of-self-in-Err-note_arrived c = record { kept = record { sound = c.arrive_resolved.ensures.sound; known = tt }; flags = tt }
+
+pub returns-in-Ok-note_arrived-clause-fetches : goal.returns-in-Ok-note_arrived-clause-fetches
+returns-in-Ok-note_arrived-clause-fetches c named promises =
     rw (← c.self.view_is)
     (fetches_ok (records_of c.self.inside.realm) (records_of c.arrive_resolved.new.realm) c.self.inside.loads c.arrive_resolved.new.self (arc_value c.self.inside.import_map) named promises c.args.errors.now c.arrive_resolved.new.errors c.args.url.now (outcome_view c.args.outcome.now) c.self.inside.condition (subst (λ (i : Imported). is_whole i.condition ≡ true) (sym c.self.view_is) c.requires.whole)
     (subst (λ (m : Maps). host_of named promises c.arrive_resolved.new.errors (loading_of m c.arrive_resolved.new.self (records_of c.arrive_resolved.new.realm)) ≡ after_fetch (host_of named promises c.args.errors.now (loading_of m c.self.inside.loads (records_of c.self.inside.realm))) c.args.url.now (outcome_view c.args.outcome.now)) c.deref.ensures (c.in-Ok.ensures.arrives named promises)))
 
-pub returns-in-Ok-clause-urls : goal.returns-in-Ok-clause-urls
-returns-in-Ok-clause-urls c =
+pub returns-in-Ok-note_arrived-clause-urls : goal.returns-in-Ok-note_arrived-clause-urls
+returns-in-Ok-note_arrived-clause-urls c =
     rw (← c.self.view_is) (ap (map url_of) (subst (λ (m : Maps). records_of c.arrive_resolved.new.realm ≡ records_with (records_of c.self.inside.realm) c.args.url.now (found m every_form c.args.url.now (outcome_view c.args.outcome.now))) c.deref.ensures c.in-Ok.ensures.records) ∙ urls_more (records_of c.self.inside.realm) c.args.url.now (found (arc_value c.self.inside.import_map) every_form c.args.url.now (outcome_view c.args.outcome.now)))
 
-pub returns-in-Ok-clause-linked : goal.returns-in-Ok-clause-linked
-returns-in-Ok-clause-linked c =
+pub returns-in-Ok-note_arrived-clause-linked : goal.returns-in-Ok-note_arrived-clause-linked
+returns-in-Ok-note_arrived-clause-linked c =
     rw (← c.self.view_is) (linked_still c.self.inside.condition (records_of c.self.inside.realm) (records_of c.arrive_resolved.new.realm) c.self.inside.loads c.arrive_resolved.new.self (arc_value c.self.inside.import_map) c.args.url.now (found (arc_value c.self.inside.import_map) every_form c.args.url.now (outcome_view c.args.outcome.now)) (subst (λ (i : Imported). is_whole i.condition ≡ true) (sym c.self.view_is) c.requires.whole)
     (subst (λ (m : Maps). records_of c.arrive_resolved.new.realm ≡ records_with (records_of c.self.inside.realm) c.args.url.now (found m every_form c.args.url.now (outcome_view c.args.outcome.now))) c.deref.ensures c.in-Ok.ensures.records))
 
-pub returns-in-Ok-clause-condition : goal.returns-in-Ok-clause-condition
-returns-in-Ok-clause-condition c = whole_is c.self.inside.condition (subst (λ (i : Imported). is_whole i.condition ≡ true) (sym c.self.view_is) c.requires.whole)
+pub returns-in-Ok-note_arrived-clause-condition : goal.returns-in-Ok-note_arrived-clause-condition
+returns-in-Ok-note_arrived-clause-condition c = whole_is c.self.inside.condition (subst (λ (i : Imported). is_whole i.condition ≡ true) (sym c.self.view_is) c.requires.whole)
 
 pub returns-in-Err-clause-fetches : goal.returns-in-Err-clause-fetches
 returns-in-Err-clause-fetches c named promises =

@@ -11,5 +11,5 @@ pub returns : goal.returns
 returns c known =
     let whole : is_whole c.self.inside.condition ≡ true = subst (λ (i : Imported). is_whole i.condition ≡ true) (sym c.self.view_is) known in
     let u = c.args.url.now in
-    c.is_open.ensures (arc_value c.self.inside.import_map) (records_of c.self.inside.realm) (goes c.self.inside.condition (records_of c.self.inside.realm) c.self.inside.loads (arc_value c.self.inside.import_map) whole c.self.invariant).fits
+    c.is_open.ensures (arc_value c.self.inside.import_map) (records_of c.self.inside.realm) (goes c.self.inside.condition (records_of c.self.inside.realm) c.self.inside.loads (arc_value c.self.inside.import_map) whole c.self.invariant.kept).fits
     ∙ (sym (ap (λ l. has (open_asks l) u) (loading_is c.self.inside.condition (records_of c.self.inside.realm) c.self.inside.loads (arc_value c.self.inside.import_map) whole)) ∙ ap (λ (i : Imported). has (open_asks (seen_of i).loading) u) c.self.view_is)

@@ -4,4 +4,4 @@ use Rattle.esm_machine.specs.Kept.{IsKept}
 use Rattle.esm_machine.proofs.module_store.ModuleStore.known.Goals as goal
 
 pub returns : goal.returns
-returns c = subst (λ (i : Imported). IsKept i) c.self.view_is c.self.invariant
+returns c = subst (λ (i : Imported). IsKept i) c.self.view_is c.self.invariant.kept

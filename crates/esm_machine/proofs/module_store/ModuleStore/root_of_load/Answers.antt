@@ -14,16 +14,16 @@ use Rattle.esm_machine.proofs.module_store.ModuleStore.root_of_load.Goals as goa
 pub returns-clause-root : goal.returns-clause-root
 returns-clause-root c =
     let whole : is_whole c.self.inside.condition ≡ true = subst (λ (i : Imported). is_whole i.condition ≡ true) (sym c.self.view_is) c.requires.whole in
-    let k : GoesOn (imported (records_of c.self.inside.realm) c.self.inside.loads (arc_value c.self.inside.import_map) conditions.Whole) = goes c.self.inside.condition (records_of c.self.inside.realm) c.self.inside.loads (arc_value c.self.inside.import_map) whole c.self.invariant in
+    let k : GoesOn (imported (records_of c.self.inside.realm) c.self.inside.loads (arc_value c.self.inside.import_map) conditions.Whole) = goes c.self.inside.condition (records_of c.self.inside.realm) c.self.inside.loads (arc_value c.self.inside.import_map) whole c.self.invariant.kept in
     subst (λ (i : Imported). root_of_load (seen_of i).loading c.args.load ≡ option_map (λ m. (names (seen_of i)).name m.0) c.root_of_load.result) c.self.view_is
     (ap (λ l. root_of_load l c.args.load) (loading_is c.self.inside.condition (records_of c.self.inside.realm) c.self.inside.loads (arc_value c.self.inside.import_map) whole)
     ∙ (c.root_of_load.ensures.root (arc_value c.self.inside.import_map) (records_of c.self.inside.realm) k.fits k.whole
-    ∙ root_named (records_of c.self.inside.realm) c.self.invariant.sound c.root_of_load.result (c.root_of_load.ensures.loaded (arc_value c.self.inside.import_map) (records_of c.self.inside.realm) k.fits k.whole)))
+    ∙ root_named (records_of c.self.inside.realm) c.self.invariant.kept.sound c.root_of_load.result (c.root_of_load.ensures.loaded (arc_value c.self.inside.import_map) (records_of c.self.inside.realm) k.fits k.whole)))
 
 pub returns-clause-loaded : goal.returns-clause-loaded
 returns-clause-loaded c =
     let whole : is_whole c.self.inside.condition ≡ true = subst (λ (i : Imported). is_whole i.condition ≡ true) (sym c.self.view_is) c.requires.whole in
-    let k : GoesOn (imported (records_of c.self.inside.realm) c.self.inside.loads (arc_value c.self.inside.import_map) conditions.Whole) = goes c.self.inside.condition (records_of c.self.inside.realm) c.self.inside.loads (arc_value c.self.inside.import_map) whole c.self.invariant in
+    let k : GoesOn (imported (records_of c.self.inside.realm) c.self.inside.loads (arc_value c.self.inside.import_map) conditions.Whole) = goes c.self.inside.condition (records_of c.self.inside.realm) c.self.inside.loads (arc_value c.self.inside.import_map) whole c.self.invariant.kept in
     subst (λ (i : Imported). IfSome c.root_of_load.result (λ m. (seen_of i).loading.unlinked ((names (seen_of i)).name m.0) ≡ true)) c.self.view_is
-    (root_loaded c.self.inside.condition (records_of c.self.inside.realm) c.self.inside.loads (arc_value c.self.inside.import_map) whole c.self.invariant c.root_of_load.result
+    (root_loaded c.self.inside.condition (records_of c.self.inside.realm) c.self.inside.loads (arc_value c.self.inside.import_map) whole c.self.invariant.kept c.root_of_load.result
     (c.root_of_load.ensures.loaded (arc_value c.self.inside.import_map) (records_of c.self.inside.realm) k.fits k.whole))

@@ -17,4 +17,4 @@ pub returns : goal.returns
 returns c =
     let v : Imported = imported (records_of c.self.inside.realm) c.self.inside.loads (arc_value c.self.inside.import_map) c.self.inside.condition in
     let l : linked (seen_of v) c.args.m.0 ≡ true = subst (λ (i : Imported). linked (seen_of i) c.args.m.0 ≡ true) (sym c.self.view_is) c.requires in
-    c.loaded_count.ensures ∙ loaded_read v c.self.invariant c.args.m.0 l ∙ count_read v c.self.invariant c.args.m.0 l ∙ ap (λ (i : Imported). length (targets (modules (seen_of i)) c.args.m.0)) c.self.view_is
+    c.loaded_count.ensures ∙ loaded_read v c.self.invariant.kept c.args.m.0 l ∙ count_read v c.self.invariant.kept c.args.m.0 l ∙ ap (λ (i : Imported). length (targets (modules (seen_of i)) c.args.m.0)) c.self.view_is

@@ -17,6 +17,6 @@ pub returns : goal.returns
 returns c =
     let v : Imported = imported (records_of c.self.inside.realm) c.self.inside.loads (arc_value c.self.inside.import_map) c.self.inside.condition in
     let l : linked (seen_of v) c.args.m.0 ≡ true = subst (λ (i : Imported). linked (seen_of i) c.args.m.0 ≡ true) (sym c.self.view_is) c.requires.linked in
-    let read = target_read v c.self.invariant c.args.m.0 l c.args.i (subst (λ (i : Imported). c.args.i < length (targets (modules (seen_of i)) c.args.m.0)) (sym c.self.view_is) c.requires.within) in
+    let read = target_read v c.self.invariant.kept c.args.m.0 l c.args.i (subst (λ (i : Imported). c.args.i < length (targets (modules (seen_of i)) c.args.m.0)) (sym c.self.view_is) c.requires.within) in
     subst (λ (i : Imported). slice_get (targets (modules (seen_of i)) c.args.m.0) c.args.i ≡ Some c.loaded_of.result.0) c.self.view_is
     (read ∙ ap (λ n. Some n) (sym c.loaded_of.ensures))

@@ -13,5 +13,5 @@ pub returns : goal.returns
 returns c =
     let v : Imported = imported (records_of c.self.inside.realm) c.self.inside.loads (arc_value c.self.inside.import_map) c.self.inside.condition in
     c.entries_of.ensures
-    ∙ (c.records_show.ensures.entries_are v c.args.m.0 c.self.invariant (subst (λ (i : Imported). c.args.m.0 < (graph_of i).size) (sym c.self.view_is) c.requires)
+    ∙ (c.records_show.ensures.entries_are v c.args.m.0 c.self.invariant.kept (subst (λ (i : Imported). c.args.m.0 < (graph_of i).size) (sym c.self.view_is) c.requires)
     ∙ ap (λ (i : Imported). (graph_of i).entries c.args.m.0) c.self.view_is)

@@ -15,6 +15,6 @@ returns c =
     let m = c.args.m.0 in
     let i = c.args.request in
     c.loaded_of.ensures
-    ∙ (c.records_show.ensures.targets_are v m i c.self.invariant (subst (λ (x : Imported). m < (graph_of x).size) (sym c.self.view_is) c.requires.«module»)
+    ∙ (c.records_show.ensures.targets_are v m i c.self.invariant.kept (subst (λ (x : Imported). m < (graph_of x).size) (sym c.self.view_is) c.requires.«module»)
     (subst (λ (x : Imported). i < length ((graph_of x).entries m).requests) (sym c.self.view_is) c.requires.request)
     ∙ ap (λ (x : Imported). (graph_of x).target m i) c.self.view_is)

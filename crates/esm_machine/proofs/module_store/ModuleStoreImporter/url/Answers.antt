@@ -7,4 +7,4 @@ use Rattle.esm_machine.proofs.module_store.ModuleStoreImporter.url.Goals as goal
 pub returns : goal.returns
 returns c =
     let v : Imported = imported (records_of c.self.inside.realm) c.self.inside.loads (arc_value c.self.inside.import_map) c.self.inside.condition in
-    c.url_of.ensures ∙ (c.records_show.ensures.urls_are v c.args.m.0 c.self.invariant ∙ ap (λ (i : Imported). urls_by_id i c.args.m.0) c.self.view_is)
+    c.url_of.ensures ∙ (c.records_show.ensures.urls_are v c.args.m.0 c.self.invariant.kept ∙ ap (λ (i : Imported). urls_by_id i c.args.m.0) c.self.view_is)
