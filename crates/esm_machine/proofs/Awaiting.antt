@@ -1,7 +1,7 @@
 -- Flags of modules whose bodies await: what is read of them, and what keeps them right.
-use Rattle.std.proofs.Common.{◌≡◌, ℕ, zero, suc, ◌<◌, Bool, true, List, [], ◌∷◌, ◌++◌, map, length, Option, Some, refl, ap, subst, sym, ◌∙◌, arith}
+use Rattle.std.proofs.Common.{◌≡◌, ℕ, zero, suc, ◌<◌, Bool, true, List, [], ◌∷◌, ◌++◌, map, length, Some, refl, ap, subst, sym, ◌∙◌, arith}
 use Rattle.std.specs.Prelude.{slice_get, option_map}
-use Rattle.std.proofs.lemmas.List.{length-map, length_push, map-append}
+use Rattle.std.proofs.lemmas.List.{length-map, map-append}
 use Rattle.esm_base.specs.Urls.{Url}
 use Rattle.esm_ast.specs.Entries.{EntryLists, entries_of}
 use Rattle.esm_tree.specs.Syntax.{Parts}

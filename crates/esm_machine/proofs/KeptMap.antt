@@ -1,5 +1,5 @@
 -- The import map of a machine stays as it was.
-use Rattle.std.proofs.Common.{◌≡◌, List, [], ◌∷◌, None, ap, sym, subst, ◌∙◌}
+use Rattle.std.proofs.Common.{◌≡◌, List, [], ◌∷◌, ap, sym, subst, ◌∙◌}
 use Rattle.esm_ast.specs.Deliveries.{Delivery}
 use Rattle.esm_import_map.specs.ImportMap.{Maps}
 use Rattle.esm_world.specs.World.{World}
