@@ -26,7 +26,8 @@ use std::sync::{Arc, Wait};
 /// How many URLs are asked of the map and not delivered, at the most.
 pub(crate) const WINDOW: usize = 32;
 
-/// Behind how many of them nothing more is asked: workers are woken for a quarter of a window at once, not for each URL.
+/// Behind how many of them nothing more is asked: where many are open, workers are woken for a quarter of a window or more
+/// at once, not for each URL.
 const REFILL: usize = 24;
 
 /// An open ask of the machine that the map was asked for, and its number there. Its place in the machine's table of URLs
