@@ -7,7 +7,7 @@ use Rattle.esm_base.specs.Urls.{Url, same_url}
 use Rattle.esm_realm.specs.Sound.{RecordParts}
 use Rattle.esm_realm.proofs.Urls.{own_text}
 use Rattle.esm_loads.specs.LoadsView.{urls_of, url_of_slot, place_in, place_by, before_linking}
-use Rattle.esm_loads.specs.Inner.Urls.{UrlsView, open_slot}
+use Rattle.esm_loads.specs.Inner.Urls.{UrlsView}
 use Rattle.esm_loads.specs.Inner.Filling.{Fills}
 use Rattle.esm_loads.specs.Inner.Steps.{Grown, place_or, with_asked}
 use Rattle.esm_loads.specs.Inner.Targets.{AreKnown, IsKept, IsOneMore, IsTargetOf, KnowTargets, all_targets, record_targets, with_place, with_place_by}

@@ -78,10 +78,10 @@ impl Model for AskedUrls {
     ghost use Rattle.esm_loads.specs.Inner.UrlIndex.{AreIndexed};
 
     ghost view = { λ t. record {
-        slots = t.slots.items;
-        bytes = t.bytes;
-        starts = t.targets.starts.items;
-        places = t.targets.places.items
+      slots = t.slots.items;
+      bytes = t.bytes;
+      starts = t.targets.starts.items;
+      places = t.targets.places.items;
     } };
 
     ghost invariant = { λ t. AreIndexed t.urls t.slots.items t.asks t.bytes };
@@ -203,8 +203,8 @@ impl AskedUrls {
     /// One module more, with so many requests, of which no place is known.
     pub fn add_module(&mut self, requests: usize) -> Result<(), Memory>
         ensures { OnOk result (self.new ≡ record self.old {
-            starts = self.old.starts ++ length self.old.places ∷ [];
-            places = self.old.places ++ replicate requests MAX_URLS;
+          starts = self.old.starts ++ length self.old.places ∷ [];
+          places = self.old.places ++ replicate requests MAX_URLS;
         }) }
     {
         self.targets.begin(requests)?;
@@ -214,7 +214,7 @@ impl AskedUrls {
     /// Keeps the place of the target of a request of a module.
     pub fn keep(&mut self, id: ModuleId, request: usize, place: usize)
         ensures { self.new ≡ record self.old {
-            places = with_place self.old.starts self.old.places id.0 request place;
+          places = with_place self.old.starts self.old.places id.0 request place;
         } }
     {
         self.targets.keep(id, request, place);

@@ -15,12 +15,7 @@ use esm_base::{ModuleId, Text};
 use esm_realm::{ModuleStatus, Realm};
 
 // The module under the target of a request.
-fn module_under(
-    urls: &AskedUrls,
-    id: ModuleId,
-    request: usize,
-    target: &Text,
-) -> Option<ModuleId>
+fn module_under(urls: &AskedUrls, id: ModuleId, request: usize, target: &Text) -> Option<ModuleId>
     requires { (place : ℕ) → IsKept urls.now.starts urls.now.places id.0 request place
         → place_in (urls_of urls.now.slots) target.now ≡ Some place }
     ensures some { IfSome result (λ m. id_under urls.now.slots target.now ≡ Some m.0) }

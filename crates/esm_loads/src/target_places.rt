@@ -54,7 +54,8 @@ impl TargetPlaces {
 
     // Where the place of a request stands in the list.
     fn index(&self, id: ModuleId, request: usize) -> Option<usize>
-        ensures some { IfSome result (IsIndex self.now.starts.items self.now.places.items id.0 request) }
+        ensures some { IfSome result
+            (IsIndex self.now.starts.items self.now.places.items id.0 request) }
         ensures none { result ≡ None → (first : ℕ)
             → slice_get self.now.starts.items id.0 ≡ Some first
             → length self.now.places.items ≤ first + request }
@@ -81,11 +82,7 @@ impl TargetPlaces {
         match self.index(id, request) {
             Some(at) => {
                 let place = self.places[at];
-                if place < MAX_URLS {
-                    Some(place)
-                } else {
-                    None
-                }
+                if place < MAX_URLS { Some(place) } else { None }
             }
             None => None,
         }

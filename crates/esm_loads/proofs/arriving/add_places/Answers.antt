@@ -1,5 +1,5 @@
 -- A record more has places for its requests.
-use Rattle.std.proofs.Common.{◌≡◌, ◌<◌, ◌∙◌, ap, arith, length, subst, sym}
+use Rattle.std.proofs.Common.{◌<◌, ◌∙◌, ap, arith, length, subst, sym}
 use Rattle.std.specs.Prelude.{slice_get}
 use Rattle.esm_realm.specs.Sound.{parts_of, records_of}
 use Rattle.esm_loads.specs.LoadsView.{urls_of}
