@@ -21,7 +21,7 @@ use Rattle.esm_loads.specs.LoadsView.{urls_of, url_at, place_in, get_by, is_open
 use Rattle.esm_loads.specs.LoadsAsLoading.{loading_of, trees_of}
 use Rattle.esm_loads.specs.Fits.{AreJoined, HaveRecords, IsModuleAt, IsLoadWithin, IsStageWithin}
 use Rattle.esm_loads.specs.Inner.Urls.{open_slot}
-use Rattle.esm_loads.specs.Inner.Steps.{Grown, IsLoading, freshness, fresh_below, is_open_stage, set_load, add_waiting, with_asked, with_places, target_at, target_of, target_by}
+use Rattle.esm_loads.specs.Inner.Steps.{Grown, IsLoading, freshness, fresh_below, is_open_stage, set_load, add_waiting, place_or, with_asked, with_places, target_at, target_of, target_by}
 use Rattle.esm_loads.specs.declared.data.Slot.{Slot}
 use Rattle.esm_loads.specs.declared.data.UrlState.{UrlState}
 use Rattle.esm_loads.specs.declared.data.UrlState.TheVariants as states
@@ -276,6 +276,14 @@ asked_full maps R t u a limit place is full =
 pub found_within : (ss : List Slot) (u : Url) (at : Option ℕ) → at ≡ place_in (urls_of ss) u → (n : ℕ) → n ≡ length ss → IfSome at (λ k. k < n)
 found_within ss u None e n f = tt
 found_within ss u (Some k) e n f = let l = (place_some (urls_of ss) u k (sym e)).within in omega (arith, l, urls_many ss, f)
+
+pub place_few : (t : Loads) (n k : ℕ) (u : Url) → AreJoined t n → place_in (urls_of t.urls.slots) u ≡ Some k → k < 4096
+place_few t n k u j e = let l = (place_some (urls_of t.urls.slots) u k e).within in omega (arith, l, urls_many t.urls.slots, j.few)
+
+-- the place of a URL that is asked for
+pub asked_few : (t : Loads) (n k : ℕ) (u : Url) (at : Option ℕ) → AreJoined t n → at ≡ place_in (urls_of t.urls.slots) u → (at ≡ None → length t.urls.slots < 4096) → k ≡ place_or t at → k < 4096
+asked_few t n k u None j e room is = let l = room refl in omega (arith, l, is)
+asked_few t n k u (Some p) j e room is = let l = place_few t n p u j (sym e) in omega (arith, l, is)
 
 pub place_own : (t : Loads) (n k : ℕ) → AreJoined t n → k < length t.urls.slots → Some k ≡ place_in (urls_of t.urls.slots) (url_at (urls_of t.urls.slots) k)
 place_own t n k j l =

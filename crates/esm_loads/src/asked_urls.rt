@@ -213,6 +213,7 @@ impl AskedUrls {
 
     /// Keeps the place of the target of a request of a module.
     pub fn keep(&mut self, id: ModuleId, request: usize, place: usize)
+        requires { place < MAX_URLS }
         ensures { self.new ≡ record self.old {
           places = with_place self.old.starts self.old.places id.0 request place;
         } }

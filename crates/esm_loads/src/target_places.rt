@@ -1,5 +1,5 @@
 // Where the targets of requests stand among the asked URLs.
-ghost use Rattle.std.specs.Prelude.{◌≡◌, ◌≤◌, ◌+◌, ◌++◌, ℕ, [], ◌∷◌, length, replicate, slice_get, None, Some, IfSome, OnOk};
+ghost use Rattle.std.specs.Prelude.{◌≡◌, ◌≤◌, ◌<◌, ◌+◌, ◌++◌, ℕ, [], ◌∷◌, length, replicate, slice_get, None, Some, IfSome, OnOk};
 ghost use Rattle.esm_base.specs.declared.limits.TheConstants.{MAX_URLS};
 ghost use Rattle.esm_loads.specs.Inner.Targets.{IsIndex, IsKept, with_place};
 
@@ -11,18 +11,21 @@ use std::alloc::Global;
 #[derive(Drop)]
 pub struct TargetPlaces {
     /// For each module, by its id, where the places of its requests begin.
-    pub starts: Vec<usize>,
-    /// The places, module by module. One that isn't known is `MAX_URLS`, where no URL stands.
-    pub places: Vec<usize>,
+    pub starts: Vec<u32>,
+    /// The places, module by module, with `UNKNOWN` for each that isn't known.
+    pub places: Vec<u32>,
 }
 
+// No URL has this place.
+const UNKNOWN: u32 = MAX_URLS as u32;
+
 // So many places more, none of which is known.
-fn add_unknown(places: &mut Vec<usize>, many: usize) -> Result<(), Memory>
+fn add_unknown(places: &mut Vec<u32>, many: usize) -> Result<(), Memory>
     ensures { OnOk result (places.new.items ≡ places.old.items ++ replicate many MAX_URLS) }
 {
     for added in 0..many {
         let _ = added;
-        places.push(MAX_URLS)?;
+        places.push(UNKNOWN)?;
     }
     Ok(())
 }
@@ -46,7 +49,9 @@ impl TargetPlaces {
         ensures places { OnOk result (self.new.places.items
             ≡ self.old.places.items ++ replicate requests MAX_URLS) }
     {
-        let first = self.places.len();
+        let Ok(first) = u32::try_from(self.places.len()) else {
+            return Err(Memory);
+        };
         self.starts.push(first)?;
         add_unknown(&mut self.places, requests)?;
         Ok(())
@@ -64,7 +69,7 @@ impl TargetPlaces {
         if module >= self.starts.len() {
             return None;
         }
-        let first = self.starts[module];
+        let first = self.starts[module] as usize;
         let many = self.places.len();
         if first >= many {
             return None;
@@ -82,7 +87,11 @@ impl TargetPlaces {
         match self.index(id, request) {
             Some(at) => {
                 let place = self.places[at];
-                if place < MAX_URLS { Some(place) } else { None }
+                if place < UNKNOWN {
+                    Some(place as usize)
+                } else {
+                    None
+                }
             }
             None => None,
         }
@@ -90,12 +99,13 @@ impl TargetPlaces {
 
     /// Keeps the place of the target of a request.
     pub fn keep(&mut self, id: ModuleId, request: usize, place: usize)
+        requires { place < MAX_URLS }
         ensures starts { self.new.starts ≡ self.old.starts }
         ensures places { self.new.places.items
             ≡ with_place self.old.starts.items self.old.places.items id.0 request place }
     {
         match self.index(id, request) {
-            Some(at) => self.places[at] = place,
+            Some(at) => self.places[at] = place as u32,
             None => {}
         }
     }

@@ -181,6 +181,15 @@ returns-in-Err-enter-clause-limit t c maps limit e =
     let end = stopped_by (loading_of maps c.enter.new.loads R) limit in
     h.completes maps end (steps.loaded_stops (loading_of maps l R) s x c.as_slice-targets.result.now c.loop-request.request u target _ (tables.open_is maps R l s b.load b.at b.root b.open_is) end limit stood.0 stood.1 stood.2 (subst (λ u. Enters (loading_of maps l R) s u end) stood.4 (c.in-Err-enter.ensures.limit maps limit e)) refl)
 
+pub keep-requires : goal.keep-requires
+keep-requires t c = facts.asked_few c.loop-request.loads (length (records_of c.args.realm.now)) c.in-Ok-ask.asked c.index-targets-request.result c.find_target-at.result c.loop-request.invariant.joined c.find_target-at.ensures c.in-Ok-ask.ensures.room c.in-Ok-ask.ensures.place
+
+pub keep-requires-in-Ok-enter : goal.keep-requires-in-Ok-enter
+keep-requires-in-Ok-enter t c =
+    let l = c.loop-request.loads in
+    let stands = sym c.find_target-at.ensures ∙ facts.found_at l.urls.slots c.find_target-at.result c.in-Module.found c.in-Module.module (sym c.in-Module.is ∙ c.target_state.ensures) in
+    facts.place_few l (length (records_of c.args.realm.now)) c.in-Module.found c.index-targets-request.result c.loop-request.invariant.joined stands
+
 pub loop-request-preserved : goal.loop-request-preserved
 loop-request-preserved t c =
     let f = c.args.loads.now in
