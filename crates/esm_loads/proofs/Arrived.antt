@@ -32,6 +32,8 @@ use Rattle.esm_loads.specs.Fits.{FitRecords, HaveRecords, HasRecord, IsModuleAt,
 use Rattle.esm_loads.specs.Hosted.{host_of}
 use Rattle.esm_loads.specs.Inner.Arriving.{Filled, Stores, stores, IsOpenSlot, NonePending, settled}
 use Rattle.esm_loads.specs.Inner.Arriving.Filled.{AsModule, AsBroken, AsFailed}
+use Rattle.esm_loads.specs.Inner.Targets.{AreKnown, IsOneMore, KnowTargets, all_targets}
+use Rattle.esm_loads.specs.Inner.Urls.{UrlsView}
 use Rattle.esm_loads.specs.declared.data.Slot.{Slot}
 use Rattle.esm_loads.specs.declared.data.UrlState.{UrlState}
 use Rattle.esm_loads.specs.declared.data.UrlState.TheVariants as states
@@ -209,7 +211,7 @@ module _ (t : Loads) (R : List RecordParts) (k : ℕ) (url : Url) (fit : FitReco
 
 -- ---- all together
 
-module _ (maps : Maps) (t : Loads) (R R' : List RecordParts) (k : ℕ) (url : Url) (c : OutcomeView) (state : UrlState) (errors made : Errors) (ts : Vec (Arc Parts Global))
+module _ (maps : Maps) (t : Loads) (R R' : List RecordParts) (k : ℕ) (url : Url) (c : OutcomeView) (state : UrlState) (errors made : Errors) (ts : Vec (Arc Parts Global)) (starts places : List ℕ)
     (fit : FitRecords t R) (at : IsOpenSlot t.urls.slots k url) (none : NonePending t) (f : Filled maps url c (stores (trees_of t) R errors) (stores (map tree_items ts.items) R' made) state) where
   abbrev put : Slot
   put = record at.slot { state = state }
@@ -218,7 +220,7 @@ module _ (maps : Maps) (t : Loads) (R R' : List RecordParts) (k : ℕ) (url : Ur
   slots = slice_set t.urls.slots k put
 
   abbrev now : Loads
-  now = settled (record t { trees = ts }) k put
+  now = settled (record t { trees = ts; urls = record t.urls { starts = starts; places = places } }) k put
 
   abbrev old_stores : Stores
   old_stores = stores (trees_of t) R errors
@@ -287,8 +289,8 @@ module _ (maps : Maps) (t : Loads) (R R' : List RecordParts) (k : ℕ) (url : Ur
       known id r (inl e) = let h = fit.matching.known id r e in (h.0, record { slot = h.1.slot; at = kept_slot h.0 h.1.slot h.1.at (ap is_open h.1.stands); stands = h.1.stands })
       known id r (inr st) = (k, record { slot = put; at = set_get t.urls.slots k at.slot put at.at; stands = st })
 
-  pub stored_fits : HaveTexts (map tree_items ts.items) → FitRecords now R'
-  stored_fits spelled = record {
+  pub stored_fits : HaveTexts (map tree_items ts.items) → AreKnown (urls_of t.urls.slots) starts places (all_targets R') → FitRecords now R'
+  stored_fits spelled known = record {
     joined = record {
       distinct = subst AreDistinct (sym same_urls) fit.joined.distinct;
       usable = subst (All IsUsable) (sym same_urls) fit.joined.usable;
@@ -300,6 +302,7 @@ module _ (maps : Maps) (t : Loads) (R R' : List RecordParts) (k : ℕ) (url : Ur
       last = λ j s q g h closed apart. by j s q h closed apart (slot_at j s g);
     };
     matching = matching spelled;
+    known = subst (λ us. AreKnown us starts places (all_targets R')) (sym same_urls) known;
     purposes = fit.purposes;
     few_calls = fit.few_calls;
   }
@@ -310,6 +313,21 @@ module _ (maps : Maps) (t : Loads) (R R' : List RecordParts) (k : ℕ) (url : Ur
       by : (j : ℕ) (s : Slot) (q : List Waiting) → slice_get t.queues.queues j ≡ Some q → is_open s.state ≡ false → (j ≡ k → ⊥) → ((j ≡ k) × (s ≡ put)) ⊎ ((j ≡ k → ⊥) × (slice_get t.urls.slots j ≡ Some s)) → q ≡ []
       by j s q h closed apart (inl e) = absurd (apart e.0)
       by j s q h closed apart (inr e) = none j s q e.1 h closed
+
+-- what is settled beside new places
+pub settled_is : (t : Loads) (v : UrlsView) (new : Loads) (k : ℕ) (slot : Slot) (state : UrlState) → v ≡ record t.urls { starts = v.starts; places = v.places } → slice_get t.urls.slots k ≡ Some slot
+    → ((s : Slot) → slice_get v.slots k ≡ Some s → new ≡ settled (record t { urls = v }) k (record s { state = state })) → new ≡ settled (record t { urls = record t.urls { starts = v.starts; places = v.places } }) k (record slot { state = state })
+settled_is t v new k slot state rest at told =
+    told slot (ap (λ (v : UrlsView). slice_get v.slots k) rest ∙ at) ∙ ap (λ v. settled (record t { urls = v }) k (record slot { state = state })) rest
+
+pub known_stays : (old new : UrlsView) (R : List RecordParts) → new ≡ record old { starts = new.starts; places = new.places } → KnowTargets new R → AreKnown (urls_of old.slots) new.starts new.places (all_targets R)
+known_stays old new R rest h = subst (λ us. AreKnown us new.starts new.places (all_targets R)) (ap (λ (v : UrlsView). urls_of v.slots) rest) h
+
+-- there is no record more, or one
+pub filled_one : (maps : Maps) (url : Url) (c : OutcomeView) (old new : Stores) (state : UrlState) → Filled maps url c old new state → IsOneMore old.records new.records
+filled_one maps url c old new _ (AsModule tree targets e x r g) = inr (_, r)
+filled_one maps url c old new _ (AsBroken thrown e x r g) = inl r
+filled_one maps url c old new _ (AsFailed e x r g) = inl r
 
 -- ---- no fetched URL has a pending request
 
@@ -357,6 +375,7 @@ counted_fits t b R f = record {
     last = f.joined.last;
   };
   matching = f.matching;
+  known = f.known;
   purposes = f.purposes;
   few_calls = f.few_calls;
 }

@@ -7,6 +7,7 @@ use Rattle.std.proofs.lemmas.Option.{slice_get_within}
 use Rattle.esm_tree.specs.Syntax.{Item}
 use Rattle.esm_base.specs.Urls.{Url, IsUsable}
 use Rattle.esm_base.specs.declared.limits.Limit.{Limit}
+use Rattle.esm_base.specs.declared.module_id.ModuleId.{ModuleId}
 use Rattle.esm_base.specs.declared.limits.Limit.TheVariants.{L1}
 use Rattle.esm_realm.specs.Sound.{RecordParts, IsSound, IsSoundRecord, parts_of, records_of}
 use Rattle.esm_realm.specs.declared.record.Record.{Record}
@@ -20,7 +21,7 @@ use Rattle.esm_loads.specs.LoadsView.{urls_of, url_at, place_in, get_by, is_open
 use Rattle.esm_loads.specs.LoadsAsLoading.{loading_of, trees_of}
 use Rattle.esm_loads.specs.Fits.{AreJoined, HaveRecords, IsModuleAt, IsLoadWithin, IsStageWithin}
 use Rattle.esm_loads.specs.Inner.Urls.{open_slot}
-use Rattle.esm_loads.specs.Inner.Steps.{Grown, IsLoading, freshness, fresh_below, is_open_stage, set_load, add_waiting, with_asked, target_at, target_of, target_by}
+use Rattle.esm_loads.specs.Inner.Steps.{Grown, IsLoading, freshness, fresh_below, is_open_stage, set_load, add_waiting, place_or, with_asked, with_places, target_at, target_of, target_by}
 use Rattle.esm_loads.specs.declared.data.Slot.{Slot}
 use Rattle.esm_loads.specs.declared.data.UrlState.{UrlState}
 use Rattle.esm_loads.specs.declared.data.UrlState.TheVariants as states
@@ -110,6 +111,17 @@ grown_load n s t l m at f = record {
 pub grown_same : (n s : ℕ) (t : Loads) → Grown n s t t
 grown_same n s t = record { more = []; slots = sym (nothing t.urls.slots); fetching = λ k d l. absurd (omega arith); rest = refl; bytes = refl; loads = refl; fresh = omega arith }
 
+pub grown_placed : (n s : ℕ) (t new : Loads) (places : List ℕ) → Grown n s t new → Grown n s t (with_places new places)
+grown_placed n s t new places g = record {
+  more = g.more;
+  slots = g.slots;
+  fetching = g.fetching;
+  rest = ap (λ (l : Loads). with_places l places) g.rest;
+  bytes = g.bytes;
+  loads = g.loads;
+  fresh = g.fresh;
+}
+
 pub grown_ask : (n s : ℕ) (t : Loads) (u : Url) (at : Option ℕ) (k : ℕ) (w : Waiting) → Grown n s t (add_waiting (with_asked t u at) k w)
 grown_ask n s t u (Some p) k w = record { more = []; slots = sym (nothing t.urls.slots); fetching = λ k d l. absurd (omega arith); rest = refl; bytes = refl; loads = refl; fresh = omega arith }
 grown_ask n s t u None k w = record {
@@ -158,6 +170,21 @@ told trees R ss u (Some k) r h e f = subst (Tells trees R ss u) (sym f) (by (get
 
     by : (s : Slot) × (slice_get ss k ≡ Some s) → Tells trees R ss u (target_at ss (Some k))
     by s = subst (λ o. Tells trees R ss u (target_by k o)) (sym s.1) (stand_by s.0.state s.0 s.1 refl (ap (λ o. entry_by trees R (get_by ss o)) (sym e) ∙ ap (entry_by trees R) s.1))
+
+-- a module stands at the place that was looked at
+pub found_at : (ss : List Slot) (at : Option ℕ) (k : ℕ) (id : ModuleId) → target_states.Module k id ≡ target_at ss at → at ≡ Some k
+found_at ss None k id e = cc
+found_at ss (Some j) k id e = by_slot (slice_get ss j) e
+  where
+    by : (state : UrlState) → target_states.Module k id ≡ target_of j state → Some j ≡ Some k
+    by states.Open e = cc
+    by states.Failed e = cc
+    by (states.Broken error) e = cc
+    by (states.Module n) e = cc
+
+    by_slot : (o : Option Slot) → target_states.Module k id ≡ target_by j o → Some j ≡ Some k
+    by_slot None e = cc
+    by_slot (Some s) e = by s.state e
 
 -- a place that isn't fetched has no entry
 pub open_target : (ss : List Slot) (k : ℕ) (s : Slot) → target_at ss (Some k) ≡ target_states.Fetching → slice_get ss k ≡ Some s → is_open s.state ≡ true
@@ -249,6 +276,14 @@ asked_full maps R t u a limit place is full =
 pub found_within : (ss : List Slot) (u : Url) (at : Option ℕ) → at ≡ place_in (urls_of ss) u → (n : ℕ) → n ≡ length ss → IfSome at (λ k. k < n)
 found_within ss u None e n f = tt
 found_within ss u (Some k) e n f = let l = (place_some (urls_of ss) u k (sym e)).within in omega (arith, l, urls_many ss, f)
+
+pub place_few : (t : Loads) (n k : ℕ) (u : Url) → AreJoined t n → place_in (urls_of t.urls.slots) u ≡ Some k → k < 4096
+place_few t n k u j e = let l = (place_some (urls_of t.urls.slots) u k e).within in omega (arith, l, urls_many t.urls.slots, j.few)
+
+-- the place of a URL that is asked for
+pub asked_few : (t : Loads) (n k : ℕ) (u : Url) (at : Option ℕ) → AreJoined t n → at ≡ place_in (urls_of t.urls.slots) u → (at ≡ None → length t.urls.slots < 4096) → k ≡ place_or t at → k < 4096
+asked_few t n k u None j e room is = let l = room refl in omega (arith, l, is)
+asked_few t n k u (Some p) j e room is = let l = place_few t n p u j (sym e) in omega (arith, l, is)
 
 pub place_own : (t : Loads) (n k : ℕ) → AreJoined t n → k < length t.urls.slots → Some k ≡ place_in (urls_of t.urls.slots) (url_at (urls_of t.urls.slots) k)
 place_own t n k j l =

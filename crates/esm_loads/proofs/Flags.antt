@@ -3,7 +3,7 @@ use Rattle.std.proofs.Common.{◌≡◌, ℕ, suc, zero, ◌<◌, ◌≤◌, Boo
 use Rattle.std.specs.Prelude.{◌⊎◌, ◌||◌, slice_get, slice_set, All, nat_eq}
 use Rattle.std.specs.List.{list_any}
 use Rattle.std.proofs.lemmas.List.{length-set}
-use Rattle.std.proofs.lemmas.List.Elements.{All-head, All-nil, All-tail, All-push, All-weaker}
+use Rattle.std.proofs.lemmas.List.Elements.{All-head, All-tail, All-push, All-weaker}
 use Rattle.esm_realm.proofs.Urls.{both_false, or_true}
 use Rattle.esm_loads.specs.Inner.Flags.{AreFlags, HaveFlags}
 use Rattle.esm_loads.proofs.Places.{set_places, some_is}
@@ -94,28 +94,9 @@ flags_visit flags visited place l h = record {
     by k b (inl f) = or_true (list_any (nat_eq k) visited) (nat_eq k place) (subst (λ k. nat_eq k place ≡ true) (sym f.0) (own place)) ∙ sym f.1
     by k b (inr f) = right (list_any (nat_eq k) visited) (nat_eq k place) (other k place f.0) ∙ h.each k b f.1
 
--- no flag says nothing of nobody
-pub no_flags : AreFlags [] []
-no_flags = record {
-  each = λ k b e. none k b e;
-  within = All-nil (λ (k : ℕ). k < length none_at);
-}
-  where
-    none : (k : ℕ) (b : Bool) → slice_get none_at k ≡ Some b → list_any (nat_eq k) [] ≡ b
-    none zero b e = cc
-    none (suc k) b e = cc
-
 -- the flags where those that there are are right
 pub right_flags : (flags : List Bool) (visited : List ℕ) → AreFlags flags visited → HaveFlags flags visited
 right_flags flags visited h = record { right = λ some. h }
-
--- looked for from the other side
-flipped : (j k : ℕ) → nat_eq j k ≡ nat_eq k j
-flipped j k = grind arith
-
-pub looked_for : (k : ℕ) (visited : List ℕ) → list_any (λ j. nat_eq j k) visited ≡ list_any (nat_eq k) visited
-looked_for k [] = refl
-looked_for k (j ∷ js) = ap (λ b. b || list_any (λ j. nat_eq j k) js) (flipped j k) ∙ ap (λ b. nat_eq k j || b) (looked_for k js)
 
 take_one : (ks : List ℕ) (i k : ℕ) → slice_get ks i ≡ Some k → take (suc i) ks ≡ take i ks ++ k ∷ []
 take_one [] i k e = cc

@@ -180,6 +180,7 @@ called_fits t R f room = record {
     last = f.joined.last;
   };
   matching = f.matching;
+  known = f.known;
   purposes = f.purposes;
   few_calls = omega (arith, room);
 }

@@ -2,6 +2,7 @@ pub mod ArrivedEntry
 pub mod ArriveFacts
 pub mod Arrived
 pub mod FillFacts
+pub mod KnownPlaces
 pub mod LoadedFacts
 pub mod ReadFacts
 pub mod ImportFacts

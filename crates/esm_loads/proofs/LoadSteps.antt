@@ -18,7 +18,7 @@ use Rattle.esm_loads.specs.LoadsAsLoading.{loading_of, trees_of}
 use Rattle.esm_loads.specs.Fits.{AreJoined, IsRequesterWithin, IsWaitingWithin, IsStageWithin, IsLoadWithin, OnlyLastHasPending, HaveRecords}
 use Rattle.esm_loads.specs.Inner.Urls.{open_slot}
 use Rattle.esm_loads.specs.Inner.Requests.{queue_at, push_at}
-use Rattle.esm_loads.specs.Inner.Steps.{with_asked, place_or, add_waiting, set_load, target_of, target_at, target_by, is_open_stage}
+use Rattle.esm_loads.specs.Inner.Steps.{with_asked, with_places, place_or, add_waiting, set_load, target_of, target_at, target_by, is_open_stage}
 use Rattle.esm_loads.specs.declared.data.Slot.{Slot}
 use Rattle.esm_loads.specs.declared.data.UrlState.{UrlState}
 use Rattle.esm_loads.specs.declared.data.Waiting.{Waiting}
@@ -199,6 +199,18 @@ joined_load t n s l j h = record {
   counts = j.counts ∙ sym (length-set t.loads.items s l);
   requests = j.requests;
   loads = all_set (IsLoadWithin (length t.urls.slots) n) t.loads.items s l j.loads h;
+  last = j.last;
+}
+
+pub joined_placed : (t : Loads) (n : ℕ) (places : List ℕ) → AreJoined t n → AreJoined (with_places t places) n
+joined_placed t n places j = record {
+  distinct = j.distinct;
+  usable = j.usable;
+  few = j.few;
+  queues = j.queues;
+  counts = j.counts;
+  requests = j.requests;
+  loads = j.loads;
   last = j.last;
 }
 

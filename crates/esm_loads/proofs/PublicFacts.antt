@@ -44,6 +44,7 @@ added_fits t new R p f h = subst (λ l. FitRecords l R) (sym h.rest) (record {
     last = f.joined.last;
   };
   matching = f.matching;
+  known = f.known;
   purposes = let e = ap length h.loads in let g = ap length h.purposes in omega (arith, f.purposes, e, g, length-append t.loads.items (asked_load ∷ []), length-append t.purposes.items (p ∷ []));
   few_calls = f.few_calls;
 })

@@ -23,6 +23,7 @@ use Rattle.esm_loads.specs.Hosted.{host_of, stopped_by, stopped_host, StopsHost}
 use Rattle.esm_loads.specs.Inner.Steps.{IsLoading}
 use Rattle.esm_loads.specs.Inner.Answering.{KeepsUrls}
 use Rattle.esm_loads.specs.Inner.Stepping.{Settles, IsAnsweredIn, Takes}
+use Rattle.esm_loads.specs.Inner.Targets.{KnowTargets}
 use Rattle.esm_loads.specs.declared.data.Waiting.{Waiting}
 use Rattle.esm_loads.specs.declared.data.Requester.{Requester}
 use Rattle.esm_loads.specs.declared.data.Requester.TheVariants as requesters
@@ -30,6 +31,7 @@ use Rattle.esm_loads.specs.declared.loads.Loads.{Loads}
 use Rattle.esm_loads.proofs.Places.{get_kept, get_map, on_ok}
 use Rattle.esm_loads.proofs.Unlinks.{long_stale, matching_stale}
 use Rattle.esm_loads.proofs.EnterFacts.{old_module}
+use Rattle.esm_loads.proofs.KnownPlaces.{known_same, targets_stale}
 use Rattle.esm_loads.proofs.NextFacts as next_facts
 
 -- ---- the records still fit
@@ -43,10 +45,11 @@ matching_more t new R h k = subst (λ ss. RecordsMatch ss (trees_of new) R) (sym
   spelled = h.spelled;
 }))
 
-pub fits_after : (t new : Loads) (R R' : List RecordParts) → FitRecords t R → AreJoined new (length R) → KeepsUrls t new → map before_linking R' ≡ map before_linking R → FitRecords new R'
-fits_after t new R R' h j k e = record {
+pub fits_after : (t new : Loads) (R R' : List RecordParts) → FitRecords t R → AreJoined new (length R) → KnowTargets new.urls R → KeepsUrls t new → map before_linking R' ≡ map before_linking R → FitRecords new R'
+fits_after t new R R' h j w k e = record {
   joined = subst (AreJoined new) (sym (long_stale R R' e)) j;
   matching = matching_stale R R' new.urls.slots (trees_of new) e (matching_more t new R h.matching k);
+  known = known_same (urls_of new.urls.slots) new.urls.starts new.urls.places R R' (targets_stale R R' e) w;
   purposes = ap (λ (l : Loads). length l.purposes.items) k.rest ∙ (h.purposes ∙ sym k.loads);
   few_calls = let c = ap (λ (l : Loads). l.import_calls) k.rest in omega (arith, c, h.few_calls);
 }
@@ -55,6 +58,7 @@ pub fits_taken : (t mid : Loads) (R : List RecordParts) (w : Waiting) → FitRec
 fits_taken t mid R w h x = record {
   joined = next_facts.joined_taken no_maps R t (length R) h.joined mid w x;
   matching = subst (λ (l : Loads). RecordsMatch l.urls.slots (trees_of l) R) (sym x.new_is) h.matching;
+  known = subst (λ (l : Loads). KnowTargets l.urls R) (sym x.new_is) h.known;
   purposes = subst (λ (l : Loads). length l.purposes.items ≡ length l.loads.items) (sym x.new_is) h.purposes;
   few_calls = subst (λ (l : Loads). l.import_calls ≤ 4096) (sym x.new_is) h.few_calls;
 }

@@ -10,6 +10,7 @@ use Rattle.esm_realm.specs.Sound.{RecordParts, new_record}
 use Rattle.esm_loads.specs.UrlTable.{Found, Nothing, Faulty, Script}
 use Rattle.esm_loads.specs.LoadsView.{urls_of, place_in, is_open, LoadView}
 use Rattle.esm_loads.specs.LoadsAsLoading.{trees_of}
+use Rattle.esm_loads.specs.Inner.Targets.{KnowTargets}
 use Rattle.esm_loads.specs.declared.data.Slot.{Slot}
 use Rattle.esm_loads.specs.declared.data.UrlState.TheVariants as states
 use Rattle.esm_loads.specs.declared.data.Waiting.{Waiting}
@@ -92,11 +93,12 @@ pub record RecordsMatch (slots : List Slot) (trees : List (List Item)) (records 
 
 -- ---- all together
 
--- the loads fit the records, their indices are right, each load has a purpose, and no more than MAX_IMPORT_CALLS calls of
--- import() were begun
+-- the loads fit the records, their indices are right, the places that are kept for targets are theirs, each load has a purpose, and no
+-- more than MAX_IMPORT_CALLS calls of import() were begun
 pub record FitRecords (l : Loads) (records : List RecordParts) : Type 0 where
   pub joined : AreJoined l (length records)
   pub matching : RecordsMatch l.urls.slots (trees_of l) records
+  pub known : KnowTargets l.urls records
   pub purposes : length l.purposes.items ≡ length l.loads.items
   pub few_calls : l.import_calls ≤ MAX_IMPORT_CALLS
 

@@ -1,4 +1,5 @@
 pub mod Urls
+pub mod Targets
 pub mod UrlIndex
 pub mod Requests
 pub mod Counts

@@ -15,6 +15,7 @@ ghost use Rattle.esm_loads.specs.Inner.Steps.{IsLoading, Grown, set_load};
 ghost use Rattle.esm_loads.specs.Inner.Flags.{begun_record};
 ghost use Rattle.esm_loads.specs.Inner.Stops.{StopsIn};
 ghost use Rattle.esm_loads.specs.Inner.Filling.{FillsNew};
+ghost use Rattle.esm_loads.specs.Inner.Targets.{KnowTargets};
 ghost use Rattle.esm_loads.specs.Inner.Answering.{Reaches, IsAnswered, MayGoOn, StopsAnswer, KeepsUrls};
 
 use crate::LoadEnd;
@@ -32,10 +33,12 @@ pub fn finish(loads: &mut Loads, realm: &mut Realm, load: usize)
     requires joined { AreJoined loads.old (length (records_of realm.old)) }
     requires records { HaveRecords loads.old.urls.slots (records_of realm.old) }
     requires sound { IsSound (records_of realm.old) }
+    requires known { KnowTargets loads.old.urls (records_of realm.old) }
     requires load { load < length loads.old.loads.items }
     ensures finishes { (maps : Maps) → loading_of maps loads.new (records_of realm.new)
         ≡ finished (loading_of maps loads.old (records_of realm.old)) load }
     ensures joined { AreJoined loads.new (length (records_of realm.old)) }
+    ensures known { KnowTargets loads.new.urls (records_of realm.old) }
     ensures same { map before_linking (records_of realm.new)
         ≡ map before_linking (records_of realm.old) }
     ensures stay { PastNewStay (records_of realm.old) (records_of realm.new) }
@@ -75,6 +78,7 @@ fn reach(
     requires joined { AreJoined loads.old (length (records_of realm.old)) }
     requires kept { HaveRecords loads.old.urls.slots (records_of realm.old) }
     requires sound { IsSound (records_of realm.old) }
+    requires known { KnowTargets loads.old.urls (records_of realm.old) }
     requires module_at { IsModuleAt loads.old.urls.slots place id.0 }
     requires begun { IsLoading loads.old load }
     ensures reaches { (maps : Maps) → OnOk result (
@@ -83,6 +87,7 @@ fn reach(
         (loading_of maps loads.new (records_of realm.new))
         ) }
     ensures joined { OnOk result (AreJoined loads.new (length (records_of realm.old))) }
+    ensures known { OnOk result (KnowTargets loads.new.urls (records_of realm.old)) }
     ensures same { map before_linking (records_of realm.new)
         ≡ map before_linking (records_of realm.old) }
     ensures stay { PastNewStay (records_of realm.old) (records_of realm.new) }
@@ -117,6 +122,7 @@ fn begin_and_reach(
     requires joined { AreJoined loads.old (length (records_of realm.old)) }
     requires kept { HaveRecords loads.old.urls.slots (records_of realm.old) }
     requires sound { IsSound (records_of realm.old) }
+    requires known { KnowTargets loads.old.urls (records_of realm.old) }
     requires module_at { IsModuleAt loads.old.urls.slots place id.0 }
     requires load { load < length loads.old.loads.items }
     ensures reaches { (maps : Maps) → OnOk result (
@@ -126,6 +132,7 @@ fn begin_and_reach(
         (loading_of maps loads.new (records_of realm.new))
         ) }
     ensures joined { OnOk result (AreJoined loads.new (length (records_of realm.old))) }
+    ensures known { OnOk result (KnowTargets loads.new.urls (records_of realm.old)) }
     ensures same { map before_linking (records_of realm.new)
         ≡ map before_linking (records_of realm.old) }
     ensures stay { PastNewStay (records_of realm.old) (records_of realm.new) }
@@ -160,6 +167,7 @@ pub fn answer(
     requires joined { AreJoined loads.old (length (records_of realm.old)) }
     requires kept { HaveRecords loads.old.urls.slots (records_of realm.old) }
     requires sound { IsSound (records_of realm.old) }
+    requires known { KnowTargets loads.old.urls (records_of realm.old) }
     requires place { place < length loads.old.urls.slots }
     requires load { waiting.load < length loads.old.loads.items }
     requires going { MayGoOn loads.old waiting }
@@ -170,6 +178,7 @@ pub fn answer(
         (loading_of maps loads.new (records_of realm.new))
         ) }
     ensures joined { OnOk result (AreJoined loads.new (length (records_of realm.old))) }
+    ensures known { OnOk result (KnowTargets loads.new.urls (records_of realm.old)) }
     ensures same { map before_linking (records_of realm.new)
         ≡ map before_linking (records_of realm.old) }
     ensures stay { PastNewStay (records_of realm.old) (records_of realm.new) }

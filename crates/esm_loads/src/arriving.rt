@@ -1,5 +1,5 @@
 // A fetch ends. HTML, "create a JavaScript module script".
-ghost use Rattle.std.specs.Prelude.{◌≡◌, ◌≤◌, ◌<◌, ◌+◌, ℕ, [], length, map, false, true, Some, None, Ok, Err, IfOk, OnOk, MatchResult, slice_get, slice_index_or};
+ghost use Rattle.std.specs.Prelude.{◌≡◌, ◌≤◌, ◌<◌, ◌+◌, ℕ, List, [], length, map, false, true, Some, None, Ok, Err, IfOk, OnOk, MatchResult, slice_get, slice_index_or};
 ghost use Rattle.esm_base.specs.declared.limits.Limit.{Limit};
 ghost use Rattle.esm_base.specs.declared.limits.TheConstants.{MAX_DELIVERED_BYTES, MAX_URLS};
 ghost use Rattle.esm_base.specs.declared.end.End.TheVariants.{Fault};
@@ -9,7 +9,7 @@ ghost use Rattle.esm_ast.specs.Outcome as outcomes;
 ghost use Rattle.esm_ast.specs.Outcome.{outcome_view};
 ghost use Rattle.esm_ast.specs.Script.{spelled_text};
 ghost use Rattle.esm_realm.specs.Laws.{AreDistinct};
-ghost use Rattle.esm_realm.specs.Sound.{IsSound, records_of, url_of};
+ghost use Rattle.esm_realm.specs.Sound.{IsSound, RecordParts, records_of, url_of};
 ghost use Rattle.esm_specifier.specs.Targets.{AreTargets, Refusal, targets_view};
 ghost use Rattle.esm_values.specs.Errors as errors_spec;
 ghost use Rattle.esm_values.specs.declared.errors.FaultKind.{FaultKind as Kind};
@@ -25,10 +25,13 @@ ghost use Rattle.esm_loads.specs.Hosted.{host_of, StopsAt};
 ghost use Rattle.esm_loads.specs.Loaded.{HaveLoaded};
 ghost use Rattle.esm_loads.specs.declared.data.Slot.{Slot};
 ghost use Rattle.esm_loads.specs.Inner.Urls.{open_urls, IsOpenAt};
+ghost use Rattle.esm_loads.specs.Inner.Targets.{IsOneMore, KnowTargets};
 ghost use Rattle.esm_loads.specs.Inner.Arriving.{unresolved_message, Filled, IsOpenSlot, NonePending, settled, stores};
 
 use crate::LoadEnd;
+use crate::asked_urls::AskedUrls;
 use crate::data::UrlState;
+use crate::filling::requests_of;
 use crate::loads::Loads;
 use esm_ast::{Outcome, Script, Tree};
 use esm_base::{Limit, MAX_DELIVERED_BYTES, Memory, Text, TextFault};
@@ -237,6 +240,24 @@ fn open_place(loads: &Loads, url: &Text, near: usize) -> usize
     }
 }
 
+// The module that has come, where one has, gets places for the targets of its requests.
+fn add_places(urls: &mut AskedUrls, realm: &Realm) -> Result<(), Memory>
+    ensures known { (before : List RecordParts) → KnowTargets urls.old before
+        → IsOneMore before (records_of realm.now)
+        → OnOk result (KnowTargets urls.new (records_of realm.now)) }
+    ensures rest { OnOk result (urls.new
+        ≡ record urls.old { starts = urls.new.starts; places = urls.new.places }) }
+{
+    let modules = urls.modules();
+    if modules >= realm.records.len() {
+        return Ok(());
+    }
+    match urls.add_module(requests_of(realm, modules)) {
+        Ok(()) => Ok(()),
+        Err(Memory) => Err(Memory),
+    }
+}
+
 // The URL at a place is fetched, and has this state.
 fn settle(loads: &mut Loads, place: usize, state: UrlState)
     requires open { IsOpenAt loads.old.urls.slots place }
@@ -291,6 +312,7 @@ fn store(
         outcome,
         targets,
     )?;
+    add_places(&mut loads.urls, realm)?;
     settle(loads, place, state);
     Ok(())
 }

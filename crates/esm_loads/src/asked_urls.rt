@@ -1,5 +1,5 @@
 // The asked URLs, in order of asking. HTML, the module map.
-ghost use Rattle.std.specs.Prelude.{◌≡◌, ℕ, ◌<◌, ◌≤◌, ◌+◌, ◌++◌, [], ◌∷◌, length, None, Some, IfOk, OnOk, Err, true, false, slice_get, slice_set};
+ghost use Rattle.std.specs.Prelude.{◌≡◌, ℕ, ◌<◌, ◌≤◌, ◌+◌, ◌++◌, [], ◌∷◌, length, replicate, None, Some, IfOk, OnOk, Err, true, false, slice_get, slice_set};
 ghost use Rattle.std.specs.List.Sorted.{IsNonDecreasing};
 ghost use Rattle.esm_base.specs.declared.limits.Limit.{Limit};
 ghost use Rattle.esm_base.specs.declared.limits.TheConstants.{MAX_URLS, MAX_DELIVERED_BYTES};
@@ -7,11 +7,13 @@ ghost use Rattle.esm_base.specs.declared.end.End.TheVariants.{Fault};
 ghost use Rattle.esm_base.specs.Urls.{has, same_url};
 ghost use Rattle.esm_loads.specs.LoadsView.{urls_of, place_in, is_open};
 ghost use Rattle.esm_loads.specs.Inner.Reading.{module_by};
+ghost use Rattle.esm_loads.specs.Inner.Targets.{IsKept, with_place};
 ghost use Rattle.esm_loads.specs.Inner.Urls.{no_slots, open_urls, open_slot, Closes, IsOpenAt};
 
 use crate::LoadEnd;
 use crate::data::{Slot, UrlState};
 use crate::front_vec::FrontVec;
+use crate::target_places::TargetPlaces;
 use esm_base::{Limit, MAX_DELIVERED_BYTES, MAX_URLS, Memory, ModuleId, Text};
 use esm_text_table::TextTable;
 use std::alloc::Global;
@@ -61,6 +63,8 @@ pub struct AskedUrls {
     urls: TextTable,
     slots: Vec<Slot>,
     asks: OpenAsks,
+    /// The places of the targets of requests.
+    targets: TargetPlaces,
     /// How many bytes were delivered.
     bytes: u64,
 }
@@ -73,7 +77,12 @@ impl Model for AskedUrls {
 
     ghost use Rattle.esm_loads.specs.Inner.UrlIndex.{AreIndexed};
 
-    ghost view = { λ t. record { slots = t.slots.items; bytes = t.bytes } };
+    ghost view = { λ t. record {
+      slots = t.slots.items;
+      bytes = t.bytes;
+      starts = t.targets.starts.items;
+      places = t.targets.places.items;
+    } };
 
     ghost invariant = { λ t. AreIndexed t.urls t.slots.items t.asks t.bytes };
 }
@@ -142,6 +151,7 @@ impl AskedUrls {
                 urls: FrontVec::new(alloc),
                 places: FrontVec::new(alloc),
             },
+            targets: TargetPlaces::new(alloc),
             bytes: 0,
         }
     }
@@ -180,6 +190,46 @@ impl AskedUrls {
             Some(near)
         } else {
             self.find(url)
+        }
+    }
+
+    /// For how many modules the places of targets are kept.
+    pub fn modules(&self) -> usize
+        ensures { result ≡ length self.now.starts }
+    {
+        self.targets.starts.len()
+    }
+
+    /// One module more, with so many requests, of which no place is known.
+    pub fn add_module(&mut self, requests: usize) -> Result<(), Memory>
+        ensures { OnOk result (self.new ≡ record self.old {
+          starts = self.old.starts ++ length self.old.places ∷ [];
+          places = self.old.places ++ replicate requests MAX_URLS;
+        }) }
+    {
+        self.targets.begin(requests)?;
+        Ok(())
+    }
+
+    /// Keeps the place of the target of a request of a module.
+    pub fn keep(&mut self, id: ModuleId, request: usize, place: usize)
+        requires { place < MAX_URLS }
+        ensures { self.new ≡ record self.old {
+          places = with_place self.old.starts self.old.places id.0 request place;
+        } }
+    {
+        self.targets.keep(id, request, place);
+    }
+
+    /// The place of the target of a request of a module, which is looked up only where its place isn't known.
+    pub fn find_target(&self, id: ModuleId, request: usize, target: &Text) -> Option<usize>
+        requires { (place : ℕ) → IsKept self.now.starts self.now.places id.0 request place
+            → place_in (urls_of self.now.slots) target.now ≡ Some place }
+        ensures { result ≡ place_in (urls_of self.now.slots) target.now }
+    {
+        match self.targets.place(id, request) {
+            Some(place) => Some(place),
+            None => self.find(target),
         }
     }
 

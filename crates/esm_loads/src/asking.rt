@@ -51,7 +51,7 @@ pub fn ask_root(loads: &mut Loads, realm: &Realm, url: &Text, load: usize) -> Re
     let _ = realm;
     let at = loads.urls.find(url);
     match ask(loads, url, at, load, Requester::Root) {
-        Ok(()) => Ok(()),
+        Ok(_place) => Ok(()),
         Err(end) => Err(end),
     }
 }

@@ -11,6 +11,7 @@ ghost use Rattle.esm_loads.specs.LoadsAsLoading.{loading_of};
 ghost use Rattle.esm_loads.specs.Fits.{AreJoined, HaveRecords, IsModuleAt};
 ghost use Rattle.esm_loads.specs.Inner.Steps.{IsLoading, Grown};
 ghost use Rattle.esm_loads.specs.Inner.Stops.{StopsIn};
+ghost use Rattle.esm_loads.specs.Inner.Targets.{KnowTargets};
 
 use crate::LoadEnd;
 use crate::data::{Requester, Stage, TargetState};
@@ -19,7 +20,8 @@ use crate::steps::{ask, is_fresh, is_open, set_stage, target_state, visit};
 use esm_base::{Memory, ModuleId};
 use esm_realm::Realm;
 
-/// A load, which goes on, enters a module.
+/// A load, which goes on, enters a module. The place of each target that it comes to is kept, and looked up only where it
+/// isn't known.
 pub fn enter(
     loads: &mut Loads,
     realm: &Realm,
@@ -30,6 +32,7 @@ pub fn enter(
     requires joined { AreJoined loads.old (length (records_of realm.now)) }
     requires kept { HaveRecords loads.old.urls.slots (records_of realm.now) }
     requires sound { IsSound (records_of realm.now) }
+    requires known { KnowTargets loads.old.urls (records_of realm.now) }
     requires module_at { IsModuleAt loads.old.urls.slots place id.0 }
     requires begun { IsLoading loads.old load }
     ensures enters { (maps : Maps) → OnOk result (
@@ -39,6 +42,7 @@ pub fn enter(
         ) }
     ensures grown { OnOk result (Grown (length (records_of realm.now)) load loads.old loads.new) }
     ensures joined { OnOk result (AreJoined loads.new (length (records_of realm.now))) }
+    ensures known { OnOk result (KnowTargets loads.new.urls (records_of realm.now)) }
     ensures limit { (maps : Maps) → StopsIn result
         (loading_of maps loads.new (records_of realm.now))
         (
@@ -60,7 +64,7 @@ pub fn enter(
             return Ok(());
         }
         let target = &targets[request];
-        let at = loads.urls.find(target);
+        let at = loads.urls.find_target(id, request, target);
         match target_state(loads, at) {
             TargetState::Fetching => {
                 let requester = Requester::Module {
@@ -68,13 +72,13 @@ pub fn enter(
                     request,
                 };
                 match ask(loads, target, at, load, requester) {
-                    Ok(()) => {}
+                    Ok(asked) => loads.urls.keep(id, request, asked),
                     Err(end) => return Err(end),
                 }
             }
             TargetState::Throws(cause) => set_stage(loads, load, Stage::Thrown(cause)),
-            TargetState::Module(place, id) => match enter(loads, realm, load, place, id) {
-                Ok(()) => {}
+            TargetState::Module(found, module) => match enter(loads, realm, load, found, module) {
+                Ok(()) => loads.urls.keep(id, request, found),
                 Err(end) => return Err(end),
             },
         }

@@ -3,22 +3,25 @@ ghost use Rattle.std.specs.Prelude.{◌≡◌, ◌<◌, ◌||◌, ℕ, length, m
 ghost use Rattle.esm_base.specs.Urls.{Url};
 ghost use Rattle.esm_realm.specs.Sound.{IsSound, RecordParts, records_of};
 ghost use Rattle.esm_realm.specs.declared.record.ModuleStatus.TheVariants as statuses;
-ghost use Rattle.esm_loads.specs.LoadsView.{before_linking, id_under, is_in, is_unlinked};
+ghost use Rattle.esm_loads.specs.LoadsView.{before_linking, id_under, is_in, is_unlinked, place_in, urls_of};
 ghost use Rattle.esm_loads.specs.Fits.{AreBelow};
 ghost use Rattle.esm_loads.specs.Loaded.{PastNewStay};
 ghost use Rattle.esm_loads.specs.Inner.Filling.{AreIdsBelow, Fills, FillsNew, Unlinks, load_at};
+ghost use Rattle.esm_loads.specs.Inner.Targets.{IsKept, KnowTargets};
 
 use crate::asked_urls::AskedUrls;
 use crate::data::UrlState;
 use esm_base::{ModuleId, Text};
 use esm_realm::{ModuleStatus, Realm};
 
-// The module under a URL.
-fn module_under(urls: &AskedUrls, url: &Text) -> Option<ModuleId>
-    ensures some { IfSome result (λ m. id_under urls.now.slots url.now ≡ Some m.0) }
-    ensures none { result ≡ None → id_under urls.now.slots url.now ≡ None }
+// The module under the target of a request.
+fn module_under(urls: &AskedUrls, id: ModuleId, request: usize, target: &Text) -> Option<ModuleId>
+    requires { (place : ℕ) → IsKept urls.now.starts urls.now.places id.0 request place
+        → place_in (urls_of urls.now.slots) target.now ≡ Some place }
+    ensures some { IfSome result (λ m. id_under urls.now.slots target.now ≡ Some m.0) }
+    ensures none { result ≡ None → id_under urls.now.slots target.now ≡ None }
 {
-    match urls.find(url) {
+    match urls.find_target(id, request, target) {
         Some(place) => match urls.state(place) {
             UrlState::Open => None,
             UrlState::Failed => None,
@@ -44,6 +47,7 @@ fn target_of(realm: &Realm, id: ModuleId, request: usize) -> &Text
 fn fill_request(urls: &AskedUrls, realm: &mut Realm, id: ModuleId, request: usize)
     requires sound { IsSound (records_of realm.old) }
     requires below { AreIdsBelow urls.now.slots (length (records_of realm.old)) }
+    requires known { KnowTargets urls.now (records_of realm.old) }
     requires id { id.0 < length (records_of realm.old) }
     requires request { (r : RecordParts) → slice_get (records_of realm.old) id.0 ≡ Some r
         → request < length r.targets }
@@ -53,33 +57,34 @@ fn fill_request(urls: &AskedUrls, realm: &mut Realm, id: ModuleId, request: usiz
         (record r { loaded = load_at urls.now.slots u request r.loaded }) }
     ensures sound { IsSound (records_of realm.new) }
 {
-    let found = module_under(urls, target_of(realm, id, request));
+    let found = module_under(urls, id, request, target_of(realm, id, request));
     match found {
         Some(target) => realm.load_request(id, request, target),
         None => {}
     }
 }
 
-// How many requests a module has.
-fn requests_of(realm: &Realm, id: ModuleId) -> usize
-    requires { id.0 < length (records_of realm.now) }
-    ensures { (r : RecordParts) → slice_get (records_of realm.now) id.0 ≡ Some r
+/// How many requests the module with this id has.
+pub fn requests_of(realm: &Realm, id: usize) -> usize
+    requires { id < length (records_of realm.now) }
+    ensures { (r : RecordParts) → slice_get (records_of realm.now) id ≡ Some r
         → result ≡ length r.targets }
 {
-    realm.records[id.0 as usize].targets.len()
+    realm.records[id].targets.len()
 }
 
 // The requests of a module have loaded the modules under the URLs of their targets.
 fn fill_requests(urls: &AskedUrls, realm: &mut Realm, id: ModuleId)
     requires sound { IsSound (records_of realm.old) }
     requires below { AreIdsBelow urls.now.slots (length (records_of realm.old)) }
+    requires known { KnowTargets urls.now (records_of realm.old) }
     requires id { id.0 < length (records_of realm.old) }
     ensures fills { (r : RecordParts) → slice_get (records_of realm.old) id.0 ≡ Some r
         → Fills urls.now.slots (length r.targets) id.0 r
         (records_of realm.old) (records_of realm.new) }
     ensures sound { IsSound (records_of realm.new) }
 {
-    let many = requests_of(realm, id);
+    let many = requests_of(realm, id.0 as usize);
     for request in 0..many {
         fill_request(urls, realm, id, request);
     }
@@ -110,6 +115,7 @@ fn status_of(realm: &Realm, id: ModuleId) -> ModuleStatus
 fn unlink_one(urls: &AskedUrls, realm: &mut Realm, id: ModuleId)
     requires sound { IsSound (records_of realm.old) }
     requires below { AreIdsBelow urls.now.slots (length (records_of realm.old)) }
+    requires known { KnowTargets urls.now (records_of realm.old) }
     requires id { id.0 < length (records_of realm.old) }
     ensures unlinks { (r : RecordParts) → slice_get (records_of realm.old) id.0 ≡ Some r
         → Unlinks urls.now.slots id.0 r (records_of realm.old) (records_of realm.new) }
@@ -131,6 +137,7 @@ pub fn unlink(urls: &AskedUrls, ids: &[u32], realm: &mut Realm)
     requires ids { AreBelow (length (records_of realm.old)) ids.now }
     requires sound { IsSound (records_of realm.old) }
     requires below { AreIdsBelow urls.now.slots (length (records_of realm.old)) }
+    requires known { KnowTargets urls.now (records_of realm.old) }
     ensures same { map before_linking (records_of realm.new)
         ≡ map before_linking (records_of realm.old) }
     ensures stay { PastNewStay (records_of realm.old) (records_of realm.new) }

@@ -21,6 +21,7 @@ mod reading;
 mod settling;
 mod stepping;
 mod steps;
+mod target_places;
 
 pub use data::{Cause, NOWHERE, Purpose, Requester, Slot, Stage, UrlState, Waiting};
 pub use end::LoadEnd;

@@ -162,7 +162,6 @@ impl LoadRecord {
 
     /// Visits a module.
     pub fn visit(&mut self, id: u32) -> Result<(), Memory>
-        requires { id < 4096 }
         ensures { OnOk result
             (self.new ≡ record self.old { visited = self.old.visited ++ id ∷ [] }) }
     {

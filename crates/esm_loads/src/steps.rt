@@ -40,8 +40,7 @@ pub fn is_open(loads: &Loads, load: usize) -> bool
 
 /// A load visits a module.
 pub fn visit(loads: &mut Loads, load: usize, id: ModuleId) -> Result<(), Memory>
-    requires load { load < length loads.old.loads.items }
-    requires id { id.0 < 4096 }
+    requires { load < length loads.old.loads.items }
     ensures { (v : LoadView) → slice_get loads.old.loads.items load ≡ Some v → OnOk result
         (loads.new ≡ set_load loads.old load (record v { visited = v.visited ++ id.0 ∷ [] })) }
 {
@@ -77,14 +76,14 @@ fn open(loads: &mut Loads, url: &Text) -> Result<usize, LoadEnd>
     }
 }
 
-/// A request asks for a URL, which has this place, and waits for it.
+/// A request asks for a URL, which has this place, and waits for it. It gives the place that the URL has then.
 pub fn ask(
     loads: &mut Loads,
     url: &Text,
     at: Option<usize>,
     load: usize,
     requester: Requester,
-) -> Result<(), LoadEnd>
+) -> Result<usize, LoadEnd>
     requires at { place_in (urls_of loads.old.urls.slots) url.now ≡ at }
     requires within { IfSome at (λ k. k < length loads.old.queues.queues) }
     requires load { load < loads.old.queues.loads }
@@ -92,6 +91,7 @@ pub fn ask(
     ensures asks { OnOk result (loads.new
         ≡ add_waiting (with_asked loads.old url.now at) (place_or loads.old at)
         (record { load = load; requester = requester })) }
+    ensures place { IfOk result (λ k. k ≡ place_or loads.old at) }
     ensures room { OnOk result (at ≡ None → length loads.old.urls.slots < MAX_URLS) }
     ensures same { (limit : Limit) → result ≡ Err (Fault limit) → loads.new ≡ loads.old }
     ensures limit { (limit : Limit) → result ≡ Err (Fault limit)
@@ -105,7 +105,7 @@ pub fn ask(
         },
     };
     match loads.queues.push(place, Waiting { load, requester }) {
-        Ok(()) => Ok(()),
+        Ok(()) => Ok(place),
         Err(Memory) => Err(LoadEnd::Memory),
     }
 }

@@ -9,6 +9,7 @@ use Rattle.esm_realm.specs.declared.record.ModuleStatus.TheVariants as statuses
 use Rattle.esm_realm.specs.ById.{status_by, status_of, is_linking, without_status}
 use Rattle.esm_realm.specs.Sound.{RecordParts, url_of}
 use Rattle.esm_loads.specs.Fits.{AreJoined, HaveRecords, RecordsMatch}
+use Rattle.esm_loads.specs.Inner.Targets.{AreKnown, all_targets}
 use Rattle.esm_loads.specs.Laws.{IsOrderly}
 use Rattle.esm_loads.specs.Loaded.{HaveLoaded}
 use Rattle.esm_loads.specs.LoadsAsLoading.{loading_of, trees_of}
@@ -48,6 +49,15 @@ same_urls (n ∷ N) [] h = let e = h 0 in cc
 same_urls (n ∷ N) (r ∷ R) h =
     let one : n.url ≡ r.url = ap url_of (some_is (h 0)) in
     let rest = same_urls N R (λ x. h (suc x)) in
+    λ i. one i ∷ rest i
+
+pub same_targets : (N R : List RecordParts) → ((x : ℕ) → Plain (slice_get N x) ≡ Plain (slice_get R x)) → all_targets N ≡ all_targets R
+same_targets [] [] h = refl
+same_targets [] (r ∷ R) h = let e = h 0 in cc
+same_targets (n ∷ N) [] h = let e = h 0 in cc
+same_targets (n ∷ N) (r ∷ R) h =
+    let one : n.targets ≡ r.targets = ap (λ (q : RecordParts). q.targets) (some_is (h 0)) in
+    let rest = same_targets N R (λ x. h (suc x)) in
     λ i. one i ∷ rest i
 
 pub past_by : (o : Option RecordParts) → is_unlinked_by o ≡ is_past_new (status_by o)
@@ -154,6 +164,7 @@ module _ (trees : List Parts) (R N : List RecordParts) (leaves : LeavesRecords t
       fits = record {
         joined = subst (AreJoined t) (sym long_same) k.fits.joined;
         matching = matching_same t.urls.slots (trees_of t) k.fits.matching;
+        known = subst (AreKnown (urls_of t.urls.slots) t.urls.starts t.urls.places) (sym (same_targets N R leaves.records)) k.fits.known;
         purposes = k.fits.purposes;
         few_calls = k.fits.few_calls;
       };

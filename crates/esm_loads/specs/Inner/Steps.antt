@@ -37,6 +37,9 @@ add_waiting l place w = record l { queues = record l.queues { queues = push_at l
 abbrev pub set_load : Loads → ℕ → LoadView → Loads
 set_load l s v = record l { loads = with_item l.loads s v }
 
+abbrev pub with_places : Loads → List ℕ → Loads
+with_places l places = record l { urls = record l.urls { places = places } }
+
 abbrev pub target_of : ℕ → UrlState → TargetState
 target_of place states.Open = targets.Fetching
 target_of place states.Failed = targets.Throws (causes.Unfetched place)

@@ -12,9 +12,12 @@ pub record UrlsView : Type 0 where
   pub slots : List Slot
   -- how many bytes were delivered
   pub bytes : ℕ
+  -- the places that are kept for the targets of requests, and where those of each module begin
+  pub starts : List ℕ
+  pub places : List ℕ
 
 abbrev pub no_slots : UrlsView
-no_slots = record { slots = []; bytes = 0 }
+no_slots = record { slots = []; bytes = 0; starts = []; places = [] }
 
 abbrev pub open_by : Bool → Url → List Url → List Url
 open_by true url later = url ∷ later

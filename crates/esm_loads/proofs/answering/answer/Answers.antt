@@ -9,6 +9,8 @@ use Rattle.esm_loads.specs.Fits.{AreJoined}
 use Rattle.esm_loads.specs.Hosted.{stopped_by}
 use Rattle.esm_loads.specs.Inner.Steps.{IsLoading}
 use Rattle.esm_loads.specs.Inner.Answering.{KeepsUrls, Reaches, IsAnswered, MayGoOnBy}
+use Rattle.esm_loads.specs.Inner.Targets.{KnowTargets}
+use Rattle.esm_loads.specs.declared.loads.Loads.{Loads}
 use Rattle.esm_loads.specs.declared.data.Stage.TheVariants as stages
 use Rattle.esm_loads.specs.declared.data.TargetState.TheVariants as target_states
 use Rattle.esm_loads.proofs.Places.{get_within}
@@ -53,6 +55,11 @@ returns-in-Throws-clause-joined c =
     let v = get_within t.loads.items s c.requires.load in
     let stood = facts.told [] R t.urls.slots (url_at (urls_of t.urls.slots) c.args.place) (Some c.args.place) (target_states.Throws c.in-Throws.cause) c.requires.kept (facts.place_own t (length R) c.args.place c.requires.joined c.requires.place) (sym c.in-Throws.is ∙ c.target_state.ensures) in
     subst (λ t. AreJoined t (length R)) (sym (c.set_stage.ensures v.0 v.1)) (facts.throw_joined t (length R) s v.0 c.in-Throws.cause c.requires.joined v.1 stood.3)
+
+pub returns-in-Throws-clause-known : goal.returns-in-Throws-clause-known
+returns-in-Throws-clause-known c =
+    let v = get_within c.args.loads.now.loads.items c.args.waiting.load c.requires.load in
+    subst (λ (t : Loads). KnowTargets t.urls (records_of c.args.realm.now)) (sym (c.set_stage.ensures v.0 v.1)) c.requires.known
 
 pub returns-in-Throws-clause-kept : goal.returns-in-Throws-clause-kept
 returns-in-Throws-clause-kept c =

@@ -11,6 +11,7 @@ use Rattle.esm_loads.specs.Hosted.{stopped_by}
 use Rattle.esm_loads.specs.Inner.Flags.{begun_record}
 use Rattle.esm_loads.specs.Inner.Steps.{IsLoading}
 use Rattle.esm_loads.specs.Inner.Answering.{KeepsUrls, Reaches}
+use Rattle.esm_loads.specs.Inner.Targets.{KnowTargets}
 use Rattle.esm_loads.proofs.Places.{get_within}
 use Rattle.esm_loads.proofs.AnswerFacts.{begun_is, begun_joined, begun_loading, kept_kept, kept_load}
 use Rattle.esm_loads.proofs.answering.begin_and_reach.Goals as goal
@@ -26,6 +27,11 @@ pub reach-requires-clause-kept : goal.reach-requires-clause-kept
 reach-requires-clause-kept c =
     let v = get_within c.args.loads.now.loads.items c.args.load c.requires.load in
     subst (λ (t : Loads). HaveRecords t.urls.slots (records_of c.args.realm.now)) (sym (c.begin.ensures v.0 v.1)) c.requires.kept
+
+pub reach-requires-clause-known : goal.reach-requires-clause-known
+reach-requires-clause-known c =
+    let v = get_within c.args.loads.now.loads.items c.args.load c.requires.load in
+    subst (λ (t : Loads). KnowTargets t.urls (records_of c.args.realm.now)) (sym (c.begin.ensures v.0 v.1)) c.requires.known
 
 pub reach-requires-clause-module_at : goal.reach-requires-clause-module_at
 reach-requires-clause-module_at c =

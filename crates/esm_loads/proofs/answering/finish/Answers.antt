@@ -8,6 +8,7 @@ use Rattle.esm_loads.specs.LoadsAsLoading.{loading_of}
 use Rattle.esm_loads.specs.Fits.{AreJoined, IsLoadWithin, AreBelow}
 use Rattle.esm_loads.specs.Inner.Answering.{KeepsUrls}
 use Rattle.esm_loads.specs.Inner.Filling.{FillsNew}
+use Rattle.esm_loads.specs.Inner.Targets.{KnowTargets}
 use Rattle.esm_loads.specs.declared.loads.Loads.{Loads}
 use Rattle.esm_loads.specs.declared.data.Stage.TheVariants as stages
 use Rattle.esm_loads.proofs.Places.{index_get, some_is, all_get, nothing}
@@ -83,6 +84,12 @@ returns-else-waits-clause-joined c =
     let l = c.index.result.now in
     let at = index_get t.loads.items c.args.load l c.requires.load c.index.ensures in
     subst (λ t. AreJoined t n) (sym (c.set_stage.ensures l at)) (facts.finish_joined t n c.args.load l c.in-Some.root c.requires.joined at (facts.root_open l.stage c.in-Some.root (sym c.open_root.ensures ∙ c.in-Some.is)))
+
+pub returns-else-waits-clause-known : goal.returns-else-waits-clause-known
+returns-else-waits-clause-known c =
+    let l = c.index.result.now in
+    let at = index_get c.args.loads.now.loads.items c.args.load l c.requires.load c.index.ensures in
+    subst (λ (t : Loads). KnowTargets t.urls (records_of c.args.realm.now)) (sym (c.set_stage.ensures l at)) c.requires.known
 
 pub returns-else-waits-clause-kept : goal.returns-else-waits-clause-kept
 returns-else-waits-clause-kept c =

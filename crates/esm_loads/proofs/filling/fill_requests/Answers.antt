@@ -2,9 +2,11 @@
 use Rattle.std.proofs.Common.{◌≡◌, Some, ◌+◌, ◌<◌, ◌∙◌, sym, subst, length, arith, refl}
 use Rattle.std.specs.Prelude.{slice_get}
 use Rattle.esm_realm.specs.Sound.{RecordParts, records_of}
+use Rattle.esm_loads.specs.LoadsView.{urls_of}
 use Rattle.esm_loads.specs.Inner.Filling.{AreIdsBelow, Fills}
 use Rattle.esm_loads.proofs.Places.{get_within, some_is}
 use Rattle.esm_loads.proofs.FillFacts as facts
+use Rattle.esm_loads.proofs.KnownPlaces.{fills_targets, known_same}
 use Rattle.esm_loads.proofs.filling.fill_requests.Goals as goal
 
 pub loop-request-init : goal.loop-request-init
@@ -16,6 +18,14 @@ loop-request-init c = record {
 
 pub fill_request-requires-clause-below : goal.fill_request-requires-clause-below
 fill_request-requires-clause-below c = subst (AreIdsBelow c.args.urls.now.slots) (sym c.loop-request.invariant.long) c.requires.below
+
+pub fill_request-requires-clause-known : goal.fill_request-requires-clause-known
+fill_request-requires-clause-known c =
+    let v = c.args.urls.now in
+    let R = records_of c.args.realm.now in
+    let r = get_within R c.args.id.0 c.requires.id in
+    let same = fills_targets v.slots c.loop-request.request c.args.id.0 r.0 R (records_of c.loop-request.realm) r.1 (c.loop-request.invariant.fills r.0 r.1) in
+    known_same (urls_of v.slots) v.starts v.places R (records_of c.loop-request.realm) same c.requires.known
 
 pub fill_request-requires-clause-id : goal.fill_request-requires-clause-id
 fill_request-requires-clause-id c = subst (λ n. c.args.id.0 < n) (sym c.loop-request.invariant.long) c.requires.id

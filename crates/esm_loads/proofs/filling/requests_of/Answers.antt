@@ -12,7 +12,7 @@ index-requires c = let h = map_long parts_of c.args.realm.now.records.items in o
 pub returns : goal.returns
 returns c r e =
     let xs = c.args.realm.now.records.items in
-    let inside = subst (λ n. c.args.id.0 < n) (map_long parts_of xs) c.requires in
-    let is = some_is (sym (parts_get xs c.args.id.0 c.index.result.now (index_get xs c.args.id.0 c.index.result.now inside c.index.ensures)) ∙ e) in
+    let inside = subst (λ n. c.args.id < n) (map_long parts_of xs) c.requires in
+    let is = some_is (sym (parts_get xs c.args.id c.index.result.now (index_get xs c.args.id c.index.result.now inside c.index.ensures)) ∙ e) in
     let same : length c.index.result.now.targets.items ≡ length r.targets = ap (λ (r : RecordParts). length r.targets) is in
     omega (arith, c.len.ensures, same, c.index.result.now.targets.ok.0)

@@ -2,15 +2,23 @@
 use Rattle.std.proofs.Common.{◌<◌, ◌∙◌, ap, sym, subst, length, arith}
 use Rattle.std.specs.Prelude.{◌||◌, slice_index_or}
 use Rattle.esm_realm.specs.Sound.{records_of}
-use Rattle.esm_loads.specs.LoadsView.{is_in, is_unlinked}
+use Rattle.esm_loads.specs.LoadsView.{is_in, is_unlinked, urls_of}
 use Rattle.esm_loads.specs.Inner.Filling.{AreIdsBelow}
 use Rattle.esm_loads.proofs.Places.{get_at, get_within}
 use Rattle.esm_loads.proofs.Unlinks as lists
 use Rattle.esm_loads.proofs.FillFacts as facts
+use Rattle.esm_loads.proofs.KnownPlaces.{known_same, targets_stale}
 use Rattle.esm_loads.proofs.filling.unlink.Goals as goal
 
 pub unlink_one-requires-clause-below : goal.unlink_one-requires-clause-below
 unlink_one-requires-clause-below c = subst (AreIdsBelow c.args.urls.now.slots) (sym (lists.long_stale (records_of c.args.realm.now) (records_of c.loop-i.realm) c.loop-i.invariant.same)) c.requires.below
+
+pub unlink_one-requires-clause-known : goal.unlink_one-requires-clause-known
+unlink_one-requires-clause-known c =
+    let v = c.args.urls.now in
+    let first = records_of c.args.realm.now in
+    let R = records_of c.loop-i.realm in
+    known_same (urls_of v.slots) v.starts v.places first R (targets_stale first R c.loop-i.invariant.same) c.requires.known
 
 pub unlink_one-requires-clause-id : goal.unlink_one-requires-clause-id
 unlink_one-requires-clause-id c =

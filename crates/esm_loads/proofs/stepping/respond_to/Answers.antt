@@ -32,7 +32,7 @@ returns-in-Ok-settle_load-clause-answered c named maps e at =
     )
 
 pub returns-in-Ok-settle_load-clause-fits : goal.returns-in-Ok-settle_load-clause-fits
-returns-in-Ok-settle_load-clause-fits c = steps.fits_after c.args.loads.now c.answer.new.loads (records_of c.args.realm.now) (records_of c.answer.new.realm) c.requires.fits c.in-Ok.ensures.joined c.in-Ok.ensures.kept c.in-Ok.ensures.same
+returns-in-Ok-settle_load-clause-fits c = steps.fits_after c.args.loads.now c.answer.new.loads (records_of c.args.realm.now) (records_of c.answer.new.realm) c.requires.fits c.in-Ok.ensures.joined c.in-Ok.ensures.known c.in-Ok.ensures.kept c.in-Ok.ensures.same
 
 pub returns-in-Err-clause-answered : goal.returns-in-Err-clause-answered
 returns-in-Err-clause-answered c named maps e at =
