@@ -6,3 +6,7 @@ pub mod Numbers
 pub mod Calls
 pub mod Jobs
 pub mod OneDirect
+pub mod Quiet
+pub mod QuietTerms
+pub mod QuietMoves
+pub mod QuietBodies
