@@ -32,7 +32,7 @@ use Rattle.esm_order_laws.proofs.Same.{re, value_same, option_same, settled_same
 use Rattle.esm_order_laws.proofs.Moved as loads
 use Rattle.esm_order_laws.proofs.Moved.{asked_so, image, Good, moved, asked_alike, asked_long, begins_moves}
 
-urls_tell_apart : IsSameness same_url
+pub urls_tell_apart : IsSameness same_url
 urls_tell_apart = record { own = own_text; equal = same_text }
 
 -- ---- a call begins its own body alone
@@ -60,12 +60,12 @@ begins_other {v} {w} {c} p x h = by (call_begins p).starts_are
     by (inl e) = inl (sym (begun_alike v w e x) ∙ h)
     by (inr e) = on (in_last (starts v) (module_of c) x (sym (ap (λ xs. has xs x) e) ∙ sym (begun_is w x) ∙ h))
 
-begins_its_own : BeginsOne evaluation CallsForBody
+pub begins_its_own : BeginsOne evaluation CallsForBody
 begins_its_own = record { call = λ w v c r p x h. begins_other p x h }
 
 -- ---- renaming by the same names
 
-node_same : (n : Node Url (Value Url)) → named_node itself (λ (v : Value Url). v) n ≡ n
+pub node_same : (n : Node Url (Value Url)) → named_node itself (λ (v : Value Url). v) n ≡ n
 node_same n = λ i. record n {
   error = option_same (λ (v : Value Url). v) (λ v. refl) n.error i;
   cycle_root = option_same (λ (u : Url). u) (λ u. refl) n.cycle_root i;
@@ -73,14 +73,14 @@ node_same n = λ i. record n {
   waiters = map-id n.waiters i;
 }
 
-abbrev named_result : (c : Call Url) → Result (CallAnswer (Value Url) c) Limit → Result (CallAnswer (Value Url) (named_call itself (λ (v : Value Url). v) c)) Limit
+abbrev pub named_result : (c : Call Url) → Result (CallAnswer (Value Url) c) Limit → Result (CallAnswer (Value Url) (named_call itself (λ (v : Value Url). v) c)) Limit
 named_result c r = mapped_result itself (λ (v : Value Url). v) c r
 
-start_same : (m : Url) (done : ℕ) (end : Result (Unit {0}) Limit) → end ≡ named_result (Start m done) end
+pub start_same : (m : Url) (done : ℕ) (end : Result (Unit {0}) Limit) → end ≡ named_result (Start m done) end
 start_same m done (Ok tt) = refl
 start_same m done (Err why) = refl
 
-run_same : (m : Url) (end : Result (Ran (Value Url)) Limit) → mapped_end re end ≡ named_result (Run m) end
+pub run_same : (m : Url) (end : Result (Ran (Value Url)) Limit) → mapped_end re end ≡ named_result (Run m) end
 run_same m (Ok ran.Normal) = refl
 run_same m (Ok (ran.Thrown v)) = ap (λ u. Ok (ran.Thrown u)) (value_same v)
 run_same m (Err why) = refl

@@ -10,3 +10,5 @@ pub mod Quiet
 pub mod QuietTerms
 pub mod QuietMoves
 pub mod QuietBodies
+pub mod CleanCalls
+pub mod CleanJobs
