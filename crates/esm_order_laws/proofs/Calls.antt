@@ -37,7 +37,7 @@ urls_tell_apart = record { own = own_text; equal = same_text }
 
 -- ---- a call begins its own body alone
 
-in_last : (us : List Url) (m x : Url) → has (us ++ m ∷ []) x ≡ true → (has us x ≡ true) ⊎ (x ≡ m)
+pub in_last : (us : List Url) (m x : Url) → has (us ++ m ∷ []) x ≡ true → (has us x ≡ true) ⊎ (x ≡ m)
 in_last us m x h = by (or_cases (has us x) (has (m ∷ []) x) (sym (has_append us (m ∷ []) x) ∙ h))
   where
     own : (same_url x m ≡ true) ⊎ (false ≡ true) → x ≡ m

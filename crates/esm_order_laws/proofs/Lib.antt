@@ -12,3 +12,4 @@ pub mod QuietMoves
 pub mod QuietBodies
 pub mod CleanCalls
 pub mod CleanJobs
+pub mod LoadPhase

@@ -20,7 +20,7 @@ past_is (x ∷ xs) new = past_is xs new
 
 -- ---- a test of members
 
-any_in : (f : Url → Bool) (us : List Url) (u : Url) → has us u ≡ true → f u ≡ true → list_any f us ≡ true
+pub any_in : (f : Url → Bool) (us : List Url) (u : Url) → has us u ≡ true → f u ≡ true → list_any f us ≡ true
 any_in f [] u h k = cc
 any_in f (x ∷ us) u h k = by (or_cases (same_url u x) (has us u) h) (λ e. any_in f us u e k)
   where
