@@ -13,3 +13,5 @@ pub mod QuietBodies
 pub mod CleanCalls
 pub mod CleanJobs
 pub mod LoadPhase
+pub mod RunPhase
+pub mod OrderFree
