@@ -1,10 +1,9 @@
 -- Bodies and evaluation, where the asked URLs stand in another order.
-use Rattle.std.proofs.Common.{◌≡◌, ◌⊎◌, inl, inr, ℕ, Bool, true, false, List, [], ◌∷◌, ◌++◌, length, map, Option, Some, None, refl, ap, subst, sym, ◌∙◌, map-id}
+use Rattle.std.proofs.Common.{◌≡◌, ◌⊎◌, inl, inr, ℕ, true, false, List, [], ◌∷◌, ◌++◌, length, refl, ap, subst, sym, ◌∙◌, map-id}
 use Rattle.std.specs.Prelude.{Result, Ok, Err, ⊤}
-use Rattle.std.specs.Option.{option_map}
 use Rattle.esm_base.specs.declared.limits.Limit.{Limit}
 use Rattle.esm_base.specs.Lists.{IsSameness}
-use Rattle.esm_base.specs.Urls.{Text, Url, has, same_url}
+use Rattle.esm_base.specs.Urls.{Url, has, same_url}
 use Rattle.esm_realm.proofs.Urls.{has_append, or_cases, own_text, same_text}
 use Rattle.esm_values.specs.Value.{Value}
 use Rattle.esm_values.specs.Ran.{Ran}
@@ -16,21 +15,20 @@ use Rattle.esm_loads.specs.Host.{Host}
 use Rattle.esm_loads.specs.ImportCall.{BeginsImport}
 use Rattle.esm_eval.specs.Nodes.{Node, Call, CallAnswer, Start, Run, module_of}
 use Rattle.esm_eval.specs.Begins.{BeginsOne}
-use Rattle.esm_eval.specs.Naming.{named_node, named_call, mapped_result, Matches, WritesStay, CallsFollow, EvaluationFollows}
+use Rattle.esm_eval.specs.Naming.{named_node, named_call, mapped_result, Matches, WritesStay, EvaluationFollows}
 use Rattle.esm_eval.proofs.Named.{evaluation_follows_names}
 use Rattle.esm_rewriting.specs.State.{State}
 use Rattle.esm_rewriting.specs.Bodies.{StartsBody, RunsBody, ResumesBody}
 use Rattle.esm_rewriting.specs.Naming.{ImportsFollow, BodiesFollow, mapped_end, renamed_outer, renamed_state}
 use Rattle.esm_rewriting.proofs.NamedBodies.{follows_names}
-use Rattle.esm_world.specs.World.{World, modules_in, body_state, with_state}
+use Rattle.esm_world.specs.World.{World, modules_in, with_state}
 use Rattle.esm_world.specs.Layers.{CallsForBody, evaluation}
 use Rattle.esm_world.proofs.StartsOnce.{starts, begun_is, begun_alike, call_begins, lawful, steady}
 use Rattle.esm_order_laws.proofs.Itself.{itself}
 use Rattle.esm_order_laws.proofs.Lists.{Alike}
 use Rattle.esm_order_laws.proofs.Numbers.{are_named}
 use Rattle.esm_order_laws.proofs.Same.{re, value_same, option_same, settled_same, outer_same, state_same}
-use Rattle.esm_order_laws.proofs.Moved as loads
-use Rattle.esm_order_laws.proofs.Moved.{asked_so, image, Good, moved, asked_alike, asked_long, begins_moves}
+use Rattle.esm_order_laws.proofs.Moved.{asked_so, image, Good, asked_alike, asked_long, begins_moves}
 
 pub urls_tell_apart : IsSameness same_url
 urls_tell_apart = record { own = own_text; equal = same_text }

@@ -1,7 +1,6 @@
 -- Bodies and evaluation in two worlds whose modules are the same, where no tree holds an import(): the one does what the other does.
-use Rattle.std.proofs.Common.{◌≡◌, ℕ, Bool, true, false, List, [], ◌∷◌, length, map, Option, Some, None, refl, ap, subst, sym, ◌∙◌, map-id}
-use Rattle.std.specs.Prelude.{Result, Ok, Err, ⊤}
-use Rattle.std.specs.Option.{option_map}
+use Rattle.std.proofs.Common.{◌≡◌, ℕ, false, length, refl, ap, subst, sym, ◌∙◌, map-id}
+use Rattle.std.specs.Prelude.{Result, ⊤}
 use Rattle.esm_base.specs.declared.limits.Limit.{Limit}
 use Rattle.esm_base.specs.Urls.{Url, same_url}
 use Rattle.esm_ast.specs.Entries.{entries_of}
@@ -12,10 +11,9 @@ use Rattle.esm_promise.specs.Renaming.{renamed_settled}
 use Rattle.esm_env.specs.Naming.{AreNamed}
 use Rattle.esm_loads.specs.UrlTable.{Entries, body_in}
 use Rattle.esm_loads.specs.Loading.{Loading, body}
-use Rattle.esm_loads.specs.Host.{Host}
 use Rattle.esm_loads.specs.ImportCall.{BeginsImport}
 use Rattle.esm_link.specs.Link.{targets}
-use Rattle.esm_eval.specs.Nodes.{Node, Call, CallAnswer, Start, Run}
+use Rattle.esm_eval.specs.Nodes.{Call, CallAnswer, Start, Run}
 use Rattle.esm_eval.specs.Naming.{named_call, Matches, WritesStay, EvaluationFollows}
 use Rattle.esm_eval.proofs.Named.{evaluation_follows_names}
 use Rattle.esm_rewriting.specs.State.{State}
@@ -32,7 +30,7 @@ use Rattle.esm_order_laws.proofs.Numbers.{are_named}
 use Rattle.esm_order_laws.proofs.Same.{re, settled_same, state_same}
 use Rattle.esm_order_laws.proofs.Calls.{urls_tell_apart, begins_its_own, node_same, named_result, start_same, run_same}
 use Rattle.esm_order_laws.proofs.QuietMoves.{Nowhere}
-use Rattle.esm_order_laws.proofs.QuietBodies.{Calm, QuietStanding, starts_quiet, runs_quiet, resumes_quiet}
+use Rattle.esm_order_laws.proofs.QuietBodies.{Calm, starts_quiet, runs_quiet, resumes_quiet}
 
 -- the same modules and loads, asked in any order
 pub record SameModules (l k : Loading) : Type 0 where

@@ -1,6 +1,6 @@
 -- Jobs in two worlds whose modules are the same, where no tree holds an import().
-use Rattle.std.proofs.Common.{◌≡◌, ℕ, Bool, true, false, List, [], ◌∷◌, length, map, Option, Some, None, refl, ap, subst, sym, ◌∙◌, map-id}
-use Rattle.std.specs.Prelude.{Result, Ok, Err, ⊤, slice_get}
+use Rattle.std.proofs.Common.{◌≡◌, ℕ, List, map, Option, Some, None, refl, ap, subst, sym, ◌∙◌, map-id}
+use Rattle.std.specs.Prelude.{Result, Ok, Err, slice_get}
 use Rattle.std.specs.Option.{option_map, option_or}
 use Rattle.esm_base.specs.declared.limits.Limit.{Limit}
 use Rattle.esm_base.specs.Urls.{Text, Url, same_url}
@@ -19,10 +19,9 @@ use Rattle.esm_link.specs.Link.{IsLinking}
 use Rattle.esm_link.specs.Naming.{named_fault}
 use Rattle.esm_link.proofs.Named.{linking_follows_names}
 use Rattle.esm_eval.specs.Begins.{HaveBegunOnce}
-use Rattle.esm_eval.specs.Evaluate.{Evaluates}
 use Rattle.esm_rewriting.specs.Acts.{Displays}
 use Rattle.esm_world.specs.World.{World, modules_in, body_state, stopped}
-use Rattle.esm_world.specs.Layers.{CallsForBody, evaluation, LinksTo, with_linked, with_promises}
+use Rattle.esm_world.specs.Layers.{evaluation, LinksTo, with_linked, with_promises}
 use Rattle.esm_world.specs.Jobs.{LinksLoad, EvaluatesLoad, Reacts, Jobs, when_evaluated}
 use Rattle.esm_world.specs.Jobs.Reacts.{entry_linked, entry_fault, entry_refused, entry_ended, entry_threw, linked, fault, refused, evaluated, threw, body_ended, body_threw, resumes}
 use Rattle.esm_world.specs.LastLine.{Ending, Stopped, Uncaught, Done, Pending, IsLastLine}
@@ -55,7 +54,7 @@ module _ (l k : Loading) (both : SameModules l k) (none : NoImports l) where
   links_moves : (w : World) → Fit w → (root : Url) (f : Option (FaultAt Url)) (after : List Url) → LinksTo w root f after → LinksTo (seen w) root f after
   links_moves w g root f after p =
       let h = linking_follows_names itself same_url same_url (modules_in w.loading) (modules_in (seen w).loading) (λ x y. refl)
-          (names_are l k both none w.loading g.1) in
+      (names_are l k both none w.loading g.1) in
       subst (λ us. IsLinking same_url (modules_in (seen w).loading) us root f after) (map-id w.linked)
       (subst (λ k. IsLinking same_url (modules_in (seen w).loading) (map (λ (u : Url). u) w.linked) root k after) (option_same (named_fault itself) (λ k. refl) f)
       (subst (λ us. IsLinking same_url (modules_in (seen w).loading) (map (λ (u : Url). u) w.linked) root (option_map (named_fault itself) f) us) (map-id after)

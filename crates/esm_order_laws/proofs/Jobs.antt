@@ -1,10 +1,9 @@
 -- Jobs, where the asked URLs stand in another order.
-use Rattle.std.proofs.Common.{◌≡◌, ℕ, Bool, true, false, List, [], ◌∷◌, ◌++◌, length, map, Option, Some, None, refl, ap, subst, sym, ◌∙◌, map-id}
-use Rattle.std.specs.Prelude.{Result, Ok, Err, ⊤, codes}
+use Rattle.std.proofs.Common.{◌≡◌, ℕ, List, length, map, Option, Some, refl, ap, subst, sym, ◌∙◌, map-id}
+use Rattle.std.specs.Prelude.{Result, Ok, Err}
 use Rattle.std.specs.Option.{option_map}
 use Rattle.esm_base.specs.declared.limits.Limit.{Limit}
-use Rattle.esm_base.specs.Urls.{Text, Url, same_url}
-use Rattle.esm_realm.specs.Laws.{AreDistinct}
+use Rattle.esm_base.specs.Urls.{Url, same_url}
 use Rattle.esm_values.specs.Value.{Value}
 use Rattle.esm_promise.specs.Promises.{Promises, Settled, Job}
 use Rattle.esm_promise.specs.Reactions.{Reaction, EntryLoaded, EntryDone, Loaded, Evaluated}
@@ -13,12 +12,11 @@ use Rattle.esm_link.specs.Link.{IsLinking}
 use Rattle.esm_link.specs.Naming.{named_fault}
 use Rattle.esm_link.proofs.Named.{linking_follows_names}
 use Rattle.esm_eval.specs.Begins.{HaveBegunOnce}
-use Rattle.esm_eval.specs.Evaluate.{Evaluates}
-use Rattle.esm_world.specs.World.{World, modules_in, stopped}
-use Rattle.esm_world.specs.Layers.{CallsForBody, evaluation, LinksTo, with_linked, with_promises}
+use Rattle.esm_world.specs.World.{World, modules_in}
+use Rattle.esm_world.specs.Layers.{evaluation, LinksTo, with_linked, with_promises}
 use Rattle.esm_world.specs.Jobs.{LinksLoad, EvaluatesLoad, Reacts, Jobs, when_evaluated}
 use Rattle.esm_world.specs.Jobs.Reacts.{entry_linked, entry_fault, entry_refused, entry_ended, entry_threw, linked, fault, refused, evaluated, threw, body_ended, body_threw, resumes}
-use Rattle.esm_world.proofs.StartsOnce.{Once, starts, calm_same, reacts_once}
+use Rattle.esm_world.proofs.StartsOnce.{Once, calm_same, reacts_once}
 use Rattle.esm_world.proofs.OneRun.{reacts_one}
 use Rattle.esm_order_laws.proofs.Itself.{itself}
 use Rattle.esm_order_laws.proofs.Lists.{Alike}
@@ -42,7 +40,7 @@ module _ (xs ys : List Url) (alike : Alike xs ys) (long : length ys ≡ length x
   links_moves : (w : World) → Fine w → (root : Url) (f : Option (FaultAt Url)) (after : List Url) → LinksTo w root f after → LinksTo (seen w) root f after
   links_moves w g root f after p =
       let h = linking_follows_names itself same_url same_url (modules_in w.loading) (modules_in (seen w).loading) (λ x y. refl)
-          (are_named w.loading (asked_so xs ys alike long w.loading.asked) (asked_alike xs ys alike long w.loading g) (asked_long xs ys alike long w.loading g)) in
+      (are_named w.loading (asked_so xs ys alike long w.loading.asked) (asked_alike xs ys alike long w.loading g) (asked_long xs ys alike long w.loading g)) in
       subst (λ us. IsLinking same_url (modules_in (seen w).loading) us root f after) (map-id w.linked)
       (subst (λ k. IsLinking same_url (modules_in (seen w).loading) (map (λ (u : Url). u) w.linked) root k after) (option_same (named_fault itself) (λ k. refl) f)
       (subst (λ us. IsLinking same_url (modules_in (seen w).loading) (map (λ (u : Url). u) w.linked) root (option_map (named_fault itself) f) us) (map-id after)

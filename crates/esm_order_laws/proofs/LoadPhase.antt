@@ -1,6 +1,6 @@
 -- Loading of clean files: the entry's load goes on over modules of the closure, and is complete where none of its requests is pending.
-use Rattle.std.proofs.Common.{◌≡◌, ◌⊎◌, inl, inr, ℕ, zero, suc, ◌==◌, Bool, true, false, cond, List, [], ◌∷◌, ◌++◌, length, nat_lt, Option, Some, None, refl, ap, subst, sym, ◌∙◌}
-use Rattle.std.specs.Prelude.{◌||◌, slice_get, slice_set, ⊤}
+use Rattle.std.proofs.Common.{◌≡◌, ◌⊎◌, inl, inr, ℕ, ◌==◌, Bool, true, false, cond, List, [], ◌∷◌, ◌++◌, length, nat_lt, Option, Some, None, refl, ap, subst, sym, ◌∙◌}
+use Rattle.std.specs.Prelude.{slice_get, slice_set, ⊤}
 use Rattle.std.specs.List.{list_any}
 use Rattle.esm_base.specs.declared.limits.Limit.{Limit}
 use Rattle.esm_base.specs.declared.limits.TheConstants.{MAX_URLS}
@@ -13,12 +13,11 @@ use Rattle.esm_realm.specs.Records.{ModuleRecord}
 use Rattle.esm_realm.proofs.Urls.{has_own, or_true, or_left, same_text, not_both, not_true}
 use Rattle.esm_loads.specs.UrlTable.{TableEntry, Module, Throw, thrown_by, put_at, with_url, no_urls, targets_in, built_by, script_by, found}
 use Rattle.esm_loads.specs.UrlTable.{Found as founds}
-use Rattle.esm_loads.specs.Loading.{Loading, PendingRequest, Root, Request, OpenLoad, LoadState, Asked, Open, LoadComplete, Purpose, ForEntry, open_load, open_load_in, begin, visit, finish, finish_by, has_pending, is_of, ask, ask_by, add_pending, load_of, targets}
+use Rattle.esm_loads.specs.Loading.{Loading, PendingRequest, Root, Request, OpenLoad, LoadState, Asked, Open, LoadComplete, ForEntry, open_load, open_load_in, begin, visit, finish, finish_by, has_pending, is_of, ask_by, load_of, targets}
 use Rattle.esm_loads.specs.Load.{Enters, Asks, Answers}
 use Rattle.esm_loads.specs.Load.Enters.{ended, known, enters}
 use Rattle.esm_loads.specs.Load.Asks.{no_more, over, waits, throws, loads}
 use Rattle.esm_loads.specs.Load.Answers.{no_root, no_module, root, request}
-use Rattle.esm_loads.proofs.Orderly.{put_own, put_other}
 use Rattle.esm_world.specs.ImportCalls.{holds_import}
 use Rattle.esm_world.specs.Direct.{Closure, itself, requested, IsClean, file_entries, entry_by, entry_found}
 use Rattle.esm_order_laws.proofs.Calls.{in_last}

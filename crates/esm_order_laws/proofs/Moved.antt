@@ -6,7 +6,7 @@ use Rattle.esm_base.specs.declared.limits.Limit.{Limit}
 use Rattle.esm_base.specs.declared.limits.TheConstants.{MAX_URLS}
 use Rattle.esm_base.specs.Urls.{Text, Url, has}
 use Rattle.esm_realm.proofs.Urls.{has_append}
-use Rattle.esm_loads.specs.UrlTable.{TableEntry, Throw, New, Kept, thrown_by, specifier_error}
+use Rattle.esm_loads.specs.UrlTable.{TableEntry, Throw, New, Kept, thrown_by}
 use Rattle.esm_loads.specs.Loading.{Loading, PendingRequest, Root, Request, OpenLoad, LoadState, Asked, Open, LoadComplete, Thrown, Purpose, ForEntry, ForImport, is_of, has_pending, open_load, finish, finish_by, add_pending, ask, ask_by, load_of}
 use Rattle.esm_loads.specs.Load.{Enters, Asks, Answers}
 use Rattle.esm_loads.specs.Load.Enters.{ended, known, enters}
@@ -168,7 +168,7 @@ module _ (xs ys : List Url) (alike : Alike xs ys) (long : length ys ≡ length x
       let r = answers_moves (begin_good h a u e g) q in
       let after : Host = with_loading (begin_load h a u e) l in
       let is : settle_load (with_loading (begin_load (moved h) a u e) (image l)) (load_of a) ≡ moved (settle_load after (load_of a)) =
-          ap (λ k. settle_load (with_loading k (image l)) (load_of a)) begun ∙ settles after (load_of a) in (
+      ap (λ k. settle_load (with_loading k (image l)) (load_of a)) begun ∙ settles after (load_of a) in (
         subst (λ k. Answered (moved h) a u e k) is (answered (subst (λ (k : Host). Answers k.imports a u e (image l)) (sym begun) r.0)),
         subst Good (sym (settled_imports after (load_of a))) r.1,
       )
@@ -180,7 +180,7 @@ module _ (xs ys : List Url) (alike : Alike xs ys) (long : length ys ≡ length x
   imports_moves {h} {referrer = referrer} {specifier = specifier} {promise = promise} g (Imports.asks u room r n) =
       let l : Loading = (add_load (counted h) promise).imports in
       let is : ask_root (add_load (counted (moved h)) promise) (next_load h) u ≡ moved (ask_root (add_load (counted h) promise) (next_load h) u) =
-          ap (λ k. with_loading (add_load (counted h) promise) k) (ask_moves l g u (Root (next_load h))) in (
+      ap (λ k. with_loading (add_load (counted h) promise) k) (ask_moves l g u (Root (next_load h))) in (
         subst (λ k. Imports (moved h) referrer specifier promise k) is (Imports.asks u room r n),
         ask_good l g u (Root (next_load h)),
       )

@@ -1,20 +1,19 @@
 -- All direct runs of clean files show the same.
-use Rattle.std.proofs.Common.{◌≡◌, ℕ, ◌≤◌, Bool, true, false, List, [], ◌∷◌, ◌++◌, length, Option, Some, None, refl, ap, subst, sym, ◌∙◌, arith, append-nil}
+use Rattle.std.proofs.Common.{◌≡◌, Bool, List, [], ◌++◌, length, Option, Some, None, refl, ap, subst, sym, ◌∙◌, arith, append-nil}
 use Rattle.esm_base.specs.Urls.{Text, Url, has, same_url}
 use Rattle.esm_tree.specs.Syntax.{Item}
 use Rattle.esm_import_map.specs.ImportMap.{Maps}
 use Rattle.esm_ast.specs.Deliveries.{Files}
-use Rattle.esm_realm.specs.Laws.{AreDistinct}
 use Rattle.esm_realm.proofs.Weigh.{length_within}
 use Rattle.esm_values.specs.Value.{Value}
 use Rattle.esm_values.specs.Value.{Value as value}
 use Rattle.esm_env.proofs.Named as env
 use Rattle.esm_rewriting.specs.Acts.{Displays}
-use Rattle.esm_world.specs.World.{World, world_over, modules_in, body_state, stopped}
+use Rattle.esm_world.specs.World.{World, world_over, modules_in, body_state}
 use Rattle.esm_world.specs.LastLine.{Ending, Stopped, Uncaught, Done, Pending, IsLastLine}
 use Rattle.esm_world.specs.Jobs.{Jobs}
 use Rattle.esm_world.specs.Run.{Shown}
-use Rattle.esm_world.specs.Direct.{Closure, IsClean, AreClosure, DirectRun, ShowsDirect, gathered}
+use Rattle.esm_world.specs.Direct.{AreClosure, ShowsDirect, gathered}
 use Rattle.esm_world.specs.Unproved.{OneDirectRun}
 use Rattle.esm_world.proofs.StartsOnce.{Once, makes_first_calls}
 use Rattle.esm_loads.specs.Host.{Host}

@@ -1,5 +1,5 @@
 -- The order of deliveries doesn't matter: behind the end of the entry's load each run has the same modules, in some order of asking.
-use Rattle.std.proofs.Common.{◌≡◌, ◌⊎◌, inl, inr, ℕ, Bool, true, false, List, [], ◌∷◌, ◌++◌, length, Option, Some, None, refl, ap, subst, sym, ◌∙◌, arith}
+use Rattle.std.proofs.Common.{◌≡◌, ◌⊎◌, inl, inr, Bool, true, false, List, [], ◌∷◌, ◌++◌, length, Option, Some, None, refl, ap, subst, sym, ◌∙◌, arith}
 use Rattle.std.specs.Prelude.{◌≢◌, is_some, option_map, slice_get, codes}
 use Rattle.std.specs.Option.{option_or}
 use Rattle.esm_base.specs.declared.limits.Limit.{Limit}
@@ -16,17 +16,17 @@ use Rattle.esm_loads.specs.Arrival.{open_asks, next}
 use Rattle.esm_loads.specs.Whole.{HasEnded}
 use Rattle.esm_loads.proofs.Whole.{loads_end}
 use Rattle.esm_rewriting.proofs.OneAct.{displays_one}
-use Rattle.esm_world.specs.World.{World, EntryState, Underway, Ended, Failed, world_over, opening, stopped, modules_in, body_state}
+use Rattle.esm_world.specs.World.{World, EntryState, world_over, opening, stopped, modules_in, body_state}
 use Rattle.esm_world.specs.Jobs.{Jobs}
 use Rattle.esm_world.specs.LastLine.{Ending, Stopped, Uncaught, Done, Pending, ending_by, exit_status, IsLastLine}
-use Rattle.esm_world.specs.Run.{Shown, StandardRun, Runs, asks, ending, shown}
-use Rattle.esm_world.specs.Direct.{IsClean, file_entries}
+use Rattle.esm_world.specs.Run.{Runs, asks, ending, shown}
+use Rattle.esm_world.specs.Direct.{IsClean}
 use Rattle.esm_world.proofs.RunsIdle.{turns_leave_nothing}
 use Rattle.esm_order_laws.specs.OrderFree.{ShowSame, HasEndedWithin, OrderFree}
 use Rattle.esm_order_laws.proofs.CleanCalls.{SameModules, NoImports, world_seen}
 use Rattle.esm_order_laws.proofs.CleanJobs.{jobs_moves, line_moves}
 use Rattle.esm_order_laws.proofs.Jobs.{jobs_one}
-use Rattle.esm_order_laws.proofs.Lists.{Alike, both}
+use Rattle.esm_order_laws.proofs.Lists.{both}
 use Rattle.esm_order_laws.proofs.RunPhase.{EarlyHost, ReadyHost, Reached, run_reaches, once_over, no_imports, entry_is, asked_is, closure_of}
 use Rattle.esm_order_laws.proofs.RunPhase.Reached.{waiting, over}
 

@@ -1,7 +1,6 @@
 -- What remains of a body, and holds no import().
-use Rattle.std.proofs.Common.{◌≡◌, ℕ, Bool, true, false, List, [], ◌∷◌, ◌++◌, Option, Some, None, refl, ap, subst, sym, ◌∙◌}
+use Rattle.std.proofs.Common.{◌≡◌, ℕ, Bool, true, false, List, [], ◌∷◌, ◌++◌, Some, refl, ap, subst, ◌∙◌}
 use Rattle.std.specs.Prelude.{◌||◌, ⊤, slice_get, zero, suc}
-use Rattle.std.specs.List.{list_any, flat_map}
 use Rattle.esm_tree.specs.Syntax.{Expr, Exprs, Compared, Links, Init, Bindings, Stmt, Stmts, Item}
 use Rattle.esm_tree.specs.Syntax as x
 use Rattle.esm_realm.proofs.Urls.{or_false}
@@ -12,8 +11,8 @@ use Rattle.esm_expr_eval.specs.Terms.{Term as t}
 use Rattle.esm_expr_eval.specs.Terms.{Terms as ts}
 use Rattle.esm_expr_eval.specs.Terms.{Compared as pairs}
 use Rattle.esm_expr_eval.specs.Terms.{LinkTerms as ls}
-use Rattle.esm_env.specs.Declarations.{FunctionCode, function_code, functions_by, functions_of, function_at, body_of, does, onto}
-use Rattle.esm_rewriting.specs.Rest.{Use, Part, Rest, end, more, whole, begin, block, branch, does_init, does_bindings, fill_part, fill_rest}
+use Rattle.esm_env.specs.Declarations.{FunctionCode, functions_by, functions_of, function_at, body_of, does, onto}
+use Rattle.esm_rewriting.specs.Rest.{Use, Part, Rest, end, more, whole, begin, branch, does_init, does_bindings, fill_part, fill_rest}
 use Rattle.esm_rewriting.specs.Rest.{Use as u}
 use Rattle.esm_rewriting.specs.Rest.{Part as p}
 use Rattle.esm_world.specs.ImportCalls.{expr_imports, exprs_import, compared_import, links_import, init_imports, bindings_import, stmt_imports, stmts_import, item_imports, holds_import}

@@ -1,5 +1,5 @@
 -- Calls for bodies, where no tree holds an import(): they do the same, however an import() would begin, and leave loading as it is.
-use Rattle.std.proofs.Common.{◌≡◌, ℕ, Bool, true, false, List, [], ◌∷◌, ◌++◌, length, nat_lt, Option, Some, None, refl, ap, subst, sym, ◌∙◌}
+use Rattle.std.proofs.Common.{◌≡◌, ℕ, Bool, true, false, List, [], ◌∷◌, ◌++◌, length, nat_lt, Option, Some, None, refl, subst, sym, ◌∙◌}
 use Rattle.std.specs.Prelude.{Result, Ok, Err, ⊤, ◌+◌}
 use Rattle.esm_base.specs.declared.limits.Limit.{Limit}
 use Rattle.esm_base.specs.declared.limits.TheConstants.{MAX_LOG_BYTES}
@@ -8,16 +8,14 @@ use Rattle.esm_values.specs.Value.{Value, Undefined}
 use Rattle.esm_values.specs.Ran.{Ran}
 use Rattle.esm_values.specs.Ran.{Ran as ran}
 use Rattle.esm_promise.specs.Promises.{Settled, Fulfilled, Rejected}
-use Rattle.esm_promise.specs.Outer.{Outer}
-use Rattle.esm_expr_eval.specs.Terms.{Term}
 use Rattle.esm_env.specs.Declarations.{body_of}
 use Rattle.esm_env.specs.Modules.{Modules}
 use Rattle.esm_rewriting.specs.Rest.{Rest, whole}
 use Rattle.esm_rewriting.specs.State.{Event, Begins, Ends, Throws, Standing, State, Importing, AnswerWith, event_line, line_by, event_behind, note_by, note}
 use Rattle.esm_rewriting.specs.Segment.{Ended, Normal, Thrown, Awaiting, Stopped, Segment}
-use Rattle.esm_rewriting.specs.Bodies.{Taken, behind, take_by, take_standing, settle_done, segment_end, ran_by, body_end, given_by, url_in, without_standing, StartsBody, RunsBody, ResumesBody}
+use Rattle.esm_rewriting.specs.Bodies.{Taken, behind, take_by, take_standing, settle_done, segment_end, ran_by, body_end, given_by, url_in, StartsBody, RunsBody, ResumesBody}
 use Rattle.esm_world.specs.ImportCalls.{holds_import}
-use Rattle.esm_world.proofs.OuterKeeps.{LastsOuter, KeepsAround, around, segment_around}
+use Rattle.esm_world.proofs.OuterKeeps.{LastsOuter, segment_around}
 use Rattle.esm_order_laws.proofs.Quiet.{Quiet, QuietRest, whole_quiet, rest_filled, body_quiet}
 use Rattle.esm_order_laws.proofs.QuietMoves.{Nowhere, QuietEnd, segments_quiet}
 

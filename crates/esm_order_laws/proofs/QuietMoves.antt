@@ -1,6 +1,6 @@
 -- What remains of a body, where no tree holds an import(), goes on the same, however an import() would begin.
-use Rattle.std.proofs.Common.{◌≡◌, ℕ, Bool, true, false, List, [], ◌∷◌, length, Option, Some, None, refl, ap, subst, sym, ◌∙◌}
-use Rattle.std.specs.Prelude.{nat_lt, Result, ⊤}
+use Rattle.std.proofs.Common.{◌≡◌, ℕ, Bool, true, false, List, [], ◌∷◌, length, Option, Some, None, refl, subst, ◌∙◌}
+use Rattle.std.specs.Prelude.{nat_lt, ⊤}
 use Rattle.esm_base.specs.declared.limits.Limit.{Limit}
 use Rattle.esm_base.specs.declared.limits.TheConstants.{MAX_CALL_DEPTH}
 use Rattle.esm_base.specs.Lists.{IsSameness}
@@ -8,13 +8,10 @@ use Rattle.esm_tree.specs.Syntax.{Stmts}
 use Rattle.esm_values.specs.Value.{Value, Undefined}
 use Rattle.esm_values.specs.Value.{Value as value}
 use Rattle.esm_values.specs.Naming.{Naming}
-use Rattle.esm_values.specs.Acts.{Act, AnswerTo}
 use Rattle.esm_values.specs.Acts.{Act as act}
 use Rattle.esm_values.specs.Completion.{Completion}
-use Rattle.esm_values.specs.Plans.{Rewritten}
 use Rattle.esm_values.specs.Plans.{Rewritten as comes}
 use Rattle.esm_values.specs.Operators.{values, look_of, is_true}
-use Rattle.esm_promise.specs.Outer.{Outer}
 use Rattle.esm_expr_eval.specs.Terms.{Term}
 use Rattle.esm_expr_eval.specs.Terms.Term.{Val, Fails}
 use Rattle.esm_env.specs.Cells.{Cell, Reading}
@@ -24,19 +21,19 @@ use Rattle.esm_env.specs.Naming.{AreNamed}
 use Rattle.esm_env.specs.Writing.{Writing, writing_of}
 use Rattle.esm_env.specs.Writing.{Writing as writing}
 use Rattle.esm_rewriting.specs.Scopes.{Scope, in_scopes}
-use Rattle.esm_rewriting.specs.Rest.{Use, Rest, end, more, whole, begin, fill_rest}
+use Rattle.esm_rewriting.specs.Rest.{Rest, more}
 use Rattle.esm_rewriting.specs.Rest.{Part as part}
 use Rattle.esm_rewriting.specs.Rest.{Use as use_of}
 use Rattle.esm_rewriting.specs.State.{State, Importing, AnswerWith}
-use Rattle.esm_rewriting.specs.Acts.{Inner, Performs, ReadsBy, ReadsMemberOf, set_at, set_name, write_in, write_name, scope_write, module_write, modules_of}
+use Rattle.esm_rewriting.specs.Acts.{Inner, Performs, ReadsBy, ReadsMemberOf, set_at, write_in, write_name, scope_write, module_write, modules_of}
 use Rattle.esm_rewriting.specs.BodyRewriting.{RewrittenBody, On, Gives, Waits, within, caught, wrote, own_url, RewritesBody}
-use Rattle.esm_rewriting.specs.Segment.{Active, active, Ended, Normal, Thrown, Awaiting, Stopped, Next, Goes, Over, called_by, called, call_by, return_to, throw_to, wait_by, next_by, too_deep, Segment}
+use Rattle.esm_rewriting.specs.Segment.{Active, Ended, Normal, Thrown, Awaiting, Stopped, Next, Goes, Over, called_by, called, call_by, return_to, next_by, Segment}
 use Rattle.esm_rewriting.specs.Segment.{Segment as segment}
 use Rattle.esm_rewriting.specs.Naming.{ImportsFollow}
 use Rattle.esm_rewriting.proofs.NamedMoves.{moves_stay}
 use Rattle.esm_world.specs.ImportCalls.{stmts_import, holds_import}
-use Rattle.esm_order_laws.proofs.Quiet.{Quiet, QuietUse, QuietPart, QuietRest, whole_quiet, rest_filled, begin_quiet, branch_quiet, code_quiet}
-use Rattle.esm_order_laws.proofs.QuietTerms.{NotImport, QuietCame, inside_quiet, QuietPlan, ActAlike, follows_quiet, rewrites_quiet}
+use Rattle.esm_order_laws.proofs.Quiet.{Quiet, QuietRest, whole_quiet, rest_filled, begin_quiet, branch_quiet, code_quiet}
+use Rattle.esm_order_laws.proofs.QuietTerms.{QuietCame, inside_quiet, QuietPlan, ActAlike, follows_quiet, rewrites_quiet}
 
 -- each module by its own name
 abbrev pub one_of : {N : Type 0} (n m : N) → Some n ≡ Some m → m ≡ n
@@ -152,9 +149,9 @@ module _ {N I : Type 0} (same : N → N → Bool) (modules : I → Modules N) (b
     moves_quiet {w} q (RewritesBody.sets {x = x} {v = v} {rest = rest}) =
         (subst (λ a. RewritesBody same modules Nowhere m w (more (part.Does (use_of.Sets x) (Val v)) rest) (On (comes.Goes rest)) a) (set_alike w.scopes w.state x v) RewritesBody.sets, q.1)
     moves_quiet {w} q (RewritesBody.writes {x = x} {v = v} {rest = rest}) = (
-        subst (λ (k : Option V × Inner N I). RewritesBody same modules Nowhere m w (more (part.Does (use_of.Writes x) (Val v)) rest) (wrote rest k.0) k.1) (write_alike w x v) RewritesBody.writes,
-        wrote_quiet rest (write_name same modules begins m w x v).0 q.1,
-      )
+      subst (λ (k : Option V × Inner N I). RewritesBody same modules Nowhere m w (more (part.Does (use_of.Writes x) (Val v)) rest) (wrote rest k.0) k.1) (write_alike w x v) RewritesBody.writes,
+      wrote_quiet rest (write_name same modules begins m w x v).0 q.1,
+    )
     moves_quiet q RewritesBody.throws = (RewritesBody.throws, tt)
     moves_quiet q RewritesBody.returns = (RewritesBody.returns, tt)
     moves_quiet q (RewritesBody.prints {rest = rest} p) =

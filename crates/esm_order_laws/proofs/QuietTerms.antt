@@ -1,5 +1,5 @@
 -- An expression that holds no import() is rewritten the same, however an import() would begin.
-use Rattle.std.proofs.Common.{◌≡◌, ℕ, Bool, true, false, List, [], ◌∷◌, Option, Some, None, refl}
+use Rattle.std.proofs.Common.{ℕ, Bool, true, false, List, [], Option, Some, None}
 use Rattle.std.specs.Prelude.{Ok, Err, Result, nat_lt, length, if◌then◌else◌, codes, ◌/◌, ⊤}
 use Rattle.esm_base.specs.declared.limits.TheConstants.{MAX_TEXT_BYTES}
 use Rattle.esm_values.specs.declared.limits.TheConstants.{BYTES_PER_STEP}
@@ -21,7 +21,7 @@ use Rattle.esm_expr_eval.specs.Terms.{Terms as terms}
 use Rattle.esm_expr_eval.specs.Terms.{Compared as pairs}
 use Rattle.esm_expr_eval.specs.Terms.{LinkTerms as links}
 use Rattle.esm_expr_eval.specs.Rewriting.{or_on, and_on, enters, called, printed, error_made, Rewrites, RewritesIn}
-use Rattle.esm_order_laws.proofs.Quiet.{Quiet, AllQuiet, QuietCompared, QuietLinks}
+use Rattle.esm_order_laws.proofs.Quiet.{Quiet, AllQuiet, QuietLinks}
 
 abbrev pub NotImport : {V : Type 0} → Act V → Type 0
 NotImport (act.Read x) = ⊤

@@ -1,6 +1,6 @@
 -- A run of clean files: nothing is evaluated until the entry's load is complete, and then no delivery is left.
-use Rattle.std.proofs.Common.{◌≡◌, ◌⊎◌, inl, inr, ℕ, Bool, true, false, cond, List, [], ◌∷◌, ◌++◌, length, nat_lt, Option, Some, None, refl, ap, subst, sym, ◌∙◌}
-use Rattle.std.specs.Prelude.{◌||◌, ◌+◌, slice_get, ⊤, is_some}
+use Rattle.std.proofs.Common.{◌≡◌, ◌⊎◌, inl, inr, ℕ, Bool, true, false, cond, List, [], ◌∷◌, nat_lt, Option, Some, None, refl, ap, subst, sym, ◌∙◌}
+use Rattle.std.specs.Prelude.{◌||◌, ◌+◌, slice_get}
 use Rattle.std.specs.Option.{option_or}
 use Rattle.esm_base.specs.declared.limits.Limit.{Limit}
 use Rattle.esm_base.specs.declared.limits.TheConstants.{MAX_DELIVERED_BYTES}
@@ -13,14 +13,14 @@ use Rattle.esm_realm.proofs.Urls.{has_own, or_true, same_text, not_both}
 use Rattle.esm_values.specs.Value.{Value, Undefined}
 use Rattle.esm_promise.specs.Promises.{Promises, make, settle, no_promises, next_job, Fulfilled}
 use Rattle.esm_promise.specs.Reactions.{Reaction, EntryLoaded}
-use Rattle.esm_loads.specs.UrlTable.{TableEntry, Module, Throw, Found, thrown_by, put_at, no_entries, found, targets_in, body_in}
+use Rattle.esm_loads.specs.UrlTable.{TableEntry, Module, Throw, thrown_by, put_at, found, targets_in, body_in}
 use Rattle.esm_loads.specs.UrlTable.{Found as founds}
-use Rattle.esm_loads.specs.Loading.{Loading, PendingRequest, Root, Request, LoadState, Asked, Open, LoadComplete, Purpose, ForEntry, no_pending, load_of, targets, body, is_fetching}
+use Rattle.esm_loads.specs.Loading.{Loading, PendingRequest, Root, Request, LoadState, Open, LoadComplete, ForEntry, no_pending, load_of, targets, is_fetching}
 use Rattle.esm_loads.specs.Load.{Answers}
 use Rattle.esm_loads.specs.Host.{Host, Answered, opening_host, begin_load, begin_by, settle_load, settle_by, with_loading, fulfill}
 use Rattle.esm_loads.specs.Host.Answered.{answered, late}
-use Rattle.esm_loads.specs.Arrival.{Next, next, next_among, next_by, without_next, AnswersNext, after_fetch, store_by, count_by, put_found, bytes_of}
-use Rattle.esm_loads.specs.Whole.{IsWhole, IsLoaded, AreUnlinked, is_module}
+use Rattle.esm_loads.specs.Arrival.{next, next_among, next_by, without_next, AnswersNext, after_fetch, store_by, count_by, put_found, bytes_of}
+use Rattle.esm_loads.specs.Whole.{IsWhole, AreUnlinked, is_module}
 use Rattle.esm_loads.specs.Laws.{IsOrderly, IsFirst}
 use Rattle.esm_loads.proofs.Orderly.{stays_orderly, next_asked}
 use Rattle.esm_loads.proofs.Whole.{stays_whole}
@@ -28,14 +28,14 @@ use Rattle.esm_loads.proofs.Pending.{first_pending}
 use Rattle.esm_world.specs.ImportCalls.{holds_import}
 use Rattle.esm_world.specs.World.{World, world_over, opening, stopped, host_of, with_host}
 use Rattle.esm_world.specs.Jobs.{Jobs}
-use Rattle.esm_world.specs.Turn.{Tasks, Turn, fetched}
-use Rattle.esm_world.specs.Run.{asks, Runs, IsAllowed}
-use Rattle.esm_world.specs.Direct.{Closure, itself, requested, IsClean}
+use Rattle.esm_world.specs.Turn.{Tasks, Turn}
+use Rattle.esm_world.specs.Run.{Runs, IsAllowed}
+use Rattle.esm_world.specs.Direct.{itself, requested, IsClean}
 use Rattle.esm_world.proofs.Deliveries.{open_ask}
 use Rattle.esm_world.proofs.StartsOnce.{Once, makes_first_calls}
 use Rattle.esm_order_laws.proofs.CleanCalls.{SameModules, NoImports}
 use Rattle.esm_order_laws.proofs.CleanJobs.{jobs_moves}
-use Rattle.esm_order_laws.proofs.LoadPhase.{In, file, IsFile, is_file, FineRequest, FineRequests, put_fine, own_load, Base, Going, Complete, Outcome, Early, answers_goes}
+use Rattle.esm_order_laws.proofs.LoadPhase.{In, file, IsFile, is_file, FineRequest, FineRequests, put_fine, own_load, Base, Complete, Outcome, Early, answers_goes}
 
 abbrev pub Ps : Type 0
 Ps = Promises (Reaction Url) (Value Url)
@@ -148,14 +148,17 @@ module _ (maps : Maps) (built : List Item → Bool) (files : Files) (entry : Url
 
       parts : EarlyParts (without_next h a.who)
       parts = record {
-        early = (record {
+        early = (
+          record {
             maps_are = b.maps_are;
             built_are = b.built_are;
             within = b.within;
             fetched = b.fetched;
             purposes = b.purposes;
             requests = put_fine maps built files entry clean h.imports.pending a.who.url a.who.others b.requests fine.1;
-          }, early.parts.early.1);
+          },
+          early.parts.early.1,
+        );
         promises = early.parts.promises;
         errors = early.parts.errors;
       }
@@ -190,14 +193,17 @@ module _ (maps : Maps) (built : List Item → Bool) (files : Files) (entry : Url
 
       stored : EarlyParts (put_found (counted_host h c) u (founds.Script f.module_is))
       stored = record {
-        early = (record {
+        early = (
+          record {
             maps_are = b.maps_are;
             built_are = b.built_are;
             within = b.within;
             fetched = entry_stands;
             purposes = b.purposes;
             requests = b.requests;
-          }, early.early.1);
+          },
+          early.early.1,
+        );
         promises = early.promises;
         errors = early.errors;
       }
@@ -353,14 +359,17 @@ module _ (maps : Maps) (built : List Item → Bool) (files : Files) (entry : Url
   opening_early : EarlyHost (opening_host maps built entry)
   opening_early = record {
     parts = record {
-      early = (record {
+      early = (
+        record {
           maps_are = refl;
           built_are = refl;
           within = λ u k. first u k;
           fetched = λ u e k. cc;
           purposes = refl;
           requests = put_fine maps built files entry clean no_pending entry (Root 0 ∷ []) (λ u. tt) ((refl, refl), tt);
-        }, inl refl);
+        },
+        inl refl,
+      );
       promises = refl;
       errors = refl;
     };

@@ -1,5 +1,5 @@
 -- To rename each module as it is named changes nothing.
-use Rattle.std.proofs.Common.{◌≡◌, ℕ, Bool, List, [], ◌∷◌, map, Option, Some, None, refl, ap}
+use Rattle.std.proofs.Common.{◌≡◌, List, [], ◌∷◌, map, Option, Some, None, refl, ap}
 use Rattle.std.specs.Option.{option_map}
 use Rattle.esm_base.specs.Urls.{Url}
 use Rattle.esm_values.specs.Value.{Value, Undefined, Truth, Text, Func, Error, Namespace, Promise}
@@ -17,11 +17,11 @@ use Rattle.esm_expr_eval.specs.Terms.{LinkTerms as links}
 use Rattle.esm_expr_eval.specs.Naming.{mapped_term, mapped_terms, mapped_compared, mapped_links}
 use Rattle.esm_env.specs.Cells.{Cells}
 use Rattle.esm_env.specs.Naming.{renamed_cells}
-use Rattle.esm_rewriting.specs.Scopes.{Scope, NamedCell, named_cell}
+use Rattle.esm_rewriting.specs.Scopes.{NamedCell, named_cell}
 use Rattle.esm_rewriting.specs.Rest.{Part, Rest, end, more}
 use Rattle.esm_rewriting.specs.Rest.Part.{Whole, Does, Stands, In, Tries}
 use Rattle.esm_rewriting.specs.State.{Event, Begins, Ends, Throws, Standing, Engine, State}
-use Rattle.esm_rewriting.specs.Naming.{mapped_named, mapped_scope, mapped_part, mapped_rest, renamed_event, renamed_standing, renamed_engine, renamed_outer, renamed_state}
+use Rattle.esm_rewriting.specs.Naming.{mapped_named, mapped_part, mapped_rest, renamed_event, renamed_standing, renamed_engine, renamed_outer, renamed_state}
 use Rattle.esm_order_laws.proofs.Itself.{itself}
 
 pub mapped_same : {A : Type 0} (f : A → A) → ((x : A) → f x ≡ x) → (xs : List A) → map f xs ≡ xs
