@@ -1,0 +1,17 @@
+pub mod Itself
+pub mod Lists
+pub mod Moved
+pub mod Same
+pub mod Numbers
+pub mod Calls
+pub mod Jobs
+pub mod OneDirect
+pub mod Quiet
+pub mod QuietTerms
+pub mod QuietMoves
+pub mod QuietBodies
+pub mod CleanCalls
+pub mod CleanJobs
+pub mod LoadPhase
+pub mod RunPhase
+pub mod OrderFree

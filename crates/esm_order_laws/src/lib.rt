@@ -1,0 +1,4 @@
+//! Laws of runs whose files are clean, over the definitions of the world.
+#![tactic(auto)]
+
+pub mod laws;
