@@ -1,35 +1,27 @@
 -- Where the closure has no more URLs than may be asked for, loading of clean files meets no limit.
-use Rattle.std.proofs.Common.{◌≡◌, ◌⊎◌, inl, inr, ℕ, zero, suc, ◌+◌, ◌<◌, ◌≤◌, Bool, true, false, List, [], ◌∷◌, ◌++◌, length, nat_lt, Option, Some, None, refl, ap, subst, sym, ◌∙◌, arith}
-use Rattle.std.specs.Prelude.{◌||◌, slice_get, ⊤, sum_by}
-use Rattle.std.proofs.lemmas.Bool.{lt-ltb, le-ltb}
-use Rattle.std.proofs.lemmas.List.Sums.{sum_by-cons}
-use Rattle.esm_base.specs.declared.limits.Limit.{Limit}
-use Rattle.esm_base.specs.declared.limits.TheConstants.{MAX_URLS, MAX_DELIVERED_BYTES}
+use Rattle.std.proofs.Common.{◌≡◌, ℕ, ◌≤◌, Bool, true, false, List, ◌∷◌, length, nat_lt, Option, Some, None, refl, subst, sym, arith}
+use Rattle.std.specs.Prelude.{◌||◌}
+use Rattle.std.proofs.lemmas.Bool.{lt-ltb}
+use Rattle.esm_base.specs.declared.limits.TheConstants.{MAX_URLS}
 use Rattle.esm_base.specs.Urls.{Url, has, same_url}
 use Rattle.esm_tree.specs.Syntax.{Item}
 use Rattle.esm_import_map.specs.ImportMap.{Maps}
 use Rattle.esm_ast.specs.Deliveries.{Files}
-use Rattle.esm_ast.specs.Outcome.{OutcomeView}
-use Rattle.esm_realm.specs.Laws.{AreDistinct}
 use Rattle.esm_realm.proofs.Urls.{has_own, or_true, same_text}
-use Rattle.esm_realm.proofs.Weigh.{length_within, total_within}
-use Rattle.esm_loads.specs.UrlTable.{TableEntry, Throw, thrown_by}
-use Rattle.esm_loads.specs.Loading.{Loading, PendingRequest, Root, Request, OpenLoad, LoadState, Purpose, ForEntry, ForImport, open_load, begin, visit, finish, finish_by, has_pending, ask, ask_by, load_of, targets, is_fetching}
+use Rattle.esm_realm.proofs.Weigh.{length_within}
+use Rattle.esm_loads.specs.UrlTable.{TableEntry, Throw}
+use Rattle.esm_loads.specs.Loading.{Loading, PendingRequest, Request, OpenLoad, Purpose, ForEntry, ForImport, open_load, begin, finish, finish_by, has_pending, ask, ask_by, load_of}
 use Rattle.esm_loads.specs.Load.{Enters, Asks, Answers}
 use Rattle.esm_loads.specs.Load.Enters.{ended, known, enters}
 use Rattle.esm_loads.specs.Load.Asks.{no_more, over, waits, throws, loads}
 use Rattle.esm_loads.specs.Load.Answers.{no_root, no_module, root, request}
-use Rattle.esm_loads.specs.Host.{Host, Answered, begin_load, begin_by, settle_load, with_loading}
+use Rattle.esm_loads.specs.Host.{Host, Answered, begin_load, begin_by, with_loading}
 use Rattle.esm_loads.specs.Host.Answered.{answered, late}
-use Rattle.esm_loads.specs.Arrival.{Next, without_next, AnswersNext, after_fetch, count_by, store_by, put_found, bytes_of}
-use Rattle.esm_loads.specs.UrlTable.{Found, found}
-use Rattle.esm_loads.specs.UrlTable.{Found as founds}
-use Rattle.esm_loads.specs.Laws.{IsOrderly, IsFirst}
-use Rattle.esm_loads.proofs.Orderly.{OrderlyTable, on_ask, next_asked, without_orderly}
-use Rattle.esm_loads.proofs.Pending.{first_pending}
+use Rattle.esm_loads.specs.Laws.{IsOrderly}
+use Rattle.esm_loads.proofs.Orderly.{OrderlyTable, on_ask}
 use Rattle.esm_loads.proofs.Tables.{enters_keeps, settled_imports}
-use Rattle.esm_world.specs.Direct.{IsClean, AreClosure, file_bytes, itself}
-use Rattle.esm_order_laws.proofs.LoadPhase.{In, file, is_file, FineRequest, Base, Going, Early, enters_goes, asks_goes, ask_goes, opens, targets_in_closure, begin_goes, open_goes, not_thrown}
+use Rattle.esm_world.specs.Direct.{IsClean, AreClosure, itself}
+use Rattle.esm_order_laws.proofs.LoadPhase.{In, FineRequest, Going, Early, enters_goes, ask_goes, opens, targets_in_closure, begin_goes, open_goes}
 
 module _ (maps : Maps) (built : List Item → Bool) (files : Files) (entry : Url) (clean : IsClean maps built files entry)
     (ms : List Url) (closure : AreClosure maps built files entry ms) (few : length ms ≤ MAX_URLS) where

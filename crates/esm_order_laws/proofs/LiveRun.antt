@@ -1,7 +1,6 @@
 -- Where the closure is within the limits of loading, no run of these files is stopped while it loads.
-use Rattle.std.proofs.Common.{◌≡◌, ◌⊎◌, inl, inr, ℕ, ◌+◌, ◌<◌, ◌≤◌, Bool, true, false, cond, List, [], ◌∷◌, length, nat_lt, Option, Some, None, refl, ap, subst, sym, ◌∙◌, arith}
-use Rattle.std.specs.Prelude.{◌||◌, ⊤, sum_by}
-use Rattle.std.specs.Option.{option_or}
+use Rattle.std.proofs.Common.{◌≡◌, ◌⊎◌, inl, inr, ℕ, ◌+◌, ◌≤◌, Bool, true, false, cond, List, [], ◌∷◌, length, nat_lt, Option, Some, None, refl, ap, subst, sym, ◌∙◌, arith}
+use Rattle.std.specs.Prelude.{sum_by}
 use Rattle.std.proofs.lemmas.Bool.{le-ltb, ltb-false}
 use Rattle.std.proofs.lemmas.List.Sums.{sum_by-cons}
 use Rattle.esm_base.specs.declared.limits.Limit.{Limit}
@@ -13,13 +12,13 @@ use Rattle.esm_import_map.specs.ImportMap.{Maps}
 use Rattle.esm_ast.specs.Deliveries.{Files, Delivery, AreOfFiles}
 use Rattle.esm_ast.specs.Outcome.{OutcomeView}
 use Rattle.esm_realm.specs.Laws.{AreDistinct}
-use Rattle.esm_realm.proofs.Urls.{has_own, or_left, or_true, or_cases, own_text, same_text, not_both, not_true}
+use Rattle.esm_realm.proofs.Urls.{has_own, or_true, or_cases, own_text, same_text, not_both, not_true}
 use Rattle.esm_realm.proofs.Weigh.{total_within}
 use Rattle.esm_loads.specs.UrlTable.{TableEntry, Module, found, put_at}
 use Rattle.esm_loads.specs.UrlTable.{Found as founds}
 use Rattle.esm_loads.specs.Loading.{Loading, is_fetching}
 use Rattle.esm_loads.specs.Host.{Host, opening_host, with_loading}
-use Rattle.esm_loads.specs.Arrival.{Next, next, AnswersNext, after_fetch, store_by, count_by, put_found, bytes_of}
+use Rattle.esm_loads.specs.Arrival.{next, AnswersNext, after_fetch, store_by, count_by, put_found, bytes_of}
 use Rattle.esm_loads.specs.Laws.{Grows}
 use Rattle.esm_loads.proofs.Orderly.{next_asked, without_orderly, only_grows}
 use Rattle.esm_world.specs.World.{World, world_over, opening, stopped, host_of, with_host}
@@ -28,7 +27,7 @@ use Rattle.esm_world.specs.Turn.{Tasks, Turn}
 use Rattle.esm_world.specs.Run.{Runs, IsAllowed}
 use Rattle.esm_world.specs.Direct.{IsClean, AreClosure, file_bytes, file_bytes_by}
 use Rattle.esm_world.proofs.Deliveries.{open_ask}
-use Rattle.esm_order_laws.proofs.LoadPhase.{In, IsFile, is_file}
+use Rattle.esm_order_laws.proofs.LoadPhase.{In, is_file}
 use Rattle.esm_order_laws.proofs.LiveLoads.{answered_live}
 use Rattle.esm_order_laws.proofs.RunPhase.{EarlyHost, ReadyHost, begun_same, next_fine, without_parts, step, fetch, none_open, jobs_leave, jobs_wait, tasks_over, runs_live, some_stops, opening_early, nothing_next}
 

@@ -1,27 +1,26 @@
 -- Where one run of clean files has ended within the limits, no other is stopped, and each without open asks shows the same.
-use Rattle.std.proofs.Common.{◌≡◌, ◌⊎◌, inl, inr, ℕ, ◌≤◌, Bool, true, false, List, [], ◌∷◌, length, Option, Some, None, refl, ap, subst, sym, ◌∙◌, arith}
-use Rattle.std.specs.Prelude.{◌≢◌, sum_by}
+use Rattle.std.proofs.Common.{◌≡◌, ◌≤◌, Bool, List, length, None, refl, ap, subst, sym, ◌∙◌, arith}
+use Rattle.std.specs.Prelude.{sum_by}
 use Rattle.std.specs.Option.{option_or}
 use Rattle.esm_base.specs.declared.limits.TheConstants.{MAX_URLS, MAX_DELIVERED_BYTES}
-use Rattle.esm_base.specs.Urls.{Text, Url, has}
+use Rattle.esm_base.specs.Urls.{Url}
 use Rattle.esm_tree.specs.Syntax.{Item}
 use Rattle.esm_import_map.specs.ImportMap.{Maps}
 use Rattle.esm_ast.specs.Deliveries.{Files, Delivery, AreOfFiles}
 use Rattle.esm_realm.proofs.Weigh.{total_within}
-use Rattle.esm_loads.specs.Loading.{Loading}
 use Rattle.esm_loads.specs.Host.{Host}
 use Rattle.esm_world.specs.World.{World, world_over, opening, stopped}
 use Rattle.esm_world.specs.Jobs.{Jobs}
-use Rattle.esm_world.specs.Run.{Shown, StandardRun, Runs, asks, shown}
+use Rattle.esm_world.specs.Run.{Shown, Runs, shown}
 use Rattle.esm_world.specs.Direct.{IsClean, AreClosure}
 use Rattle.esm_world.proofs.RunsIdle.{turns_leave_nothing}
 use Rattle.esm_order_laws.specs.OrderFree.{ShowSame, HasEndedWithin, HasCleanRun, NeverStoppedElse, OrderFree}
-use Rattle.esm_order_laws.proofs.CleanCalls.{SameModules, NoImports, world_seen}
+use Rattle.esm_order_laws.proofs.CleanCalls.{world_seen}
 use Rattle.esm_order_laws.proofs.CleanJobs.{jobs_moves, stopped_is}
 use Rattle.esm_order_laws.proofs.Jobs.{jobs_one}
-use Rattle.esm_order_laws.proofs.RunPhase.{ReadyHost, once_over, no_imports, asked_is, fetched_is}
+use Rattle.esm_order_laws.proofs.RunPhase.{once_over, no_imports, asked_is, fetched_is}
 use Rattle.esm_order_laws.proofs.LiveRun.{Account, ReachedSo, Counted, counted_on, counted_run, Within, within_on, within_run, weight}
-use Rattle.esm_order_laws.proofs.OrderFree.{IsOver, is_over, Came, still_waits, same_modules, host_live, shows_same, starts_same, both_modules, none}
+use Rattle.esm_order_laws.proofs.OrderFree.{IsOver, is_over, Came, still_waits, same_modules, host_live, shows_same}
 
 module _ (maps : Maps) (built : List Item → Bool) (files : Files) (entry : Url) (clean : IsClean maps built files entry) where
   -- a run that has ended within the limits, with the bytes of its files
@@ -57,7 +56,7 @@ module _ (maps : Maps) (built : List Item → Bool) (files : Files) (entry : Url
     small : sum_by (weight maps built files entry clean) urls ≤ MAX_DELIVERED_BYTES
     small =
         let le = total_within (weight maps built files entry clean) urls e.account.got e.came.ready.orderly.once
-            (λ u k. e.account.all u (fetched_is maps built files entry clean host e.came.ready u (e.came.ready.parts.complete.base.within u k))) in
+        (λ u k. e.account.all u (fetched_is maps built files entry clean host e.came.ready u (e.came.ready.parts.complete.base.within u k))) in
         let bytes = e.account.bytes_are in
         let most = e.account.small in
         omega (arith, le, bytes, most)

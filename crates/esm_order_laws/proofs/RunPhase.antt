@@ -142,14 +142,17 @@ module _ (maps : Maps) (built : List Item → Bool) (files : Files) (entry : Url
   without_parts h n early is =
       let b : BaseC h.imports = early.parts.early.0 in
       record {
-        early = (record {
+        early = (
+          record {
             maps_are = b.maps_are;
             built_are = b.built_are;
             within = b.within;
             fetched = b.fetched;
             purposes = b.purposes;
             requests = put_fine maps built files entry clean h.imports.pending n.url n.others b.requests (next_fine h n early is).1;
-          }, early.parts.early.1);
+          },
+          early.parts.early.1,
+        );
         promises = early.parts.promises;
         errors = early.parts.errors;
       }
@@ -157,7 +160,7 @@ module _ (maps : Maps) (built : List Item → Bool) (files : Files) (entry : Url
   pub step : {h k : Host} → EarlyHost h → AnswersNext h k → EarlyHost k ⊎ ReadyHost k
   step {h} {k} early a =
       by (step_parts (without_parts h a.who early a.is_next) (b.within a.who.url (next_asked h.imports a.who a.is_next))
-          (b.fetched a.who.url a.who.entry (first_pending.is h.imports a.who a.is_next).fetched) (next_fine h a.who early a.is_next).0 a.answered)
+      (b.fetched a.who.url a.who.entry (first_pending.is h.imports a.who a.is_next).fetched) (next_fine h a.who early a.is_next).0 a.answered)
     where
       b : BaseC h.imports
       b = early.parts.early.0
