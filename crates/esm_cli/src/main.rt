@@ -36,8 +36,19 @@ fn printer<R: Print + Clone + Drop>(rt: &R) -> Result<StdSink<R>, Memory>
     Ok(StdSink::new(rt.clone()?))
 }
 
+// As large a block as this is let go at the start. The C library's allocator then keeps smaller ones in its heap, where it would
+// else map and move each of the long lists of a run by itself, and gives nothing back before twice as much is free.
+const KEPT: usize = 8 << 20;
+
+// Asks for a block and lets it go. Where it is refused nothing is lost.
+fn keep_room(alloc: Global) {
+    let room: Result<Vec<u8>, _> = Vec::with_capacity(alloc, KEPT);
+    drop(room);
+}
+
 fn main(rt: HostRuntime) -> ExitCode {
     let alloc = rt.alloc();
+    keep_room(alloc);
     let status = match (
         words(&rt, alloc),
         FileSource::here(&rt, alloc),

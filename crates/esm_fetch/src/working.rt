@@ -362,6 +362,16 @@ fn go_on<R: Wait, S: Source>(
     }
 }
 
+// The room that a worker's heap has from the beginning. The C library's allocator makes the heap of a thread larger by a page
+// at a time, and holds up the other threads each time.
+const KEPT: usize = 2 << 20;
+
+// Asks for a block and lets it go. Where it is refused nothing is lost.
+fn keep_room(alloc: Global) {
+    let room: Result<Vec<u8>, _> = Vec::with_capacity(alloc, KEPT);
+    drop(room);
+}
+
 /// Takes, fetches, reads and posts, up to four URLs at a time, until the map is shut or memory runs out, and waits on the
 /// bell where there is nothing to take. What is posted has what it requests resolved by the guide of the map. The posts and
 /// the takes behind them are one turn at the map. It comes back only with a shut map, and `short` says that memory ran out;
@@ -396,6 +406,7 @@ pub fn worker<R: Wait, S: Source>(
         → shuts_by weight caller.number (view_in result.caller.pass).seen
         ≡ shuts_by weight caller.number (view_in caller.pass).seen }
 {
+    keep_room(alloc);
     map_laws::guide_stays::<Posted>();
     let mut caller = caller;
     let mut source = source;
