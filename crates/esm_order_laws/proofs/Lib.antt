@@ -15,3 +15,6 @@ pub mod CleanJobs
 pub mod LoadPhase
 pub mod RunPhase
 pub mod OrderFree
+pub mod LiveLoads
+pub mod LiveRun
+pub mod OrderFreeAll

@@ -57,7 +57,7 @@ module _ (maps : Maps) (built : List Item → Bool) (files : Files) (entry : Url
         quiet = f.no_import;
       }
 
-  not_thrown : (u : Url) (e : TableEntry) (thrown : Throw) → In u → file u ≡ Some e → thrown_by u e ≡ Some thrown → ⊥
+  pub not_thrown : (u : Url) (e : TableEntry) (thrown : Throw) → In u → file u ≡ Some e → thrown_by u e ≡ Some thrown → ⊥
   not_thrown u e thrown h is t =
       let f = is_file u h in
       let same : e ≡ Module f.module_is = some_of (sym is ∙ f.entry_is) in
@@ -127,7 +127,7 @@ module _ (maps : Maps) (built : List Item → Bool) (files : Files) (entry : Url
       sym (ap (λ (p : OpenLoad). p.0) (some_of same))
   opened (Some limit) ls visited o e h = cc
 
-  opens : (l : Loading) (g : Going l) (o : OpenLoad) (x : Url) → open_load l 0 ≡ Some o → Going (visit l 0 o x)
+  pub opens : (l : Loading) (g : Going l) (o : OpenLoad) (x : Url) → open_load l 0 ≡ Some o → Going (visit l 0 o x)
   opens l g o x h =
       let start = opened l.stopped l.loads g.visited o g.loads_are h in
       record {
@@ -145,7 +145,7 @@ module _ (maps : Maps) (built : List Item → Bool) (files : Files) (entry : Url
       by (inl m) = k u m
       by (inr m) = subst In (sym m) h
 
-  ask_goes : (b room : Bool) (l : Loading) (t x : Url) (i : ℕ) → In t → Going l → Going (ask_by b room l t (Request 0 x i))
+  pub ask_goes : (b room : Bool) (l : Loading) (t x : Url) (i : ℕ) → In t → Going l → Going (ask_by b room l t (Request 0 x i))
   ask_goes true room l t x i h g = record {
     base = record {
       maps_are = g.base.maps_are;
@@ -177,7 +177,7 @@ module _ (maps : Maps) (built : List Item → Bool) (files : Files) (entry : Url
   }
 
   -- the targets of a module of the closure are in it
-  targets_in_closure : (l : Loading) (x : Url) → Base l → In x → (t : Url) → has (targets l x) t ≡ true → In t
+  pub targets_in_closure : (l : Loading) (x : Url) → Base l → In x → (t : Url) → has (targets l x) t ≡ true → In t
   targets_in_closure l x b h t e = by (l.entries x) refl e
     where
       by : (o : Option TableEntry) → l.entries x ≡ o → has (targets_in o) t ≡ true → In t
@@ -185,12 +185,12 @@ module _ (maps : Maps) (built : List Item → Bool) (files : Files) (entry : Url
       by (Some entry_is) is k = requested h (subst (λ (o : Option TableEntry). has (targets_in o) t ≡ true) (sym (b.fetched x entry_is is)) k)
 
   mutual
-    enters_goes : {l m : Loading} {x : Url} → In x → Going l → Enters l 0 x m → Going m
+    pub enters_goes : {l m : Loading} {x : Url} → In x → Going l → Enters l 0 x m → Going m
     enters_goes h g (ended e) = g
     enters_goes h g (known o e f) = g
     enters_goes {l} {x = x} h g (enters o e f q) = asks_goes (targets_in_closure l x g.base h) (opens l g o x e) q
 
-    asks_goes : {l m : Loading} {i : ℕ} {x : Url} {ts : List Url} → ((t : Url) → has ts t ≡ true → In t) → Going l → Asks l 0 x i ts m → Going m
+    pub asks_goes : {l m : Loading} {i : ℕ} {x : Url} {ts : List Url} → ((t : Url) → has ts t ≡ true → In t) → Going l → Asks l 0 x i ts m → Going m
     asks_goes h g no_more = g
     asks_goes h g (over e) = g
     asks_goes {l} h g (waits {i = i} {x = x} {t = t} {ts = ts} o e n q) =
@@ -237,7 +237,7 @@ module _ (maps : Maps) (built : List Item → Bool) (files : Files) (entry : Url
   abbrev pub Early : Loading → Type 0
   Early l = Base l × ((l.loads ≡ Asked ∷ []) ⊎ ((visited : Url → Bool) × (l.loads ≡ Open entry visited ∷ [])))
 
-  begin_goes : (l : Loading) → Early l → Going (begin l 0 entry)
+  pub begin_goes : (l : Loading) → Early l → Going (begin l 0 entry)
   begin_goes l e = record { base = with_loads l _ e.0; visited = no_urls; loads_are = by e.1 }
     where
       by : (l.loads ≡ Asked ∷ []) ⊎ ((visited : Url → Bool) × (l.loads ≡ Open entry visited ∷ [])) → slice_set l.loads 0 (Open entry no_urls) ≡ Open entry no_urls ∷ []
@@ -248,7 +248,7 @@ module _ (maps : Maps) (built : List Item → Bool) (files : Files) (entry : Url
   not_asked None ls o e h = let none : ◌≡◌ {A = Option OpenLoad} None (Some o) = sym (ap (λ ls. open_load_in None (slice_get ls 0)) e) ∙ h in cc
   not_asked (Some limit) ls o e h = cc
 
-  open_goes : (l : Loading) → Early l → (o : OpenLoad) → open_load l 0 ≡ Some o → Going l
+  pub open_goes : (l : Loading) → Early l → (o : OpenLoad) → open_load l 0 ≡ Some o → Going l
   open_goes l e o h = by e.1
     where
       by : (l.loads ≡ Asked ∷ []) ⊎ ((visited : Url → Bool) × (l.loads ≡ Open entry visited ∷ [])) → Going l

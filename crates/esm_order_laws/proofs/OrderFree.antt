@@ -22,7 +22,7 @@ use Rattle.esm_world.specs.LastLine.{Ending, Stopped, Uncaught, Done, Pending, e
 use Rattle.esm_world.specs.Run.{Runs, asks, ending, shown}
 use Rattle.esm_world.specs.Direct.{IsClean}
 use Rattle.esm_world.proofs.RunsIdle.{turns_leave_nothing}
-use Rattle.esm_order_laws.specs.OrderFree.{ShowSame, HasEndedWithin, OrderFree}
+use Rattle.esm_order_laws.specs.OrderFree.{ShowSame, HasEndedWithin}
 use Rattle.esm_order_laws.proofs.CleanCalls.{SameModules, NoImports, world_seen}
 use Rattle.esm_order_laws.proofs.CleanJobs.{jobs_moves, line_moves}
 use Rattle.esm_order_laws.proofs.Jobs.{jobs_one}
@@ -57,7 +57,7 @@ line_one w (Some (Uncaught v)) s t p q = p.2 ∙ ap (λ text. codes "Uncaught " 
 line_one w (Some Done) s t p q = p ∙ sym q
 line_one w (Some Pending) s t p q = p ∙ sym q
 
-loading_live : (o e : Option Limit) → option_or o e ≡ None → o ≡ None
+pub loading_live : (o e : Option Limit) → option_or o e ≡ None → o ≡ None
 loading_live None e h = refl
 loading_live (Some limit) e h = cc
 
@@ -73,7 +73,7 @@ module _ (maps : Maps) (built : List Item → Bool) (files : Files) (entry : Url
     pub jobs : Jobs (world_over host trace) w
     pub loading_is : w.loading ≡ host.imports
 
-  still_waits : (h : Host) (trace : Bool) (w : World) → EarlyHost maps built files entry clean h → w ≡ world_over h trace → IsOver w → next w.loading ≡ None → ⊥
+  pub still_waits : (h : Host) (trace : Bool) (w : World) → EarlyHost maps built files entry clean h → w ≡ world_over h trace → IsOver w → next w.loading ≡ None → ⊥
   still_waits h trace w early e o n = by early.parts.early.1
     where
       ends : (state : LoadState) → slice_get h.imports.loads 0 ≡ Some state → HasEnded state
@@ -132,27 +132,27 @@ module _ (maps : Maps) (built : List Item → Bool) (files : Files) (entry : Url
   ending_of : (w : World) → IsOver w → ending w ≡ ending_by None [] w.entry
   ending_of w o = λ i. ending_by (o.live i) (o.asks_are i) w.entry
 
-  host_live : {trace : Bool} (w : World) → IsOver w → (c : Came trace w) → c.host.imports.stopped ≡ None
+  pub host_live : {trace : Bool} (w : World) → IsOver w → (c : Came trace w) → c.host.imports.stopped ≡ None
   host_live w o c = subst (λ (l : Loading). l.stopped ≡ None) c.loading_is (loading_live w.loading.stopped w.engine.stopped o.live)
 
   module _ (trace : Bool) (v w : World) (a b : Text) (o : IsOver v) (p : IsOver w) (c : Came trace v) (d : Came trace w) (first : IsLastLine v (ending v) a) (second : IsLastLine w (ending w) b) where
-    both_modules : SameModules c.host.imports d.host.imports
+    pub both_modules : SameModules c.host.imports d.host.imports
     both_modules = same_modules c.host d.host c.ready d.ready (host_live v o c) (host_live w p d)
 
-    none : NoImports c.host.imports
+    pub none : NoImports c.host.imports
     none = no_imports maps built files entry clean c.host c.ready
 
     abbrev seen : World → World
     seen x = world_seen c.host.imports d.host.imports both_modules none x
 
-    starts_same : seen (world_over c.host trace) ≡ world_over d.host trace
+    pub starts_same : seen (world_over c.host trace) ≡ world_over d.host trace
     starts_same = λ i. world_over (record {
       promises = (c.ready.parts.promises ∙ sym d.ready.parts.promises) i;
       errors = (c.ready.parts.errors ∙ sym d.ready.parts.errors) i;
       imports = d.host.imports;
     }) trace
 
-    shows_same : ShowSame (shown v a) (shown w b)
+    pub shows_same : ShowSame (shown v a) (shown w b)
     shows_same =
         let j = jobs_moves c.host.imports d.host.imports both_modules none (tt, refl) (once_over c.host trace) c.jobs in
         let same : seen v ≡ w = jobs_one (subst (λ x. Jobs x (seen v)) starts_same j.0) d.jobs in
@@ -166,12 +166,3 @@ module _ (maps : Maps) (built : List Item → Bool) (files : Files) (entry : Url
           status = ap (λ e. option_map exit_status e) ends;
           last_line = line_one w (ending w) b a second there;
         }
-
-pub order_free : OrderFree
-order_free maps built files entry trace ds es one other clean of fo r q e f =
-    let o = is_over r.world r.line (subst HasEndedWithin r.shows e) in
-    let p = is_over q.world q.line (subst HasEndedWithin q.shows f) in
-    let c = came maps built files entry clean trace ds r.world of r.runs o in
-    let d = came maps built files entry clean trace es q.world fo q.runs p in
-    let s = shows_same maps built files entry clean trace r.world q.world r.line q.line o p c d r.last_line q.last_line in
-    subst (λ x. ShowSame one x) (sym q.shows) (subst (λ x. ShowSame x (shown q.world q.line)) (sym r.shows) s)

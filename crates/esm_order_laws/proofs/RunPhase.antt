@@ -19,9 +19,9 @@ use Rattle.esm_loads.specs.Loading.{Loading, PendingRequest, Root, Request, Load
 use Rattle.esm_loads.specs.Load.{Answers}
 use Rattle.esm_loads.specs.Host.{Host, Answered, opening_host, begin_load, begin_by, settle_load, settle_by, with_loading, fulfill}
 use Rattle.esm_loads.specs.Host.Answered.{answered, late}
-use Rattle.esm_loads.specs.Arrival.{next, next_among, next_by, without_next, AnswersNext, after_fetch, store_by, count_by, put_found, bytes_of}
+use Rattle.esm_loads.specs.Arrival.{Next, next, next_among, next_by, without_next, AnswersNext, after_fetch, store_by, count_by, put_found, bytes_of}
 use Rattle.esm_loads.specs.Whole.{IsWhole, AreUnlinked, is_module}
-use Rattle.esm_loads.specs.Laws.{IsOrderly, IsFirst}
+use Rattle.esm_loads.specs.Laws.{IsOrderly}
 use Rattle.esm_loads.proofs.Orderly.{stays_orderly, next_asked}
 use Rattle.esm_loads.proofs.Whole.{stays_whole}
 use Rattle.esm_loads.proofs.Pending.{first_pending}
@@ -105,7 +105,7 @@ module _ (maps : Maps) (built : List Item → Bool) (files : Files) (entry : Url
 
   -- ---- an answer
 
-  begun_same : (h : Host) (a : PendingRequest) (u : Url) (e : TableEntry) → h.imports.purposes ≡ ForEntry 0 ∷ [] → FineC u a → begin_load h a u e ≡ h
+  pub begun_same : (h : Host) (a : PendingRequest) (u : Url) (e : TableEntry) → h.imports.purposes ≡ ForEntry 0 ∷ [] → FineC u a → begin_load h a u e ≡ h
   begun_same h (Root s) u e p fine = (λ i. begin_by h (fine.0 i) (thrown_by u e) (slice_get (p i) (fine.0 i))) ∙ by (thrown_by u e)
     where
       by : (t : Option Throw) → begin_by h 0 t (Some (ForEntry 0)) ≡ h
@@ -134,20 +134,14 @@ module _ (maps : Maps) (built : List Item → Bool) (files : Files) (entry : Url
       subst (λ k. EarlyParts (settle_load (with_loading k l) (load_of a)) ⊎ ReadyParts (settle_load (with_loading k l) (load_of a))) (sym begun)
       (settle_parts h l (load_of a) (own_load maps built files entry clean u a fine) early goes)
 
-  step : {h k : Host} → EarlyHost h → AnswersNext h k → EarlyHost k ⊎ ReadyHost k
-  step {h} {k} early a = by (step_parts parts (b.within a.who.url (next_asked h.imports a.who a.is_next)) (b.fetched a.who.url a.who.entry first.fetched) fine.0 a.answered)
-    where
-      b : BaseC h.imports
-      b = early.parts.early.0
+  pub next_fine : (h : Host) (n : Next) → EarlyHost h → next h.imports ≡ Some n → FinesC n.url (n.pending_request ∷ n.others)
+  next_fine h n early is = subst (λ rs. FinesC n.url rs) (first_pending.is h.imports n is).first (early.parts.early.0.requests n.url)
 
-      first : IsFirst h.imports a.who
-      first = first_pending.is h.imports a.who a.is_next
-
-      fine : FinesC a.who.url (a.who.pending_request ∷ a.who.others)
-      fine = subst (λ rs. FinesC a.who.url rs) first.first (b.requests a.who.url)
-
-      parts : EarlyParts (without_next h a.who)
-      parts = record {
+  -- the request that is answered is taken away
+  pub without_parts : (h : Host) (n : Next) → EarlyHost h → next h.imports ≡ Some n → EarlyParts (without_next h n)
+  without_parts h n early is =
+      let b : BaseC h.imports = early.parts.early.0 in
+      record {
         early = (
           record {
             maps_are = b.maps_are;
@@ -155,13 +149,21 @@ module _ (maps : Maps) (built : List Item → Bool) (files : Files) (entry : Url
             within = b.within;
             fetched = b.fetched;
             purposes = b.purposes;
-            requests = put_fine maps built files entry clean h.imports.pending a.who.url a.who.others b.requests fine.1;
+            requests = put_fine maps built files entry clean h.imports.pending n.url n.others b.requests (next_fine h n early is).1;
           },
           early.parts.early.1,
         );
         promises = early.parts.promises;
         errors = early.parts.errors;
       }
+
+  pub step : {h k : Host} → EarlyHost h → AnswersNext h k → EarlyHost k ⊎ ReadyHost k
+  step {h} {k} early a =
+      by (step_parts (without_parts h a.who early a.is_next) (b.within a.who.url (next_asked h.imports a.who a.is_next))
+      (b.fetched a.who.url a.who.entry (first_pending.is h.imports a.who a.is_next).fetched) (next_fine h a.who early a.is_next).0 a.answered)
+    where
+      b : BaseC h.imports
+      b = early.parts.early.0
 
       by : EarlyParts k ⊎ ReadyParts k → EarlyHost k ⊎ ReadyHost k
       by (inl p) = inl (record { parts = p; orderly = stays_orderly.next h k early.orderly a; whole = stays_whole.next h k early.whole a })
@@ -217,7 +219,7 @@ module _ (maps : Maps) (built : List Item → Bool) (files : Files) (entry : Url
       by true k = absurd cc
       by false k = store h.imports.stopped refl k
 
-  fetch : (h : Host) (u : Url) (c : OutcomeView) → EarlyHost h → has h.imports.asked u ≡ true → is_fetching (h.imports.entries u) ≡ true → files u ≡ Some c → (after_fetch h u c).imports.stopped ≡ None
+  pub fetch : (h : Host) (u : Url) (c : OutcomeView) → EarlyHost h → has h.imports.asked u ≡ true → is_fetching (h.imports.entries u) ≡ true → files u ≡ Some c → (after_fetch h u c).imports.stopped ≡ None
       → EarlyHost (after_fetch h u c)
   fetch h u c early asked_is fetching given live = record {
     parts = fetch_parts h u c early.parts (early.parts.early.0.within u asked_is) given live;
@@ -260,7 +262,7 @@ module _ (maps : Maps) (built : List Item → Bool) (files : Files) (entry : Url
     pub entry_is : (u : Url) → InC u → l.entries u ≡ file maps built files entry clean u
     entry_is u c = entry_of u (l.entries u) refl (ready.whole.loaded u (unlinked_is c)).stands
 
-    fetched_is : (u : Url) → InC u → is_fetching (l.entries u) ≡ false
+    pub fetched_is : (u : Url) → InC u → is_fetching (l.entries u) ≡ false
     fetched_is u c = module_by (l.entries u) (ready.whole.loaded u (unlinked_is c)).stands
 
     pub asked_is : (u : Url) → InC u → has l.asked u ≡ true
@@ -282,14 +284,14 @@ module _ (maps : Maps) (built : List Item → Bool) (files : Files) (entry : Url
     nothing_next = no_next l l.asked ready.parts.complete.free
 
     -- no URL is an open ask
-    none_open : (u : Url) → has l.asked u ≡ true → is_fetching (l.entries u) ≡ true → ⊥
+    pub none_open : (u : Url) → has l.asked u ≡ true → is_fetching (l.entries u) ≡ true → ⊥
     none_open u k e = not_both (is_fetching (l.entries u)) e (fetched_is u (b.within u k))
 
     -- jobs leave loading as it is
     same_modules : SameModules l l
     same_modules = record { entries = refl; alike = λ u. refl; long = refl; loads = refl; purposes = refl; stopped = refl }
 
-    jobs_leave : (trace : Bool) (mid : World) → Jobs (world_over h trace) mid → mid.loading ≡ l
+    pub jobs_leave : (trace : Bool) (mid : World) → Jobs (world_over h trace) mid → mid.loading ≡ l
     jobs_leave trace mid j = (jobs_moves l l same_modules no_imports (tt, refl) (once_over h trace) j).1.1
 
   -- ---- turns
@@ -299,12 +301,12 @@ module _ (maps : Maps) (built : List Item → Bool) (files : Files) (entry : Url
     waiting : (h : Host) → EarlyHost h → w ≡ world_over h trace → Reached trace w
     over : (h : Host) → ReadyHost h → Jobs (world_over h trace) w → w.loading ≡ h.imports → Reached trace w
 
-  jobs_wait : (h : Host) (trace : Bool) {mid : World} → EarlyHost h → Jobs (world_over h trace) mid → mid ≡ world_over h trace
+  pub jobs_wait : (h : Host) (trace : Bool) {mid : World} → EarlyHost h → Jobs (world_over h trace) mid → mid ≡ world_over h trace
   jobs_wait h trace early (Jobs.none n) = refl
   jobs_wait h trace early (Jobs.stops limit s) = refl
   jobs_wait h trace early (Jobs.job j left how live is done p q) = let none = sym (ap next_job early.parts.promises) ∙ is in cc
 
-  tasks_over : {w after : World} → next w.loading ≡ None → Tasks w after → after ≡ w
+  pub tasks_over : {w after : World} → next w.loading ≡ None → Tasks w after → after ≡ w
   tasks_over n (Tasks.none m) = refl
   tasks_over n (Tasks.stops limit s) = refl
   tasks_over n (Tasks.task live a j p) = let some = sym n ∙ a.is_next in cc
@@ -326,11 +328,11 @@ module _ (maps : Maps) (built : List Item → Bool) (files : Files) (entry : Url
           Reached.over k ready (subst (λ w. Jobs (world_over k trace) w) (sym is) jobs) (ap (λ (w : World). w.loading) is ∙ same)
 
   -- a run that isn't stopped in the end was never stopped
-  runs_live : (ds : List Delivery) (v w : World) → Runs v ds w → stopped w ≡ None → stopped v ≡ None
+  pub runs_live : (ds : List Delivery) (v w : World) → Runs v ds w → stopped w ≡ None → stopped v ≡ None
   runs_live [] v w p live = ap stopped (sym p) ∙ live
   runs_live (d ∷ ds) v w p live = (open_ask v d.url p.0.asked).live
 
-  some_stops : (o e : Option Limit) (limit : Limit) → o ≡ Some limit → option_or o e ≡ None → ⊥
+  pub some_stops : (o e : Option Limit) (limit : Limit) → o ≡ Some limit → option_or o e ≡ None → ⊥
   some_stops None e limit h live = cc
   some_stops (Some l) e limit h live = cc
 
@@ -356,7 +358,7 @@ module _ (maps : Maps) (built : List Item → Bool) (files : Files) (entry : Url
           let ask = open_ask v d.url p.0.asked in
           absurd (none_open h ready d.url (subst (λ (l : Loading). has l.asked d.url ≡ true) same ask.asked) (subst (λ (l : Loading). is_fetching (l.entries d.url) ≡ true) same ask.fetching))
 
-  opening_early : EarlyHost (opening_host maps built entry)
+  pub opening_early : EarlyHost (opening_host maps built entry)
   opening_early = record {
     parts = record {
       early = (
