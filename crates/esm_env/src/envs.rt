@@ -11,11 +11,14 @@ ghost use Rattle.esm_env.specs.Slots.{slot_in, cell_in};
 use crate::makes::slots_of;
 use crate::scope::{ModuleScope, Read, Target, Wrote};
 use crate::slots::value_at;
-use esm_base::{Memory, ModuleId, Text};
+use esm_base::{MAX_URLS, Memory, ModuleId, Text};
 use esm_tree::Tree;
 use esm_values::Value;
 use std::alloc::Global;
 use std::sync::Arc;
+
+// Behind so many scopes there is room for all that a run may have at once, so that the list isn't moved again.
+const MANY: usize = 256;
 
 /// The scopes of modules.
 #[derive(Drop)]
@@ -56,6 +59,16 @@ impl Envs {
         Ok(())
     }
 
+    /// Makes room for all scopes at once, where there are many.
+    fn make_room(&mut self) -> Result<(), Memory>
+        ensures { scopes_of self.new ≡ scopes_of self.old }
+    {
+        if self.scopes.len() == MANY {
+            self.scopes.reserve(MAX_URLS - MANY)?;
+        }
+        Ok(())
+    }
+
     /// Makes room for the scope at a place.
     fn grow(&mut self, at: usize) -> Result<(), Memory>
         requires { at < 2 ^ 32 }
@@ -64,6 +77,7 @@ impl Envs {
     {
         for next in self.scopes.len()..at + 1 {
             let _ = next;
+            self.make_room()?;
             self.scopes.push(None)?;
         }
         Ok(())

@@ -9,7 +9,7 @@ ghost use Rattle.esm_eval.specs.Inner.Ready.{RepeatsAt, is_async, no_error};
 ghost use Rattle.esm_eval.specs.Table.{AreDone, IsOrderOf, node_at, no_nodes, phase_of, size, with_node, with_one, with_stamp};
 
 use crate::passing::pass_waiters;
-use esm_base::Memory;
+use esm_base::{MAX_URLS, Memory};
 use esm_values::{PromiseId, Value};
 use std::alloc::Global;
 use std::marker::Model;
@@ -43,6 +43,19 @@ pub(crate) struct Node {
     pub(crate) waiters: Vec<u32>,
     /// The modules of its waits before this place are done.
     pub(crate) passed: usize,
+}
+
+// Behind so many nodes there is room for all that a run may have at once, so that the list isn't moved again.
+const MANY: usize = 256;
+
+/// Makes room for all nodes at once, where there are many.
+fn make_room(nodes: &mut Vec<Node>) -> Result<(), Memory>
+    ensures { nodes.new.items ≡ nodes.old.items }
+{
+    if nodes.len() == MANY {
+        nodes.reserve(MAX_URLS - MANY)?;
+    }
+    Ok(())
 }
 
 /// The nodes of modules by their ids, and the modules that have an order of asynchronous evaluation, in that order.
@@ -80,6 +93,7 @@ impl Nodes {
         ensures ok { OnOk result (self.new ≡ with_one self.old) }
         ensures err { OnErr result (self.new ≡ self.old) }
     {
+        make_room(&mut self.nodes)?;
         let waits = Vec::new(alloc);
         let waiters = Vec::new(alloc);
         self.nodes.push(Node {
