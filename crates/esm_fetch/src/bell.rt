@@ -4,6 +4,7 @@ ghost use Rattle.std.specs.Prelude.{◌≢◌};
 use std::hint::spin_loop;
 use std::sync::Wait;
 use std::sync::atomic::{AtomicU64, Ordering};
+use std::thread::yield_now;
 
 // How often a thread looks before it sleeps. Who wakes a sleeper pays for it, more than a small text takes.
 const LOOKS: u64 = 1024;
@@ -55,21 +56,22 @@ impl Counter {
         }
     }
 
-    // Waits while the counter is `heard`: first looks, then sleeps. It gives the counter, which is another then.
-    fn wait<R: Wait>(&self, rt: &R, heard: u64) -> u64
-        ensures { result ≢ heard }
+    // Waits while the counter is `heard`: first looks, then sleeps. It gives the counter, which is another then, and whether
+    // it slept.
+    fn wait<R: Wait>(&self, rt: &R, heard: u64) -> (u64, bool)
+        ensures { result.0 ≢ heard }
     {
         self.lookers.fetch_add(1, Ordering::SeqCst);
         let seen = self.look(heard);
         if seen != heard {
             self.lookers.fetch_sub(1, Ordering::SeqCst);
-            return seen;
+            return (seen, false);
         }
         self.sleepers.fetch_add(1, Ordering::SeqCst);
         self.lookers.fetch_sub(1, Ordering::SeqCst);
         let count = self.sleep(rt, heard);
         self.sleepers.fetch_sub(1, Ordering::SeqCst);
-        count
+        (count, true)
     }
 
     // Looks while the counter is `heard`, a number of times, and gives what it saw last.
@@ -146,11 +148,16 @@ impl Bell {
 
     /// Waits while the counter of the orders is `heard`, wakes one thread more that sleeps until there are orders, where
     /// none looks for them, and gives that counter, which is another then.
+    ///
+    /// Who has slept stands back once: it wakes on the processor on which it ran last, where the calling thread may be at work.
     pub fn wait_for_order<R: Wait>(&self, rt: &R, heard: u64) -> u64
         ensures { result ≢ heard }
     {
-        let count = self.orders.wait(rt, heard);
+        let (count, slept) = self.orders.wait(rt, heard);
         self.orders.wake_next();
+        if slept {
+            yield_now();
+        }
         count
     }
 
@@ -158,6 +165,7 @@ impl Bell {
     pub fn wait_for_post<R: Wait>(&self, rt: &R, heard: u64) -> u64
         ensures { result ≢ heard }
     {
-        self.posts.wait(rt, heard)
+        let (count, _slept) = self.posts.wait(rt, heard);
+        count
     }
 }
