@@ -17,7 +17,7 @@ use esm_values::Value;
 use std::alloc::Global;
 use std::sync::Arc;
 
-// Behind so many scopes there is room for all that a run may have at once, so that the list isn't moved again.
+// Once there are so many scopes, room is taken for all that a run may have, so that the list isn't moved again.
 const MANY: usize = 256;
 
 /// The scopes of modules.

@@ -45,7 +45,7 @@ pub(crate) struct Node {
     pub(crate) passed: usize,
 }
 
-// Behind so many nodes there is room for all that a run may have at once, so that the list isn't moved again.
+// Once there are so many nodes, room is taken for all that a run may have, so that the list isn't moved again.
 const MANY: usize = 256;
 
 /// Makes room for all nodes at once, where there are many.

@@ -20,8 +20,8 @@ use crate::steps::{ask, is_fresh, is_open, set_stage, target_state, visit};
 use esm_base::{Memory, ModuleId};
 use esm_realm::Realm;
 
-/// A load, which goes on, enters a module. The place of each target that it comes to is kept, and looked up only where it
-/// isn't known.
+/// A load, which goes on, enters a module. The place of each target that it asks for or enters is kept, and looked up only
+/// where it isn't known.
 pub fn enter(
     loads: &mut Loads,
     realm: &Realm,

@@ -6,8 +6,8 @@ ghost use Rattle.esm_loads.specs.Inner.Targets.{IsIndex, IsKept, with_place};
 use esm_base::{MAX_URLS, Memory, ModuleId};
 use std::alloc::Global;
 
-/// For each request of each module the place of its target among the asked URLs, once a load has come to the request. So
-/// the end of a load, and a later load, needn't look the target up.
+/// For each request of each module the place of its target among the asked URLs, once a load has come to the request and
+/// asked for the target or entered its module. So the end of a load, and a later load, needn't look the target up.
 #[derive(Drop)]
 pub struct TargetPlaces {
     /// For each module, by its id, where the places of its requests begin.
@@ -49,6 +49,7 @@ impl TargetPlaces {
         ensures places { OnOk result (self.new.places.items
             ≡ self.old.places.items ++ replicate requests MAX_URLS) }
     {
+        // So many requests are in no texts that a run may read.
         let Ok(first) = u32::try_from(self.places.len()) else {
             return Err(Memory);
         };

@@ -25,7 +25,7 @@ WroteAsEachRun maps files entry trace front status sink =
     (others : List Delivery) (other : Shown) → AreOfFiles files others → StandardRun maps every_form entry trace others other
     → other.ended ≡ true → WroteAs other front status sink
 
--- So it is of whatever clean files what was taken are deliveries of. So the status is one function of the files alone, and unless a limit
+-- So it is of all clean files of which what was taken are deliveries. So the status is one function of the files alone, and unless a limit
 -- stopped the run so is what was written, but for the record in front, where it is asked for.
 abbrev pub IsOfFilesAlone : Command → Maps → DeskChange → List Delivery → Status → SinkChange → Type 0
 IsOfFilesAlone c maps desk taken status sink =

@@ -1,4 +1,4 @@
--- Statements on runs that no law proves yet.
+-- Statements on runs. OneDirectRun is a law of esm_order_laws; the others no law proves yet.
 use Rattle.std.specs.Prelude.{◌≡◌, ◌≢◌, Bool, true, List, [], ◌∷◌, ◌++◌, Some, Contains, None}
 use Rattle.esm_base.specs.declared.status.Status.TheVariants as statuses
 use Rattle.esm_base.specs.Urls.{Url, has}
