@@ -14,7 +14,7 @@ use Rattle.esm_world.specs.LastLine.{Ending, Stopped, Uncaught, Done, Pending, I
 use Rattle.esm_world.specs.Jobs.{Jobs}
 use Rattle.esm_world.specs.Run.{Shown}
 use Rattle.esm_world.specs.Direct.{AreClosure, ShowsDirect, gathered}
-use Rattle.esm_world.specs.Unproved.{OneDirectRun}
+use Rattle.esm_world.specs.OnOrder.{OneDirectRun}
 use Rattle.esm_world.proofs.StartsOnce.{Once, makes_first_calls}
 use Rattle.esm_loads.specs.Host.{Host}
 use Rattle.esm_order_laws.proofs.Itself.{itself}

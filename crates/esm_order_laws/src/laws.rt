@@ -1,6 +1,6 @@
 //! Laws of the definitions, each the contract of a function without effect.
 ghost use Rattle.esm_order_laws.specs.OrderFree.{NeverStoppedElse, OrderFree};
-ghost use Rattle.esm_world.specs.Unproved.{OneDirectRun};
+ghost use Rattle.esm_world.specs.OnOrder.{OneDirectRun};
 
 /// All direct runs of clean files show the same, in whatever order their closure is listed.
 pub fn one_direct_run()

@@ -17,7 +17,7 @@ pub mod RunLaws
 pub mod Followed
 pub mod ImportCalls
 pub mod Direct
-pub mod Unproved
+pub mod OnOrder
 pub mod Outcomes
 pub mod Measure
 pub mod Examples

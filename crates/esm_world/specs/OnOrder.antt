@@ -1,4 +1,5 @@
--- Statements on runs. OneDirectRun is a law of esm_order_laws; the others no law proves yet.
+-- Statements on runs: what the order of deliveries doesn't change where files are clean, which are laws of esm_order_laws and
+-- esm_direct_laws; and what ends first, which no law proves yet (NeedsFirst).
 use Rattle.std.specs.Prelude.{◌≡◌, ◌≢◌, Bool, true, List, [], ◌∷◌, ◌++◌, Some, Contains, None}
 use Rattle.esm_base.specs.declared.status.Status.TheVariants as statuses
 use Rattle.esm_base.specs.Urls.{Url, has}
