@@ -1,0 +1,27 @@
+//! Laws of the definitions, each the contract of a function without effect.
+ghost use Rattle.esm_world.specs.OnOrder.{HasDirectRun, NeverStops, OrderFreeShown, OrderFreeWithin};
+
+use esm_resolve::laws::shared_set;
+
+/// Clean files have a direct run, which shows something.
+pub fn has_direct_run()
+    ensures { HasDirectRun }
+{
+    shared_set()
+}
+
+/// A run of clean files that has ended, and not by a limit, shows the direct run.
+pub fn order_free_shown()
+    ensures { OrderFreeShown }
+{
+    shared_set()
+}
+
+/// Where the direct run meets no limit, none stops any run of these files, and each that has no open ask shows the direct
+/// run.
+pub fn order_free_within()
+    ensures never { NeverStops }
+    ensures shown { OrderFreeWithin }
+{
+    shared_set()
+}
