@@ -6,3 +6,5 @@ pub mod MemberFits
 pub mod MemberSteps
 pub mod MemberJobs
 pub mod DirectRuns
+pub mod BothRun
+pub mod CleanRun
