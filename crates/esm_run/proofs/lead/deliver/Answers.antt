@@ -1,5 +1,4 @@
 use Rattle.std.proofs.Common.{◌∙◌, ap, sym, subst}
-use Rattle.std.specs.Prelude.{OnOk}
 use Rattle.std.specs.Arc.{arc_value}
 use Rattle.std.proofs.lemmas.List.{map-append}
 use Rattle.esm_ast.specs.Outcome.{outcome_view}
