@@ -1,5 +1,5 @@
 -- Statements on runs: what the order of deliveries doesn't change where files are clean, which are laws of esm_order_laws and
--- esm_direct_laws; and what ends first, which no law proves yet (NeedsFirst).
+-- esm_direct_laws; and what ends first, a law of esm_needs_laws (NeedsFirst).
 use Rattle.std.specs.Prelude.{◌≡◌, ◌≢◌, Bool, true, List, [], ◌∷◌, ◌++◌, Some, Contains, None}
 use Rattle.esm_base.specs.declared.status.Status.TheVariants as statuses
 use Rattle.esm_base.specs.Urls.{Url, has}
