@@ -1,3 +1,4 @@
+pub mod AskClosure
 pub mod Members
 pub mod MemberModules
 pub mod MemberWorld

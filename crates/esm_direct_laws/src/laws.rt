@@ -1,4 +1,5 @@
 //! Laws of the definitions, each the contract of a function without effect.
+ghost use Rattle.esm_direct_laws.specs.Asks.{AsksClosure};
 ghost use Rattle.esm_world.specs.OnOrder.{HasDirectRun, NeverStops, OrderFreeShown, OrderFreeWithin};
 
 use esm_resolve::laws::shared_set;
@@ -25,3 +26,9 @@ pub fn order_free_within()
 {
     shared_set()
 }
+
+/// What a run over clean files has fetched is what they have, also where that is known of URLs of their closure alone: where
+/// each fetch of such a URL came to what the files have, each fetch did.
+pub fn asks_closure()
+    ensures { AsksClosure }
+{}

@@ -4,13 +4,20 @@ use Rattle.esm_base.specs.declared.status.Status.TheVariants.{MapRefused}
 use Rattle.esm_record.specs.Delivered.{deliveries_of}
 use Rattle.esm_run.specs.CommandMap.{desk_change, refusal_text}
 use Rattle.esm_run.specs.Inner.MapReading.{bytes_of}
+use Rattle.esm_run.specs.Recorded.{front_text}
 use Rattle.esm_run.specs.Written.{EndsWith, change_of}
 use Rattle.esm_run.specs.Report.{MapUnread, MapShown, EntryRun}
 use Rattle.esm_run.proofs.MapLemmas.{refused_map}
 use Rattle.esm_run.proofs.top.run_command.Goals as goal
 
 pub returns-in-Ok : goal.returns-in-Ok
-returns-in-Ok g c = EntryRun c.in-Ok.given.map _ c.in-Ok.ensures.comes.0 (record { bytes = bytes_of c.in-Ok.given; given = c.in-Ok.ensures.comes.1; text = refl }) c.run_entry.ensures
+returns-in-Ok g c = EntryRun (record {
+  maps = c.in-Ok.given.map;
+  map_is = c.in-Ok.ensures.comes.0;
+  front = front_text c.args.command.now (bytes_of c.in-Ok.given) (deliveries_of c.run_entry.result.taken.items);
+  front_is = record { bytes = bytes_of c.in-Ok.given; given = c.in-Ok.ensures.comes.1; text = refl };
+  run = c.run_entry.ensures;
+})
 
 pub returns-in-Some : goal.returns-in-Some
 returns-in-Some g c =
