@@ -35,5 +35,4 @@ pub mod Requests
 pub mod Framed
 pub mod Whole
 pub mod Owed
-pub mod Descriptions
 pub mod Worked

@@ -12,7 +12,6 @@ use Rattle.esm_import_map.specs.ImportMap.{Maps}
 use Rattle.esm_specifier.specs.Targets.{AreTargets}
 use Rattle.esm_specifier.specs.declared.targets.Targets.{Targets}
 use Rattle.esm_values.specs.Errors.{make_error, next_error}
-pub use Rattle.esm_load.specs.Arrival.{bytes_of}
 use Rattle.esm_loads.specs.UrlTable.{TableEntry, Entries, Failed, Broken, Module, Found, Nothing, Faulty, Script, found, put_at}
 use Rattle.esm_loads.specs.Loading.{Loading, PendingRequest, is_fetching}
 use Rattle.esm_loads.specs.Host.{Host, with_loading, Answered}
@@ -25,6 +24,13 @@ AreResolved maps url outcome targets =
     (text : SpelledText) → outcome ≡ outcomes.Script text → AreTargets maps url (requests_of text.items) targets
 
 -- ---- the outcome is stored
+
+-- how many bytes the body has
+abbrev pub bytes_of : OutcomeView → ℕ
+bytes_of (outcomes.Script text) = length text.bytes
+bytes_of (outcomes.Broken broken) = length broken.bytes
+bytes_of outcomes.Absent = 0
+bytes_of outcomes.Failed = 0
 
 abbrev pub count_by : Bool → Loading → ℕ → Loading
 count_by true l bytes = record l { bytes = l.bytes + bytes; stopped = Some L2 }

@@ -8,10 +8,7 @@ use Rattle.esm_tree.specs.Syntax.{Item}
 use Rattle.esm_ast.specs.Outcome.{OutcomeView}
 use Rattle.esm_realm.specs.Laws.{AreDistinct, IsClosedUnder}
 use Rattle.esm_import_map.specs.ImportMap.{Maps}
-use Rattle.esm_values.specs.Errors.{fault_text}
-use Rattle.esm_load.specs.Forms.{is_built}
-use Rattle.esm_load.specs.UrlTable as one_load
-use Rattle.esm_loads.specs.UrlTable.{Entries, TableEntry, Found, Nothing, Faulty, Script, found, fetch_error}
+use Rattle.esm_loads.specs.UrlTable.{Entries, TableEntry, found}
 use Rattle.esm_loads.specs.Loading.{Loading, LoadState, PendingRequest, Request, open_load, finish, ask, add_pending, is_fetching, targets, root_of_load}
 use Rattle.esm_loads.specs.Load.{Enters, Asks, Answers}
 use Rattle.esm_loads.specs.Host.{Host, Answered, opening_host, begin_load, with_loading}
@@ -206,19 +203,6 @@ pub record KeepsPromises : Type 0 where
       → is_pending before.promises promise ≡ true → ((s : ℕ) → owed before.imports s ≡ Some promise → ⊥)
       → OwesPromises before → Imports before referrer specifier promise after → OwesPromises after
   pub fetched : (before : Host) (u : Url) (c : OutcomeView) → OwesPromises before → OwesPromises (after_fetch before u c)
-
--- ---- what an outcome brings
-
--- a fault as `esm_load` keeps it: its display text
-abbrev pub told : Found → one_load.TableEntry
-told Nothing = one_load.Failed
-told (Faulty f) = one_load.Broken (fault_text f)
-told (Script m) = one_load.Module m
-
--- what an outcome brings to its URL, and what is thrown of a URL under which nothing could be fetched, is told as `esm_load` tells it
-pub record ToldAlike : Type 0 where
-  pub found : (maps : Maps) (u : Url) (c : OutcomeView) → told (found maps is_built u c) ≡ one_load.table_entry_of maps u c
-  pub thrown : (u : Url) → one_load.thrown_by u one_load.Failed ≡ Some (fault_text (fetch_error u))
 
 -- ---- there is an outcome
 

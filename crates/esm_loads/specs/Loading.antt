@@ -7,8 +7,17 @@ use Rattle.esm_base.specs.declared.limits.Limit.TheVariants.{L1}
 use Rattle.esm_base.specs.declared.limits.TheConstants.{MAX_URLS}
 use Rattle.esm_base.specs.Urls.{Url, has}
 use Rattle.esm_import_map.specs.ImportMap.{Maps}
-pub use Rattle.esm_load.specs.Loading.{PendingRequest, Root, Request, load_of}
 use Rattle.esm_loads.specs.UrlTable.{Entries, no_entries, Throw, put_at, with_url, no_urls, targets_in, body_in}
+
+-- a request for a URL that isn't answered yet: of a load for its root, or of a load for the i-th request of a module
+pub data PendingRequest : Type 0 where
+  Root : (load : ℕ) → PendingRequest
+  Request : (load : ℕ) (x : Url) (i : ℕ) → PendingRequest
+
+-- the load that the request is of
+abbrev pub load_of : PendingRequest → ℕ
+load_of (Root s) = s
+load_of (Request s x i) = s
 
 -- ECMA-262, GraphLoadingState Records. It keeps no count: its pending requests are counted where that is needed
 pub data LoadState : Type 0 where

@@ -1,6 +1,6 @@
 // Laws of the definitions, as functions without effect.
 ghost use Rattle.esm_loads.specs.LoadsAsLoading.{OpensWithEntry};
-ghost use Rattle.esm_loads.specs.Laws.{AskLimit, BytesFirst, EndedLoadStays, FewerLeft, FirstPending, HasLoad, KeepsPromises, LimitStops, LoadsEnd, OneLoad, OneUrlAtATime, OnlyGrows, StaysOrderly, StaysWhole, StoresOutcome, ToldAlike, UnlinkedIsClosed};
+ghost use Rattle.esm_loads.specs.Laws.{AskLimit, BytesFirst, EndedLoadStays, FewerLeft, FirstPending, HasLoad, KeepsPromises, LimitStops, LoadsEnd, OneLoad, OneUrlAtATime, OnlyGrows, StaysOrderly, StaysWhole, StoresOutcome, UnlinkedIsClosed};
 
 /// Entering a module, asking, an answer to a pending request, and a call of `import()` have one outcome each.
 pub fn one_load()
@@ -66,11 +66,6 @@ pub fn stays_whole()
 /// Where no URL is being fetched and no request is left, each load has ended, unless a limit has stopped loading.
 pub fn loads_end()
     ensures { LoadsEnd }
-{}
-
-/// What an outcome brings to its URL is told as `esm_load` tells it.
-pub fn told_alike()
-    ensures { ToldAlike }
 {}
 
 /// The promise of each load that hasn't ended is pending, and of that load alone.

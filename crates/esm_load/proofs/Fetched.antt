@@ -1,3 +1,0 @@
-pub mod TableEntry
-pub mod FetchedUrl
-pub mod Stored

@@ -1,4 +1,0 @@
-pub mod Next
-pub mod Requests
-pub mod Roots
-pub mod Finishing

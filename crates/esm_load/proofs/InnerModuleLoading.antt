@@ -1,4 +1,0 @@
-pub mod Asked
-pub mod EnterFacts
-pub mod EnterSteps
-pub mod Thrown
