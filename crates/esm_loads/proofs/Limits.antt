@@ -4,7 +4,7 @@ use Rattle.std.specs.Prelude.{nat_lt, slice_get, slice_set, length}
 use Rattle.esm_base.specs.declared.limits.Limit.{Limit}
 use Rattle.esm_base.specs.Urls.{Text, Url, has}
 use Rattle.esm_loads.specs.UrlTable.{TableEntry, Throw, thrown_by}
-use Rattle.esm_loads.specs.Loading.{Loading, PendingRequest, Root, Request, OpenLoad, LoadState, Asked, Open, LoadComplete, Thrown, Purpose, ForEntry, ForImport, open_load, open_load_in, finish, finish_by, has_pending, ask_by, begin, throw, visit, load_of}
+use Rattle.esm_loads.specs.Loading.{Loading, PendingRequest, Root, Request, OpenLoad, LoadState, Asked, Open, LoadComplete, Thrown, Purpose, ForEntry, ForImport, open_load, open_load_in, is_fresh, finish, finish_by, has_pending, ask_by, begin, throw, visit, load_of}
 use Rattle.esm_loads.specs.Load.{Enters, Asks, Answers}
 use Rattle.esm_loads.specs.Load.Enters.{ended, known, enters}
 use Rattle.esm_loads.specs.Load.Asks.{no_more, over, waits, throws, loads}
@@ -13,7 +13,7 @@ use Rattle.esm_loads.specs.Host.{Host, Answered, begin_load, begin_by, settle_lo
 use Rattle.esm_loads.specs.Host.Answered.{answered, late}
 use Rattle.esm_loads.specs.Arrival.{bytes_of, store, store_by, count_by}
 use Rattle.esm_loads.specs.ImportCall.{Imports, IsFull, HasRoom, stop_imports, add_load, counted, next_load}
-use Rattle.esm_loads.specs.Laws.{EndedLoadStays, LimitStops, BytesFirst, StoresOutcome}
+use Rattle.esm_loads.specs.Laws.{EndedLoadStays, VisitsOnce, LimitStops, BytesFirst, StoresOutcome}
 use Rattle.esm_loads.proofs.OneLoad.{enters_late, asks_late}
 use Rattle.esm_loads.proofs.Tables.{Table, table_of, OnAsk, answered_keeps, settled_imports}
 
@@ -36,6 +36,22 @@ ended_load_stays = record {
   finishes = finished_late;
   answered = λ h after s i x u e n q. answered_late n q;
 }
+
+-- ---- a load enters no module twice
+
+no_visit : (l m : Loading) (s : ℕ) (x : Url) (o p : OpenLoad) → open_load l s ≡ Some o → open_load l s ≡ Some p
+    → is_fresh l o.1 x ≡ false → is_fresh l p.1 x ≡ true → m ≡ l
+no_visit l m s x o p e d f t =
+    let same : o ≡ p = cc in let stale : is_fresh l p.1 x ≡ false = subst (λ q. is_fresh l q.1 x ≡ false) same f in cc
+
+visited_stays : {l after : Loading} {s : ℕ} {x : Url} {o : OpenLoad}
+    → open_load l s ≡ Some o → is_fresh l o.1 x ≡ false → Enters l s x after → after ≡ l
+visited_stays e f (ended n) = refl
+visited_stays e f (known p d g) = refl
+visited_stays e f (enters p d t q) = no_visit _ _ _ _ _ p e d f t
+
+pub visits_once : VisitsOnce
+visits_once = record { enters = λ l after s x o e f q. visited_stays e f q }
 
 -- ---- a load that a limit stops hasn't ended
 

@@ -1,6 +1,6 @@
 // Laws of the definitions, as functions without effect.
 ghost use Rattle.esm_loads.specs.LoadsAsLoading.{OpensWithEntry};
-ghost use Rattle.esm_loads.specs.Laws.{AskLimit, BytesFirst, EndedLoadStays, FewerLeft, FirstPending, HasLoad, KeepsPromises, LimitStops, LoadsEnd, OneLoad, OneUrlAtATime, OnlyGrows, StaysOrderly, StaysWhole, StoresOutcome, UnlinkedIsClosed};
+ghost use Rattle.esm_loads.specs.Laws.{AskLimit, BytesFirst, EndedLoadStays, FewerLeft, FirstPending, HasLoad, KeepsPromises, LimitStops, LoadsEnd, OneLoad, OneUrlAtATime, OnlyGrows, StaysOrderly, StaysWhole, StoresOutcome, UnlinkedIsClosed, VisitsOnce};
 
 /// Entering a module, asking, an answer to a pending request, and a call of `import()` have one outcome each.
 pub fn one_load()
@@ -35,6 +35,11 @@ pub fn one_url_at_a_time()
 /// An answer leaves fewer pending requests of fetched URLs, and a call of `import()` adds none.
 pub fn fewer_left()
     ensures { FewerLeft }
+{}
+
+/// A load enters no module that it has visited, and none that isn't New: where it comes to one, nothing changes.
+pub fn visits_once()
+    ensures { VisitsOnce }
 {}
 
 /// A load that has ended, or that a limit has stopped, does nothing more: an answer that comes late changes nothing.
