@@ -1,15 +1,22 @@
--- Where only the entry is asked for, it is an open ask, and no fetched URL has pending requests.
-use Rattle.std.proofs.Common.{◌≡◌, true, false, cond, None, [], ◌∷◌, ap, ◌∙◌}
-use Rattle.std.specs.FinMap.{get-empty}
-use Rattle.esm_base.specs.Urls.{Url, url_cmp, has, same_url}
-use Rattle.esm_realm.proofs.Urls.{or_left, own_text}
+-- Where the entry alone is asked for, it is an open ask.
+use Rattle.std.proofs.Common.{◌≡◌, ℕ, true, List, [], ap, ◌∙◌}
+use Rattle.esm_base.specs.Urls.{Url, has}
 use Rattle.esm_import_map.specs.ImportMap.{Maps}
-use Rattle.esm_load.specs.Loading.{opening_loading, Root}
-use Rattle.esm_load.specs.Arrival.{is_fetching, next_by, open_asks}
-use Rattle.esm_load.specs.Steps.{HasNoNext}
+use Rattle.esm_realm.proofs.Urls.{has_own}
+use Rattle.esm_realm.specs.Sound.{RecordParts}
+use Rattle.esm_loads.specs.Arrival.{open_asks}
+use Rattle.esm_loads.specs.Loading.{Loading}
+use Rattle.esm_loads.specs.LoadsAsLoading.{loading_of, no_loading, asks_entry}
+use Rattle.esm_loads.specs.declared.loads.Loads.{Loads}
 
-pub entry_open : (maps : Maps) (u : Url) → has (open_asks (opening_loading maps u)) u ≡ true
-entry_open maps u = ap (λ o. has (cond (is_fetching o) (u ∷ []) []) u) (get-empty url_cmp u) ∙ or_left (same_url u u) false (own_text u)
+entry_open : (maps : Maps) (u : Url) (promise : ℕ) (l : Loading) → l ≡ asks_entry (no_loading maps) u promise → has (open_asks l) u ≡ true
+entry_open maps u promise l e = ap (λ k. has (open_asks k) u) e ∙ has_own u []
 
-pub none_next : (maps : Maps) (u : Url) → HasNoNext (opening_loading maps u)
-none_next maps u = ap (next_by (u, Root 0) [] None) (get-empty url_cmp u)
+-- it was asked for where nothing was, and nothing has changed since
+pub still_open : (maps : Maps) (u : Url) (promise : ℕ) (before asked after : Loads) (R S : List RecordParts)
+    → loading_of maps before R ≡ no_loading maps
+    → loading_of maps asked R ≡ asks_entry (loading_of maps before R) u promise
+    → after ≡ asked → S ≡ R → has (open_asks (loading_of maps after S)) u ≡ true
+still_open maps u promise before asked after R S nothing asks same records =
+    entry_open maps u promise (loading_of maps after S)
+    (ap (λ l. loading_of maps l S) same ∙ (ap (loading_of maps asked) records ∙ (asks ∙ ap (λ l. asks_entry l u promise) nothing)))

@@ -7,10 +7,6 @@ mod asks;
 #[cfg(test)]
 mod engine;
 #[cfg(test)]
-mod loads;
-#[cfg(test)]
-mod one_load;
-#[cfg(test)]
 mod several_loads;
 #[cfg(test)]
 mod site;
