@@ -1,6 +1,6 @@
 -- A load that has ended or that a limit has stopped does nothing more.
 use Rattle.std.proofs.Common.{◌≡◌, ℕ, zero, suc, ◌+◌, ◌≤◌, ◌<◌, Bool, true, false, List, [], ◌∷◌, Option, Some, None, refl, ap, subst, sym, ◌∙◌, arith}
-use Rattle.std.specs.Prelude.{nat_lt, slice_get, slice_set, length}
+use Rattle.std.specs.Prelude.{not, ◌||◌, nat_lt, slice_get, slice_set, length}
 use Rattle.esm_base.specs.declared.limits.Limit.{Limit}
 use Rattle.esm_base.specs.Urls.{Text, Url, has}
 use Rattle.esm_loads.specs.UrlTable.{TableEntry, Throw, thrown_by}
@@ -50,8 +50,20 @@ visited_stays e f (ended n) = refl
 visited_stays e f (known p d g) = refl
 visited_stays e f (enters p d t q) = no_visit _ _ _ _ _ p e d f t
 
+unlinked_stale : (b c : Bool) → c ≡ true → not (b || c) ≡ false
+unlinked_stale true c e = refl
+unlinked_stale false c e = ap not e
+
+unlinked_stays : {l after : Loading} {s : ℕ} {x : Url} → l.unlinked x ≡ true → Enters l s x after → after ≡ l
+unlinked_stays e (ended n) = refl
+unlinked_stays e (known p d g) = refl
+unlinked_stays e (enters {l = l} {x = x} p d t q) = no_visit _ _ _ _ p p d d (unlinked_stale (p.1 x) (l.unlinked x) e) t
+
 pub visits_once : VisitsOnce
-visits_once = record { enters = λ l after s x o e f q. visited_stays e f q }
+visits_once = record {
+  visited = λ l after s x o e v q. visited_stays e (ap (λ b. not (b || l.unlinked x)) v) q;
+  unlinked = λ l after s x u q. unlinked_stays u q;
+}
 
 -- ---- a load that a limit stops hasn't ended
 

@@ -9,7 +9,7 @@ use Rattle.esm_ast.specs.Outcome.{OutcomeView}
 use Rattle.esm_realm.specs.Laws.{AreDistinct, IsClosedUnder}
 use Rattle.esm_import_map.specs.ImportMap.{Maps}
 use Rattle.esm_loads.specs.UrlTable.{Entries, TableEntry, found}
-use Rattle.esm_loads.specs.Loading.{Loading, LoadState, PendingRequest, Request, OpenLoad, open_load, is_fresh, finish, ask, add_pending, is_fetching, targets, root_of_load}
+use Rattle.esm_loads.specs.Loading.{Loading, LoadState, PendingRequest, Request, OpenLoad, open_load, finish, ask, add_pending, is_fetching, targets, root_of_load}
 use Rattle.esm_loads.specs.Load.{Enters, Asks, Answers}
 use Rattle.esm_loads.specs.Host.{Host, Answered, opening_host, begin_load, with_loading}
 use Rattle.esm_loads.specs.Arrival.{bytes_of, after_fetch, put_found, Next, next, AnswersNext, Arrives, pending_left, open_asks}
@@ -143,8 +143,9 @@ pub record EndedLoadStays : Type 0 where
 
 -- a load enters no module twice, and none that isn't New: where it comes to one, nothing changes
 pub record VisitsOnce : Type 0 where
-  pub enters : (l after : Loading) (s : ℕ) (x : Url) (o : OpenLoad)
-      → open_load l s ≡ Some o → is_fresh l o.1 x ≡ false → Enters l s x after → after ≡ l
+  pub visited : (l after : Loading) (s : ℕ) (x : Url) (o : OpenLoad)
+      → open_load l s ≡ Some o → o.1 x ≡ true → Enters l s x after → after ≡ l
+  pub unlinked : (l after : Loading) (s : ℕ) (x : Url) → l.unlinked x ≡ true → Enters l s x after → after ≡ l
 
 -- a limit stops at once: no promise is settled and no error is made behind it
 pub record LimitStops : Type 0 where
