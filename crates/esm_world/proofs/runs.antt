@@ -6,7 +6,9 @@ pub mod AwaitedImport
 pub mod MissingExport
 pub mod Live
 pub mod AbsentEntry
+pub mod BrokenEntry
 pub mod LimitFirst
+pub mod ManyImports
 pub mod ThrownBehindAwait
 pub mod Traced
 pub mod CaughtThrow

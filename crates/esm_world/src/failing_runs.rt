@@ -1,5 +1,5 @@
-//! Worked examples of what fails: whole standard runs, as functions without effect.
-ghost use Rattle.esm_world.specs.FailingRuns.{CatchesFault, CatchesRefusal, CatchesThrow, EntryAbsent, LimitFirst, ThrowsBehindAwait};
+//! Worked examples of what fails: whole standard runs, as functions without effect. And a law of entries with too many imports.
+ghost use Rattle.esm_world.specs.FailingRuns.{BareSpecifier, CatchesFault, CatchesRefusal, CatchesThrow, EntryAbsent, LimitFirst, NoModuleText, ThrowsBehindAwait, TooManyImports};
 
 /// The entry isn't there: the error of its URL is uncaught, and no body runs.
 pub fn entry_absent()
@@ -29,4 +29,20 @@ pub fn catches_fault()
 /// An awaited `import()` of a module that imports a URL which cannot be fetched: the load throws, which is caught at the await.
 pub fn catches_refusal()
     ensures { CatchesRefusal }
+{}
+
+/// An entry with a request that names no URL, and that no import map maps: it is broken, and nothing of it is asked.
+pub fn bare_specifier()
+    ensures { BareSpecifier }
+{}
+
+/// An entry that is no module text: the error of its fault is uncaught.
+pub fn no_module_text()
+    ensures { NoModuleText }
+{}
+
+/// An entry that imports 4,096 different URLs or more beside its own, whatever else it holds, and by whatever import map: behind
+/// its one delivery the run has ended with `Limit L1`, nothing is written, and no body has begun.
+pub fn too_many_imports()
+    ensures { TooManyImports }
 {}
