@@ -1,4 +1,5 @@
 pub mod AskClosure
+pub mod Closures
 pub mod Members
 pub mod MemberModules
 pub mod MemberWorld

@@ -1,8 +1,14 @@
 //! Laws of the definitions, each the contract of a function without effect.
 ghost use Rattle.esm_direct_laws.specs.Asks.{AsksClosure};
+ghost use Rattle.esm_direct_laws.specs.Closures.{HasClosure};
 ghost use Rattle.esm_world.specs.OnOrder.{HasDirectRun, NeverStops, OrderFreeShown, OrderFreeWithin};
 
 use esm_resolve::laws::shared_set;
+
+/// Where some list has each URL of the closure, there is a list of these alone, each once.
+pub fn has_closure()
+    ensures { HasClosure }
+{}
 
 /// Clean files have a direct run, which shows something.
 pub fn has_direct_run()
