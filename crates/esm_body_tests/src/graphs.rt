@@ -1,6 +1,7 @@
 // Runs over large graphs of modules.
 use esm_base::Memory;
-use esm_sites::{Takes, Told, ending, holds, site_judged};
+use esm_site_runs::{Takes, site_judged};
+use esm_sites::{Told, ending, holds};
 use std::alloc::Global;
 use std::marker::Sync;
 use std::sync::Wait;

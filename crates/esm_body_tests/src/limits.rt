@@ -1,9 +1,10 @@
 // Texts and sites that reach a limit, and those that just don't.
 use crate::running::{counted, push_times, text_ends_so};
 use esm_base::{Memory, Text};
+use esm_site_runs::ends_so;
 use esm_sites::{
-    COMMAND, ENTRY, RowCheck, Told, Wanted, add_named, ending, ends_so, files, has_lines, holds,
-    rows_hold, site, wanted_of,
+    COMMAND, ENTRY, RowCheck, Told, Wanted, add_named, ending, files, has_lines, holds, rows_hold,
+    site, wanted_of,
 };
 use std::alloc::Global;
 use std::marker::Sync;

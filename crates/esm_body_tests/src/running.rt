@@ -1,9 +1,10 @@
 // Runs over one source, and whether they end as they are to.
 use crate::{calls, names, values};
 use esm_base::{Memory, Status};
+use esm_site_runs::{RunsAsSaid, ends_so};
 use esm_sites::{
-    COMMAND, ENTRY, RunsAsSaid, Told, Wanted, ends_so, files, holds, is_wanted, rows_hold,
-    tables_hold, told_of, wanted_of,
+    COMMAND, ENTRY, Told, Wanted, files, holds, is_wanted, rows_hold, tables_hold, told_of,
+    wanted_of,
 };
 use std::alloc::Global;
 use std::marker::Sync;

@@ -8,9 +8,9 @@ use esm_base::{Memory, Status, Text};
 use esm_import_map::ImportMap;
 use esm_machine::Machine;
 use esm_run::Delivery;
+use esm_site_runs::{Judge, deliver_taken, site_judged};
 use esm_sites::{
-    Judge, RowCheck, Told, Wanted, deliver_taken, ending, holds, is_wanted, rows_hold, site_judged,
-    title, told_of, wanted_of,
+    RowCheck, Told, Wanted, ending, holds, is_wanted, rows_hold, title, told_of, wanted_of,
 };
 use std::alloc::Global;
 use std::marker::Sync;

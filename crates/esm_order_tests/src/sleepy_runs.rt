@@ -3,9 +3,8 @@ use crate::sleepy::{all_sleepy, sleepy};
 use crate::standard::standard_end;
 use esm_base::{Memory, Status};
 use esm_run::Delivery;
-use esm_sites::{
-    COMMAND, Judge, Told, Wanted, ending, holds, is_wanted, judged, sure_sink, title, wanted_of,
-};
+use esm_site_runs::{Judge, judged};
+use esm_sites::{COMMAND, Told, Wanted, ending, holds, is_wanted, sure_sink, title, wanted_of};
 use std::alloc::Global;
 use std::marker::{Send, Sync};
 use std::sync::Wait;

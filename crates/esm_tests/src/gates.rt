@@ -4,7 +4,8 @@ ghost use Rattle.esm_ports.specs.Asks.{failed_count};
 
 use esm_base::Memory;
 use esm_ports::{FetchEnd, MemSource, Source};
-use esm_sites::{COMMAND, Ends, Told, ending, files_of, holds, judged, sure_sink};
+use esm_site_runs::{Ends, judged};
+use esm_sites::{COMMAND, Told, ending, files_of, holds, sure_sink};
 use std::alloc::Global;
 use std::marker::{Send, Sync};
 use std::sync::{Arc, Mutex, Wait};

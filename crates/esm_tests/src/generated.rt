@@ -3,10 +3,8 @@ use crate::told::{Refusal, is_cut};
 use esm_base::{Memory, Status};
 use esm_ports::MemSource;
 use esm_run::Delivery;
-use esm_sites::{
-    Judge, RowCheck, Setting, Told, has_lines, holds, is_wanted, rows_hold, set_judged, title,
-    wanted_of,
-};
+use esm_site_runs::{Judge, Setting, set_judged};
+use esm_sites::{RowCheck, Told, has_lines, holds, is_wanted, rows_hold, title, wanted_of};
 use std::alloc::Global;
 use std::marker::Sync;
 use std::sync::Wait;

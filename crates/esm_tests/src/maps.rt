@@ -2,9 +2,8 @@
 use esm_base::{Memory, Status};
 use esm_ports::{MemSource, Source};
 use esm_run::Delivery;
-use esm_sites::{
-    Judge, RowCheck, Setting, Told, Wanted, holds, is_wanted, rows_hold, set_judged, wanted_of,
-};
+use esm_site_runs::{Judge, Setting, set_judged};
+use esm_sites::{RowCheck, Told, Wanted, holds, is_wanted, rows_hold, wanted_of};
 use std::alloc::Global;
 use std::marker::Sync;
 use std::sync::Wait;

@@ -2,7 +2,8 @@
 use crate::told::{LineCheck, is_cut};
 use esm_base::{Memory, Status};
 use esm_run::Delivery;
-use esm_sites::{Judge, Setting, Told, holds, rows_hold, set_judged};
+use esm_site_runs::{Judge, Setting, set_judged};
+use esm_sites::{Told, holds, rows_hold};
 use std::alloc::Global;
 use std::marker::Sync;
 use std::sync::Wait;

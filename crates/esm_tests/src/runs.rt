@@ -3,9 +3,8 @@ use crate::told::{Refusal, is_cut};
 use esm_base::{Memory, Status};
 use esm_ports::{MemSource, Source};
 use esm_run::Delivery;
-use esm_sites::{
-    COMMAND, Judge, Setting, Shared, Told, has_lines, holds, rows_hold, set_judged, site_judged,
-};
+use esm_site_runs::{Judge, Setting, Shared, set_judged, site_judged};
+use esm_sites::{COMMAND, Told, has_lines, holds, rows_hold};
 use std::alloc::Global;
 use std::marker::Sync;
 use std::sync::Wait;

@@ -2,7 +2,8 @@
 use esm_base::{Memory, Status};
 use esm_ports::{AskKind, MemSource, Source};
 use esm_run::Delivery;
-use esm_sites::{Judge, Setting, Takes, Told, Wanted, holds, set_judged};
+use esm_site_runs::{Judge, Setting, Takes, set_judged};
+use esm_sites::{Told, Wanted, holds};
 use std::alloc::Global;
 use std::marker::Sync;
 use std::sync::Wait;

@@ -1,5 +1,6 @@
 // Worked sites of imports and prints, and what one file writes.
-use esm_sites::{RunsAsSaid, SITES, Told, tables_hold};
+use esm_site_runs::RunsAsSaid;
+use esm_sites::{SITES, Told, tables_hold};
 
 // Sites whose entry fails, where fetches end in the order in which they begin.
 const FAILING: &str = r#"== two missing files

@@ -1,7 +1,8 @@
 // Checks of whole runs over one source in memory.
 use esm_base::{Memory, Status};
 use esm_run::Delivery;
-use esm_sites::{Ends, Judge, RowCheck, Setting, Takes, Wanted, set_judged, title, wanted_of};
+use esm_site_runs::{Ends, Judge, Setting, Takes, set_judged};
+use esm_sites::{RowCheck, Wanted, title, wanted_of};
 use std::alloc::Global;
 use std::marker::Sync;
 use std::sync::Wait;

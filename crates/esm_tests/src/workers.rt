@@ -3,9 +3,9 @@ use crate::told::USAGE;
 use esm_base::{Memory, Status};
 use esm_ports::MemSource;
 use esm_run::Delivery;
+use esm_site_runs::{Ends, Judge, Setting, set_judged};
 use esm_sites::{
-    COMMAND, Ends, Judge, RowCheck, SITES, Setting, Told, Wanted, files_of, has_lines, is_wanted,
-    rows_hold, set_judged, wanted_of,
+    COMMAND, RowCheck, SITES, Told, Wanted, files_of, has_lines, is_wanted, rows_hold, wanted_of,
 };
 use std::alloc::Global;
 use std::marker::Sync;

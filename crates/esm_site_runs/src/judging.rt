@@ -1,10 +1,10 @@
 // Runs, and what looks at them when they are over.
 ghost use Rattle.std.specs.Prelude.{◌≡◌, ◌<◌, [], All, vec_len};
 
-use crate::setup::words;
 use esm_base::{Memory, Status};
 use esm_ports::{MemSink, Source};
 use esm_run::{Delivery, run};
+use esm_sites::words;
 use std::alloc::Global;
 use std::marker::{Send, Sync};
 use std::sync::Wait;

@@ -1,11 +1,12 @@
 // Whole runs over sites in memory.
 use crate::judging::{Judge, judged};
-use crate::setup::{COMMAND, at_least_one, desk, failing_sink, one_source, sources_of, sure_sink};
-use crate::telling::RowCheck;
-use crate::texts::{Wanted, is_wanted, wanted_of};
 use esm_base::{Memory, Status, Text};
 use esm_ports::MemSource;
 use esm_run::Delivery;
+use esm_sites::{
+    COMMAND, RowCheck, Wanted, at_least_one, desk, failing_sink, is_wanted, one_source, sources_of,
+    sure_sink, wanted_of,
+};
 use std::alloc::Global;
 use std::marker::Sync;
 use std::sync::Wait;
