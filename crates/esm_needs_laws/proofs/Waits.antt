@@ -3,8 +3,7 @@ use Rattle.std.proofs.Common.{◌≡◌, ◌⊎◌, inl, inr, Bool, true, false,
 use Rattle.std.specs.Option.{unwrap_or, option_or}
 use Rattle.esm_base.specs.Lists.{is_in}
 use Rattle.esm_realm.proofs.Urls.{not_true, not_both}
-use Rattle.esm_realm.proofs.Lists.{either}
-use Rattle.esm_realm.proofs.Depth.{split}
+use Rattle.esm_realm.proofs.Lists.{either, split}
 use Rattle.esm_eval.specs.Nodes.{Phase, NotEntered, Evaluating, EvaluatingAsync, Evaluated, Node, BodyCalls}
 use Rattle.esm_eval.specs.Evaluation.{Evaluation, IsLawful, IsSteady, phase, waits, waiters, is_done, is_stamped, root_of, error_of, wait_on, wait_by, put_wait, put_waiter, add_wait}
 use Rattle.esm_eval.proofs.Puts.{put_at, same_field, put_stamped}

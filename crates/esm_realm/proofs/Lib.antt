@@ -2,9 +2,6 @@ pub mod Urls
 pub mod HasWalks
 pub mod WalkLaws
 pub mod LeavesOnce
-pub mod WalkBy
-pub mod Agree
-pub mod Depth
 pub mod ByNumber
 pub mod Weigh
 pub mod Sounds

@@ -10,6 +10,19 @@ pub either : {A B C : Type 0} → A ⊎ B → (A → C) → (B → C) → C
 either (inl a) f g = f a
 either (inr b) f g = g b
 
+-- where y stands in a list that is put together
+pub split : {A : Type 0} (xs ys a b : List A) (y : A) → xs ++ ys ≡ a ++ y ∷ b → ((c : List A) × (xs ≡ a ++ y ∷ c)) ⊎ ((c : List A) × (a ≡ xs ++ c) × (ys ≡ c ++ y ∷ b))
+split [] ys a b y e = inr (a, refl, e)
+split (x ∷ xs) ys [] b y e = let same : x ≡ y = cc in inl (xs, ap (λ z. z ∷ xs) same)
+split (x ∷ xs) ys (z ∷ a) b y e = by (split xs ys a b y cc)
+  where
+    same : x ≡ z
+    same = cc
+
+    by : ((c : List _) × (xs ≡ a ++ y ∷ c)) ⊎ ((c : List _) × (a ≡ xs ++ c) × (ys ≡ c ++ y ∷ b)) → ((c : List _) × (x ∷ xs ≡ (z ∷ a) ++ y ∷ c)) ⊎ ((c : List _) × (z ∷ a ≡ (x ∷ xs) ++ c) × (ys ≡ c ++ y ∷ b))
+    by (inl r) = inl (r.0, λ i. same i ∷ r.1 i)
+    by (inr r) = inr (r.0, λ i. sym same i ∷ r.1 i, r.2)
+
 module _ {N : Type 0} (same : N → N → Bool) (own : (x : N) → same x x ≡ true) (equal : (x y : N) → same x y ≡ true → x ≡ y) where
   abbrev pub In : List N → N → Type 0
   In xs y = is_in same xs y ≡ true
