@@ -141,7 +141,8 @@ pub record EndedLoadStays : Type 0 where
   pub answered : (h after : Host) (s i : ℕ) (x u : Url) (e : TableEntry)
       → open_load h.imports s ≡ None → Answered h (Request s x i) u e after → after ≡ h
 
--- a load enters no module twice, and none that isn't New: where it comes to one, nothing changes
+-- a load enters no module that it has visited, and none that isn't New: where it comes to one, nothing changes. That what it
+-- enters stays visited is seen by StaysWhole
 pub record VisitsOnce : Type 0 where
   pub visited : (l after : Loading) (s : ℕ) (x : Url) (o : OpenLoad)
       → open_load l s ≡ Some o → o.1 x ≡ true → Enters l s x after → after ≡ l

@@ -98,15 +98,15 @@ BareSpecifier = Run (bare_main ∷ []) (ended statuses.EntryFailed (main_url ∷
 abbrev pub two_texts : Delivery
 two_texts = completed main_url (Broken (record { fault = P2; bytes = codes "print(\"a\" \"b\")" }))
 
--- the error of its fault is uncaught
+-- the error of the fault that is delivered is uncaught
 abbrev pub NoModuleText : Type 0
 NoModuleText = Run (two_texts ∷ []) (ended statuses.EntryFailed (main_url ∷ []) []
     (codes "Uncaught SyntaxError: a:/m: P2 no module text") [])
 
 -- ---- too many imports
 
--- what is delivered for the entry is a module text, whose requests resolve to these targets. The entry and its targets are more
--- than MAX_URLS different URLs
+-- what is delivered for the entry is a module text that can be run, of at most MAX_DELIVERED_BYTES bytes, whose requests resolve to
+-- these targets. The entry and its targets are more than MAX_URLS different URLs
 pub record ImportsTooMany (maps : Maps) (built : List Item → Bool) (entry : Url) (c : OutcomeView) (targets : List Url) : Type 0 where
   pub items : List Item
   pub is : found maps built entry c ≡ Script (record { body = items; targets = targets })
@@ -117,8 +117,8 @@ pub record ImportsTooMany (maps : Maps) (built : List Item → Bool) (entry : Ur
   pub among : (u : Url) → has urls u ≡ true → has (entry ∷ targets) u ≡ true
   pub many : MAX_URLS < length urls
 
--- MAX_URLS are asked, and at the next one the limit stops the run: after this one delivery it has ended, nothing is written, and
--- no body has begun
+-- MAX_URLS are asked (which, isn't said here), and the limit stops the run: after this one delivery it has ended, the log is empty,
+-- and no body has begun
 abbrev pub TooManyImports : Type 0
 TooManyImports = (maps : Maps) (built : List Item → Bool) (entry : Url) (trace : Bool) (c : OutcomeView) (targets : List Url)
     → ImportsTooMany maps built entry c targets → (asked : List Url) × (length asked ≡ MAX_URLS)

@@ -41,8 +41,9 @@ pub fn no_module_text()
     ensures { NoModuleText }
 {}
 
-/// An entry that imports 4,096 different URLs or more beside its own, whatever else it holds, and by whatever import map: behind
-/// its one delivery the run has ended with `Limit L1`, nothing is written, and no body has begun.
+/// An entry that can be run, of at most 16,777,216 bytes, whose requests all resolve, to 4,096 different URLs or more beside its
+/// own, by whatever import map: behind its one delivery the run has ended with `Limit L1`, nothing is printed, and no body has
+/// begun.
 pub fn too_many_imports()
     ensures { TooManyImports }
 {}
