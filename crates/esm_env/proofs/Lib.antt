@@ -8,6 +8,7 @@ pub mod OwnLemmas
 pub mod MadeLemmas
 pub mod OneRead
 pub mod WrittenLemmas
+pub mod PlacedLemmas
 pub mod LocalLemmas
 pub mod FunctionLemmas
 pub mod Named

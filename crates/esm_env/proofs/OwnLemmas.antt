@@ -1,5 +1,5 @@
 -- The names that a scope declares, as its tree has them, and names by their places.
-use Rattle.std.proofs.Common.{◌≡◌, ℕ, zero, suc, Bool, true, false, ◌+◌, ◌<◌, List, [], ◌∷◌, ◌++◌, map, length, refl, ap, sym, subst, ◌∙◌, slice_index_or, arith}
+use Rattle.std.proofs.Common.{◌≡◌, ℕ, zero, suc, Bool, true, false, ◌+◌, ◌<◌, ◌≤◌, List, [], ◌∷◌, ◌++◌, map, length, refl, ap, sym, subst, ◌∙◌, slice_index_or, arith}
 use Rattle.std.proofs.lemmas.List.{map-append}
 use Rattle.std.proofs.lemmas.Option.{slice_get-get_or}
 use Rattle.std.proofs.lemmas.Slice.Eq.{bytes_eq-Decides}
@@ -16,6 +16,7 @@ use Rattle.esm_env.specs.Placed.{names_of, place_by, place_of}
 use Rattle.esm_env.specs.Scopes.{Scopes, scope_in, import_of, read_import, read_in, read_or, wrote_by, wrote_set}
 use Rattle.esm_env.specs.Scopes.{cell_by as scope_cell}
 use Rattle.esm_env.specs.declared.scope.ModuleScope.{ModuleScope}
+use Rattle.esm_env.specs.declared.scope.Wrote.{Wrote}
 use Rattle.esm_env.specs.declared.scope.Wrote.TheVariants as wrote
 use Rattle.esm_env.specs.Slots.{IsPlace, place_in, slot_in, cell_in, slot_cell}
 use Rattle.esm_env.specs.declared.slots.Slot.{Slot}
@@ -81,7 +82,7 @@ placed_name (s ∷ ss) x place d e = first_name s x d ss (λ p k. placed_name ss
 
 -- ---- reading
 
-some_slot : (slots : List Slot) (x : List ℕ) (place : ℕ) → first_place (slot_names slots) x ≡ Some place → (t : Slot) × (slot_in slots x ≡ Some t)
+pub some_slot : (slots : List Slot) (x : List ℕ) (place : ℕ) → first_place (slot_names slots) x ≡ Some place → (t : Slot) × (slot_in slots x ≡ Some t)
 some_slot [] x place e = let h = placed_below [] x place e in absurd (omega arith)
 some_slot (s ∷ ss) x place e = (slice_index_or (s ∷ ss) place s, placed_slot (s ∷ ss) x place s e)
 
@@ -120,23 +121,31 @@ done_by false (Some v) e h = refl
 abbrev SetAt : List Slot → ℕ → Bool → Type 0
 SetAt slots place is = (d : Slot) → is ≡ is_some (slot_cell (slice_index_or slots place d)).value
 
-set_slot : (slots : List Slot) (x : List ℕ) (place : ℕ) (is : Bool) (t : Slot) → SetAt slots place is → first_place (slot_names slots) x ≡ Some place → slot_in slots x ≡ Some t → is_some (slot_cell t).value ≡ is
-set_slot slots x place is t h e k =
-    let same : slice_index_or slots place t ≡ t = one _ _ (sym (placed_slot slots x place t e) ∙ k) in
+set_slot : (slots : List Slot) (place : ℕ) (is : Bool) (t : Slot) → SetAt slots place is → place < length slots → slice_get slots place ≡ Some t → is_some (slot_cell t).value ≡ is
+set_slot slots place is t h below k =
+    let same : slice_index_or slots place t ≡ t = one _ _ (sym (slice_get-get_or slots place t below) ∙ k) in
     subst (λ u. is_some (slot_cell u).value ≡ is) same (sym (h t))
   where
     one : (a b : Slot) → ◌≡◌ {A = Option Slot} (Some a) (Some b) → a ≡ b
     one a b q = cc
 
-pub unset_at : (slots : List Slot) (x : List ℕ) (place : ℕ) (imports : Bool) (is : Bool) → SetAt slots place is → is ≡ false → first_place (slot_names slots) x ≡ Some place → wrote.Unset ≡ wrote_by (cell_in (slot_in slots x)) imports
-unset_at slots x place imports is h b e =
-    let t = some_slot slots x place e in
-    unset_by t.0.constant (slot_cell t.0).value (set_slot slots x place is t.0 h e t.1 ∙ b) ∙ sym (ap (λ o. wrote_by (cell_in o) imports) t.1)
+-- what a write at a place comes to
+abbrev wrote_there : List Slot → ℕ → Wrote
+wrote_there slots place = wrote_by (cell_in (slice_get slots place)) false
 
-pub constant_at : (slots : List Slot) (x : List ℕ) (place : ℕ) (imports : Bool) (is : Bool) (t : Slot) → SetAt slots place is → is ≡ true → first_place (slot_names slots) x ≡ Some place → slot_in slots x ≡ Some t → t.constant ≡ true
-    → wrote.Constant ≡ wrote_by (cell_in (slot_in slots x)) imports
-constant_at slots x place imports is t h b e k c = constant_by t.constant (slot_cell t).value (set_slot slots x place is t h e k ∙ b) c ∙ sym (ap (λ o. wrote_by (cell_in o) imports) k)
+pub constant_at : (slots : List Slot) (place : ℕ) (is : Bool) (t : Slot) → SetAt slots place is → is ≡ true → place < length slots → slice_get slots place ≡ Some t → t.constant ≡ true → wrote.Constant ≡ wrote_there slots place
+constant_at slots place is t h b below k c = constant_by t.constant (slot_cell t).value (set_slot slots place is t h below k ∙ b) c ∙ sym (ap (λ o. wrote_by (cell_in o) false) k)
 
-pub done_at : (slots : List Slot) (x : List ℕ) (place : ℕ) (imports : Bool) (is : Bool) (t : Slot) → SetAt slots place is → is ≡ true → first_place (slot_names slots) x ≡ Some place → slot_in slots x ≡ Some t → t.constant ≡ false
-    → wrote.Done ≡ wrote_by (cell_in (slot_in slots x)) imports
-done_at slots x place imports is t h b e k c = done_by t.constant (slot_cell t).value (set_slot slots x place is t h e k ∙ b) c ∙ sym (ap (λ o. wrote_by (cell_in o) imports) k)
+pub done_at : (slots : List Slot) (place : ℕ) (is : Bool) (t : Slot) → SetAt slots place is → is ≡ true → place < length slots → slice_get slots place ≡ Some t → t.constant ≡ false → wrote.Done ≡ wrote_there slots place
+done_at slots place is t h b below k c = done_by t.constant (slot_cell t).value (set_slot slots place is t h below k ∙ b) c ∙ sym (ap (λ o. wrote_by (cell_in o) false) k)
+
+pub unset_at : (slots : List Slot) (place : ℕ) (is : Bool) → SetAt slots place is → is ≡ false → place < length slots → wrote.Unset ≡ wrote_there slots place
+unset_at [] place is h b below = absurd (omega (arith, below))
+unset_at (s ∷ ss) place is h b below =
+    let t = slice_index_or (s ∷ ss) place s in
+    unset_by t.constant (slot_cell t).value (sym (h s) ∙ b) ∙ sym (ap (λ o. wrote_by (cell_in o) false) (slice_get-get_or (s ∷ ss) place s below))
+
+pub none_at : (slots : List Slot) (place : ℕ) → length slots ≤ place → wrote.Undeclared ≡ wrote_there slots place
+none_at [] place h = refl
+none_at (s ∷ ss) zero h = absurd (omega (arith, h))
+none_at (s ∷ ss) (suc place) h = none_at ss place (omega (arith, h))

@@ -15,8 +15,8 @@ use Rattle.esm_env.specs.Writing.{write_at, write_by, constant_by, writing_of}
 use Rattle.esm_env.specs.Writing.{Writing as writing}
 use Rattle.esm_env.specs.Slots.{place_in, place_by, slot_in, cell_in, written_in, written_slot, write_slot, valued_by}
 use Rattle.esm_env.specs.Scopes.{cell_by as scope_cell}
-use Rattle.esm_env.specs.Scopes.{Scopes, scope_in, own_cell, written_by, cells_of, import_in, wrote_set, wrote_none, wrote_by, StaysOrWrites}
-use Rattle.esm_env.specs.Calls.{IsWrittenBy, IsWrittenIn, IsSetBy, IsInitialised, told_write}
+use Rattle.esm_env.specs.Scopes.{Scopes, scope_in, own_cell, written_by, cells_of, import_in, wrote_set, wrote_none, wrote_by, StaysOrWrites, StaysOrWritesAt}
+use Rattle.esm_env.specs.Calls.{IsWrittenBy, IsWrittenIn, IsWrittenPlaceBy, IsSetBy, IsInitialised, told_write}
 use Rattle.esm_env.specs.Faithful.{SlotFits, IsFaithful, IsFaithfulAt, HasImports, IsLikeScope}
 use Rattle.esm_env.specs.Laws.{WritesRight}
 use Rattle.esm_env.specs.declared.slots.Slot.{Slot}
@@ -94,31 +94,34 @@ fits_written m (s ∷ ss) (suc at) v y i h = fits_suc m s ss (write_slot ss at v
 
 -- ---- one scope is written
 
--- the same scope with one slot written
-pub record WritesOne (s : ModuleScope) (x : List ℕ) (v : Value) (t : ModuleScope) : Type 0 where
-  pub slots : t.slots.items ≡ write_slot s.slots.items (place_in s.slots.items x) v
+-- the same scope with the slot at a place written
+pub record WritesOne (s : ModuleScope) (place : ℕ) (v : Value) (t : ModuleScope) : Type 0 where
+  pub slots : t.slots.items ≡ write_slot s.slots.items place v
   pub imports : t.imports ≡ s.imports
   pub tree : t.tree ≡ s.tree
   pub namespace : t.namespace ≡ s.namespace
 
 -- what a scope is behind a write, whatever it came to
-same_or_one : (s : ModuleScope) (x : List ℕ) (v : Value) (result : Wrote) (t : ModuleScope) → StaysOrWrites s x v result t → (t ≡ s) ⊎ WritesOne s x v t
-same_or_one s x v wrote.Done t h = inr (record { slots = h.0; imports = h.1; tree = h.2; namespace = h.3 })
-same_or_one s x v wrote.Unset t h = inl h
-same_or_one s x v wrote.Constant t h = inl h
-same_or_one s x v wrote.Undeclared t h = inl h
+abbrev pub SameOrOne : ModuleScope → ℕ → Value → ModuleScope → Type 0
+SameOrOne s place v t = (t ≡ s) ⊎ WritesOne s place v t
 
-fits_at : (g : Modules ℕ) (m : ℕ) (s : ModuleScope) (x : List ℕ) (v : Value) (t : ModuleScope) → IsFaithfulAt g m s → (t ≡ s) ⊎ WritesOne s x v t → IsFaithfulAt g m t
-fits_at g m s x v t h (inl e) = subst (λ s. IsFaithfulAt g m s) (sym e) h
-fits_at g m s x v t h (inr w) = record {
-  slots = λ y. subst (λ ss. SlotFits m (slot_in ss y) (initial (g.tree m) y)) (sym w.slots) (fits_written m s.slots.items (place_in s.slots.items x) v y (initial (g.tree m) y) (h.slots y));
+pub same_or_one : (s : ModuleScope) (place : ℕ) (v : Value) (result : Wrote) (t : ModuleScope) → StaysOrWritesAt s place v result t → SameOrOne s place v t
+same_or_one s place v wrote.Done t h = inr (record { slots = h.0; imports = h.1; tree = h.2; namespace = h.3 })
+same_or_one s place v wrote.Unset t h = inl h
+same_or_one s place v wrote.Constant t h = inl h
+same_or_one s place v wrote.Undeclared t h = inl h
+
+fits_at : (g : Modules ℕ) (m : ℕ) (s : ModuleScope) (place : ℕ) (v : Value) (t : ModuleScope) → IsFaithfulAt g m s → SameOrOne s place v t → IsFaithfulAt g m t
+fits_at g m s place v t h (inl e) = subst (λ s. IsFaithfulAt g m s) (sym e) h
+fits_at g m s place v t h (inr w) = record {
+  slots = λ y. subst (λ ss. SlotFits m (slot_in ss y) (initial (g.tree m) y)) (sym w.slots) (fits_written m s.slots.items place v y (initial (g.tree m) y) (h.slots y));
   bound = λ y. rw w.imports (h.bound y);
   namespace = rw w.namespace h.namespace;
 }
 
-like_by : (s : ModuleScope) (x : List ℕ) (v : Value) (t : ModuleScope) → (t ≡ s) ⊎ WritesOne s x v t → IsLikeScope (Some s) (Some t)
-like_by s x v t (inl e) = (ap (λ (s : ModuleScope). s.imports) e, ap (λ (s : ModuleScope). s.tree) e, ap (λ (s : ModuleScope). s.namespace) e)
-like_by s x v t (inr w) = (w.imports, w.tree, w.namespace)
+like_by : (s : ModuleScope) (place : ℕ) (v : Value) (t : ModuleScope) → SameOrOne s place v t → IsLikeScope (Some s) (Some t)
+like_by s place v t (inl e) = (ap (λ (s : ModuleScope). s.imports) e, ap (λ (s : ModuleScope). s.tree) e, ap (λ (s : ModuleScope). s.namespace) e)
+like_by s place v t (inr w) = (w.imports, w.tree, w.namespace)
 
 like_same : (o : Option ModuleScope) → IsLikeScope o o
 like_same None = tt
@@ -126,59 +129,64 @@ like_same (Some s) = (refl, refl, refl)
 
 -- ---- all scopes: how the scope of the module changes, and that the others stay
 
-abbrev ScopeChanges : List ℕ → Value → Option ModuleScope → Option ModuleScope → Type 0
-ScopeChanges x v None None = Unit {0}
-ScopeChanges x v None (Some t) = ⊥
-ScopeChanges x v (Some s) None = ⊥
-ScopeChanges x v (Some s) (Some t) = (t ≡ s) ⊎ WritesOne s x v t
+abbrev ScopeChanges : Value → Option ModuleScope → Option ModuleScope → Type 0
+ScopeChanges v None None = Unit {0}
+ScopeChanges v None (Some t) = ⊥
+ScopeChanges v (Some s) None = ⊥
+ScopeChanges v (Some s) (Some t) = (place : ℕ) × SameOrOne s place v t
 
 abbrev OthersAre : Scopes → ℕ → Scopes → Type 0
 OthersAre e m late = (n : ℕ) → (n ≡ m → ⊥) → scope_in late n ≡ scope_in e n
 
-none_else : (o : Option ModuleScope) (x : List ℕ) (v : Value) → o ≡ None → ScopeChanges x v None o
-none_else None x v e = tt
-none_else (Some t) x v e = absurd (cc)
+none_else : (o : Option ModuleScope) (v : Value) → o ≡ None → ScopeChanges v None o
+none_else None v e = tt
+none_else (Some t) v e = absurd (cc)
 
-written_changes : (o p : Option ModuleScope) (x : List ℕ) (v : Value) (result : Wrote) → IsWrittenBy o x v result p → ScopeChanges x v o p
-written_changes None p x v result h = none_else p x v h.1
+written_changes : (o p : Option ModuleScope) (x : List ℕ) (v : Value) (result : Wrote) → IsWrittenBy o x v result p → ScopeChanges v o p
+written_changes None p x v result h = none_else p v h.1
 written_changes (Some s) None x v result h = absurd h
-written_changes (Some s) (Some t) x v result h = same_or_one s x v result t h.1
+written_changes (Some s) (Some t) x v result h = (place_in s.slots.items x, same_or_one s (place_in s.slots.items x) v result t h.1)
 
-set_changes : (o p : Option ModuleScope) (x : List ℕ) (v : Value) → IsSetBy o x v p → ScopeChanges x v o p
-set_changes None p x v h = none_else p x v h
+pub place_changes : (o p : Option ModuleScope) (place : ℕ) (v : Value) (result : Wrote) → IsWrittenPlaceBy o place v result p → ScopeChanges v o p
+place_changes None p place v result h = none_else p v h.1
+place_changes (Some s) None place v result h = absurd h
+place_changes (Some s) (Some t) place v result h = (place, same_or_one s place v result t h.1)
+
+set_changes : (o p : Option ModuleScope) (x : List ℕ) (v : Value) → IsSetBy o x v p → ScopeChanges v o p
+set_changes None p x v h = none_else p v h
 set_changes (Some s) None x v h = absurd h
-set_changes (Some s) (Some t) x v h = same_or_one s x v wrote.Done t h
+set_changes (Some s) (Some t) x v h = (place_in s.slots.items x, same_or_one s (place_in s.slots.items x) v wrote.Done t h)
 
-like_changed : (o p : Option ModuleScope) (x : List ℕ) (v : Value) → ScopeChanges x v o p → IsLikeScope o p
-like_changed None None x v h = tt
-like_changed None (Some t) x v h = absurd h
-like_changed (Some s) None x v h = absurd h
-like_changed (Some s) (Some t) x v h = like_by s x v t h
+like_changed : (o p : Option ModuleScope) (v : Value) → ScopeChanges v o p → IsLikeScope o p
+like_changed None None v h = tt
+like_changed None (Some t) v h = absurd h
+like_changed (Some s) None v h = absurd h
+like_changed (Some s) (Some t) v h = like_by s h.0 v t h.1
 
-module _ (e late : Scopes) (m : ℕ) (x : List ℕ) (v : Value) (changes : ScopeChanges x v (scope_in e m) (scope_in late m)) (others : OthersAre e m late) where
+module _ (e late : Scopes) (m : ℕ) (v : Value) (changes : ScopeChanges v (scope_in e m) (scope_in late m)) (others : OthersAre e m late) where
   like_at : (n : ℕ) → ((eqb n m ≡ true) × (n ≡ m)) ⊎ ((eqb n m ≡ false) × (n ≡ m → ⊥)) → IsLikeScope (scope_in e n) (scope_in late n)
-  like_at n (inl (b, same)) = subst (λ n. IsLikeScope (scope_in e n) (scope_in late n)) (sym same) (like_changed (scope_in e m) (scope_in late m) x v changes)
+  like_at n (inl (b, same)) = subst (λ n. IsLikeScope (scope_in e n) (scope_in late n)) (sym same) (like_changed (scope_in e m) (scope_in late m) v changes)
   like_at n (inr (b, other)) = rw (others n other) (like_same (scope_in e n))
 
-  like : (n : ℕ) → IsLikeScope (scope_in e n) (scope_in late n)
+  pub like : (n : ℕ) → IsLikeScope (scope_in e n) (scope_in late n)
   like n = like_at n (eqb_tells n m)
 
-  faithful_own : (g : Modules ℕ) → IsFaithful g e → (o p : Option ModuleScope) → scope_in e m ≡ o → ScopeChanges x v o p → (t : ModuleScope) → p ≡ Some t → IsFaithfulAt g m t
+  faithful_own : (g : Modules ℕ) → IsFaithful g e → (o p : Option ModuleScope) → scope_in e m ≡ o → ScopeChanges v o p → (t : ModuleScope) → p ≡ Some t → IsFaithfulAt g m t
   faithful_own g f None None k h t q = absurd (cc)
   faithful_own g f None (Some u) k h t q = absurd h
   faithful_own g f (Some s) None k h t q = absurd (cc)
-  faithful_own g f (Some s) (Some u) k h t q = let same : u ≡ t = cc in subst (λ t. IsFaithfulAt g m t) same (fits_at g m s x v u (f m s k) h)
+  faithful_own g f (Some s) (Some u) k h t q = let same : u ≡ t = cc in subst (λ t. IsFaithfulAt g m t) same (fits_at g m s h.0 v u (f m s k) h.1)
 
   faithful_at : (g : Modules ℕ) → IsFaithful g e → (n : ℕ) (t : ModuleScope) → scope_in late n ≡ Some t → ((eqb n m ≡ true) × (n ≡ m)) ⊎ ((eqb n m ≡ false) × (n ≡ m → ⊥)) → IsFaithfulAt g n t
   faithful_at g f n t q (inl (b, same)) = subst (λ n. IsFaithfulAt g n t) (sym same) (faithful_own g f (scope_in e m) (scope_in late m) refl changes t (rw same at q))
   faithful_at g f n t q (inr (b, other)) = f n t (sym (others n other) ∙ q)
 
-  faithful : (g : Modules ℕ) → IsFaithful g e → IsFaithful g late
+  pub faithful : (g : Modules ℕ) → IsFaithful g e → IsFaithful g late
   faithful g f n t q = faithful_at g f n t q (eqb_tells n m)
 
 -- ---- the cells
 
-module _ (e late : Scopes) (m : ℕ) (x : List ℕ) (v : Value) (s t : ModuleScope) (before : scope_in e m ≡ Some s) (after : scope_in late m ≡ Some t) (one : WritesOne s x v t)
+module _ (e late : Scopes) (m : ℕ) (x : List ℕ) (v : Value) (s t : ModuleScope) (before : scope_in e m ≡ Some s) (after : scope_in late m ≡ Some t) (one : WritesOne s (place_in s.slots.items x) v t)
     (there : is_some (slot_in s.slots.items x) ≡ true) (others : OthersAre e m late) where
   own_cells : (y : List ℕ) → cells_of late m y ≡ Now (bytes_eq x y) v (cells_of e m y)
   own_cells y = rw (after, before, one.slots) (slot_written s.slots.items x y v there)
@@ -207,7 +215,7 @@ module _ (g : Modules ℕ) (e late : Scopes) (m : ℕ) (s : ModuleScope) (x : Li
   over : writing_of nat_eq g (cells_of e) m x (value_of v) ≡ write_at (write_cell nat_eq (cells_of e) m x (value_of v)) Cell' Imported
   over = rw (sym (own_right g e f m s x before), before, imports x) refl
 
-  done : (t : ModuleScope) → scope_in late m ≡ Some t → WritesOne s x v t → is_some (slot_in s.slots.items x) ≡ true → writing.Done (cells_of late) ≡ writing.Done (write_cell nat_eq (cells_of e) m x (value_of v))
+  done : (t : ModuleScope) → scope_in late m ≡ Some t → WritesOne s (place_in s.slots.items x) v t → is_some (slot_in s.slots.items x) ≡ true → writing.Done (cells_of late) ≡ writing.Done (write_cell nat_eq (cells_of e) m x (value_of v))
   done t after one there = ap (λ c. writing.Done c) (cells_written e late m x v s t before after one there others)
 
   refused : (b : Bool) (late : Scopes) → told_write (wrote_none b) late ≡ constant_by b
@@ -260,8 +268,8 @@ pub writes_right : WritesRight
 writes_right = record {
   writes = writes;
   sets = sets;
-  faithful_written = λ g e late m x v result f h. faithful e late m x v (written_changes (scope_in e m) (scope_in late m) x v result h.0) h.1 g f;
-  faithful_set = λ g e late m x v f h. faithful e late m x v (set_changes (scope_in e m) (scope_in late m) x v h.0) h.1 g f;
-  stays_written = λ e late m x v result h. like e late m x v (written_changes (scope_in e m) (scope_in late m) x v result h.0) h.1;
-  stays_set = λ e late m x v h. like e late m x v (set_changes (scope_in e m) (scope_in late m) x v h.0) h.1;
+  faithful_written = λ g e late m x v result f h. faithful e late m v (written_changes (scope_in e m) (scope_in late m) x v result h.0) h.1 g f;
+  faithful_set = λ g e late m x v f h. faithful e late m v (set_changes (scope_in e m) (scope_in late m) x v h.0) h.1 g f;
+  stays_written = λ e late m x v result h. like e late m v (written_changes (scope_in e m) (scope_in late m) x v result h.0) h.1;
+  stays_set = λ e late m x v h. like e late m v (set_changes (scope_in e m) (scope_in late m) x v h.0) h.1;
 }

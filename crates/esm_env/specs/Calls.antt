@@ -6,7 +6,7 @@ use Rattle.esm_values.specs.Code.{CodeValue, value_of}
 use Rattle.esm_values.specs.declared.value.Value.{Value}
 use Rattle.esm_env.specs.Cells.{Reading, read_cell}
 use Rattle.esm_env.specs.Cells.{Reading as reading}
-use Rattle.esm_env.specs.Scopes.{Scopes, scope_in, own_cell, import_of, cells_of, IsWritten, StaysOrWrites}
+use Rattle.esm_env.specs.Scopes.{Scopes, scope_in, own_cell, import_of, cells_of, IsWritten, IsWrittenPlace, StaysOrWrites}
 use Rattle.esm_env.specs.Writing.{Writing}
 use Rattle.esm_env.specs.Writing.{Writing as writing}
 use Rattle.esm_env.specs.declared.scope.ModuleScope.{ModuleScope}
@@ -41,6 +41,16 @@ IsWrittenBy (Some s) x v result (Some t) = IsWritten s x v result t
 abbrev pub IsWrittenIn : Scopes → ℕ → List ℕ → Value → Wrote → Scopes → Type 0
 IsWrittenIn old m x v result new = IsWrittenBy (scope_in old m) x v result (scope_in new m) × ((n : ℕ) → (n ≡ m → ⊥) → scope_in new n
     ≡ scope_in old n)
+
+abbrev pub IsWrittenPlaceBy : Option ModuleScope → ℕ → Value → Wrote → Option ModuleScope → Type 0
+IsWrittenPlaceBy None place v result new = (result ≡ wrote.Undeclared) × (new ≡ None)
+IsWrittenPlaceBy (Some s) place v result None = ⊥
+IsWrittenPlaceBy (Some s) place v result (Some t) = IsWrittenPlace s place v result t
+
+-- a write at a place of a module changes at most what stands there. Where nothing does, it is undeclared
+abbrev pub IsWrittenAt : Scopes → ℕ → ℕ → Value → Wrote → Scopes → Type 0
+IsWrittenAt old m place v result new = IsWrittenPlaceBy (scope_in old m) place v result (scope_in new m)
+    × ((n : ℕ) → (n ≡ m → ⊥) → scope_in new n ≡ scope_in old n)
 
 -- for each module its scope, if it was made
 abbrev pub scopes_of : Envs → Scopes

@@ -15,7 +15,8 @@ use Rattle.esm_env.specs.Reading.{IsReadingOf, IsMemberOf, read_member}
 use Rattle.esm_env.specs.Writing.{writing_of}
 use Rattle.esm_env.specs.Slots.{slot_in}
 use Rattle.esm_env.specs.Scopes.{Scopes, scope_in, own_cell, import_of, cells_of, read_in, read_end_in, defined}
-use Rattle.esm_env.specs.Calls.{IsWrittenIn, IsInitialised, told_write}
+use Rattle.esm_env.specs.Calls.{IsWrittenIn, IsWrittenAt, IsInitialised, told_write}
+use Rattle.esm_env.specs.Placed.{place_of}
 use Rattle.esm_env.specs.Makes.{slots_for}
 use Rattle.esm_env.specs.Faithful.{IsFaithful, HasScope, HasImports, IsLikeScope, SlotFits}
 use Rattle.esm_env.specs.declared.scope.ModuleScope.{ModuleScope}
@@ -66,6 +67,24 @@ pub record WritesRight : Type 0 where
       → IsWrittenIn e m x v result late → (n : ℕ) → IsLikeScope (scope_in e n) (scope_in late n)
   pub stays_set : (e late : Scopes) (m : ℕ) (x : List ℕ) (v : code.Value)
       → IsInitialised e m x v late → (n : ℕ) → IsLikeScope (scope_in e n) (scope_in late n)
+
+-- what the place of a name has to do with the name
+pub record PlacesRight : Type 0 where
+  -- a place is that of one name at most
+  pub once : (e : Scopes) (m place : ℕ) (x y : List ℕ) → place_of e m x ≡ Some place → place_of e m y ≡ Some place → x ≡ y
+  -- the write at the place of a name is the write of the name, and the other way round
+  pub is_write : (e late : Scopes) (m place : ℕ) (x : List ℕ) (v : code.Value) (result : Wrote)
+      → place_of e m x ≡ Some place → IsWrittenAt e m place v result late → IsWrittenIn e m x v result late
+  pub is_write_at : (e late : Scopes) (m place : ℕ) (x : List ℕ) (v : code.Value) (result : Wrote)
+      → place_of e m x ≡ Some place → IsWrittenIn e m x v result late → IsWrittenAt e m place v result late
+  -- a write at a place that no name has writes no cell
+  pub unnamed : (e late : Scopes) (m place : ℕ) (v : code.Value) (result : Wrote)
+      → ((x : List ℕ) → place_of e m x ≡ Some place → ⊥) → IsWrittenAt e m place v result late → cells_of late ≡ cells_of e
+  -- whatever has the place, the scopes fit as before, and what was made stays made, with its imports, its tree and its namespace
+  pub faithful : (g : Modules ℕ) (e late : Scopes) (m place : ℕ) (v : code.Value) (result : Wrote)
+      → IsFaithful g e → IsWrittenAt e m place v result late → IsFaithful g late
+  pub stays : (e late : Scopes) (m place : ℕ) (v : code.Value) (result : Wrote)
+      → IsWrittenAt e m place v result late → (n : ℕ) → IsLikeScope (scope_in e n) (scope_in late n)
 
 -- what the code reads at the end of a resolution, a local export of a module that has a scope, is the member
 abbrev pub EndsRight : Type 0

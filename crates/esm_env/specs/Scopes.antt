@@ -1,5 +1,5 @@
 -- What the code keeps of modules, and what that comes to.
-use Rattle.std.specs.Prelude.{◌≡◌, ℕ, zero, suc, Bool, true, false, List, [], ◌∷◌, Option, Some, None, is_some}
+use Rattle.std.specs.Prelude.{◌≡◌, ℕ, zero, suc, Bool, true, false, List, [], ◌∷◌, slice_get, Option, Some, None, is_some}
 use Rattle.std.specs.Borrow.{Bor}
 use Rattle.std.specs.Str.{bytes_eq}
 use Rattle.esm_values.specs.Value.{Undefined}
@@ -46,17 +46,27 @@ abbrev pub wrote_by : Option (Cell CodeValue) → Bool → Wrote
 wrote_by (Some c) imports = wrote_set c.constant c.value
 wrote_by None imports = wrote_none imports
 
-abbrev pub StaysOrWrites : ModuleScope → List ℕ → Value → Wrote → ModuleScope → Type 0
-StaysOrWrites old x v wrote.Done new = (new.slots.items ≡ written_scope old (place_in old.slots.items x) v) × (new.imports ≡ old.imports)
+-- where a write is done, the slot at the place is written, and nothing changes otherwise
+abbrev pub StaysOrWritesAt : ModuleScope → ℕ → Value → Wrote → ModuleScope → Type 0
+StaysOrWritesAt old place v wrote.Done new = (new.slots.items ≡ written_scope old place v) × (new.imports ≡ old.imports)
     × (new.tree ≡ old.tree) × (new.namespace ≡ old.namespace)
-StaysOrWrites old x v wrote.Unset new = new ≡ old
-StaysOrWrites old x v wrote.Constant new = new ≡ old
-StaysOrWrites old x v wrote.Undeclared new = new ≡ old
+StaysOrWritesAt old place v wrote.Unset new = new ≡ old
+StaysOrWritesAt old place v wrote.Constant new = new ≡ old
+StaysOrWritesAt old place v wrote.Undeclared new = new ≡ old
+
+-- likewise at the place of a name
+abbrev pub StaysOrWrites : ModuleScope → List ℕ → Value → Wrote → ModuleScope → Type 0
+StaysOrWrites old x v result new = StaysOrWritesAt old (place_in old.slots.items x) v result new
 
 -- what a write of a name of the scope comes to
 abbrev pub IsWritten : ModuleScope → List ℕ → Value → Wrote → ModuleScope → Type 0
 IsWritten old x v result new = (result ≡ wrote_by (cell_in (slot_in old.slots.items x)) (is_some (import_in old.imports.items x)))
     × StaysOrWrites old x v result new
+
+-- what a write at a place comes to, whether a name has it or not: that of the slot there. No import has a place
+abbrev pub IsWrittenPlace : ModuleScope → ℕ → Value → Wrote → ModuleScope → Type 0
+IsWrittenPlace old place v result new = (result ≡ wrote_by (cell_in (slice_get old.slots.items place)) false)
+    × StaysOrWritesAt old place v result new
 
 -- ---- all modules
 

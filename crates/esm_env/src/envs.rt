@@ -3,7 +3,7 @@ ghost use Rattle.std.specs.Prelude.{◌≡◌, ◌<◌, ◌^◌, ℕ, List, [], 
 ghost use Rattle.std.specs.Arc.{arc_value};
 ghost use Rattle.esm_env.specs.Makes.{IsMade, OthersStay};
 ghost use Rattle.esm_env.specs.Scopes.{read_in, read_end_in, whole_of, scope_in};
-ghost use Rattle.esm_env.specs.Calls.{told_read, read_own, IsScope, IsTarget, IsWrittenIn, IsInitialised, scopes_of};
+ghost use Rattle.esm_env.specs.Calls.{told_read, read_own, IsScope, IsTarget, IsWrittenIn, IsWrittenAt, IsInitialised, scopes_of};
 ghost use Rattle.esm_env.specs.Cells.{read_cell};
 ghost use Rattle.esm_env.specs.Placed.{place_of};
 ghost use Rattle.esm_env.specs.Slots.{slot_in, cell_in};
@@ -207,10 +207,9 @@ impl Envs {
         }
     }
 
-    /// Writes the name at a place of the module. It doesn't allocate.
+    /// Writes the name at a place of the module. Where nothing stands there, nothing changes. It doesn't allocate.
     pub fn write_at(&mut self, m: ModuleId, place: usize, value: Value) -> Wrote
-        ensures { (x : List ℕ) → place_of (scopes_of self.old) m.0 x ≡ Some place
-            → IsWrittenIn (scopes_of self.old) m.0 x value result (scopes_of self.new) }
+        ensures { IsWrittenAt (scopes_of self.old) m.0 place value result (scopes_of self.new) }
     {
         let at = m.0 as usize;
         if at < self.scopes.len() {

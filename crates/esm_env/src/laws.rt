@@ -1,5 +1,5 @@
 //! Laws of the definitions, each the contract of a function without effect.
-ghost use Rattle.esm_env.specs.Laws.{ReadsOne, BeginsUnset, ReadsRight, EndsRight, WritesRight, MadeFits};
+ghost use Rattle.esm_env.specs.Laws.{ReadsOne, BeginsUnset, ReadsRight, EndsRight, WritesRight, PlacesRight, MadeFits};
 ghost use Rattle.esm_env.specs.Naming.{FollowsNames, PulledAreNamed};
 
 /// An import is bound to one thing at most, and a name, and a member of a namespace, reads as one thing.
@@ -27,6 +27,12 @@ pub fn made_fits()
 /// fit as before.
 pub fn writes_right()
     ensures { WritesRight }
+{}
+
+/// A place is that of one name at most, and the write at it is the write of the name. Where no name has it, no cell is
+/// written.
+pub fn places_right()
+    ensures { PlacesRight }
 {}
 
 /// Over such scopes, what is read where a resolution ends is the member of the namespace that is asked for.

@@ -3,7 +3,7 @@ ghost use Rattle.std.specs.Prelude.{◌≡◌, ◌<◌, ℕ, List, map, length, 
 ghost use Rattle.std.specs.Arc.{arc_value};
 ghost use Rattle.esm_env.specs.Calls.{told_read};
 ghost use Rattle.esm_env.specs.Cells.{read_cell};
-ghost use Rattle.esm_env.specs.Scopes.{IsImport, IsWritten, StaysOrWrites};
+ghost use Rattle.esm_env.specs.Scopes.{IsImport, IsWritten, IsWrittenPlace, StaysOrWrites};
 ghost use Rattle.esm_env.specs.NamePlaces.{first_place};
 ghost use Rattle.esm_env.specs.OwnNames.{own_names};
 ghost use Rattle.esm_env.specs.Placed.{names_of};
@@ -131,8 +131,7 @@ impl ModuleScope {
 
     /// Writes the name at a place.
     pub(crate) fn write_place(&mut self, place: usize, value: Value) -> Wrote
-        ensures { (x : List ℕ) → first_place (names_of self.old) x ≡ Some place
-            → IsWritten self.old x value result self.new }
+        ensures { IsWrittenPlace self.old place value result self.new }
     {
         if place < self.slots.len() {
             if !is_set(self.slots.as_slice(), place) {

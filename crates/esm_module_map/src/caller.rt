@@ -83,7 +83,7 @@ impl<P: Payload> ModuleMap<P> {
     }
 
     /// A caller with the next number; callers are numbered from 0. The pass comes back where memory runs out, and nowhere
-    /// else; it may then have seen more.
+    /// else: no event is added, and it has seen all that was there.
     pub fn enrol<R: Wait>(
         &self,
         rt: &R,
@@ -93,9 +93,10 @@ impl<P: Payload> ModuleMap<P> {
         requires none { (knows pass).number ≡ None }
         ensures own { MatchResult result (λ c. table_of self.now.lock.table.shared.table_id c.pass
             ≡ self.now.lock.table.shared.table_id) (λ p. IsPassOf self.now.lock p) }
-        ensures seen { IfOk result (λ c. Called P.weight (knows pass).seen None
+        ensures seen { MatchResult result (λ c. Called P.weight (knows pass).seen None
             (λ found. (c.number ≡ (replay P.weight found).callers)
-            × ((view_in c.pass).seen ≡ found ++ MapEvent.Enrol c.number ∷ []))) }
+            × ((view_in c.pass).seen ≡ found ++ MapEvent.Enrol c.number ∷ [])))
+            (λ p. Called P.weight (knows pass).seen None (λ found. (knows p).seen ≡ found)) }
         ensures fresh { IfOk result (λ c. SaysNothing P.weight c.number (view_in c.pass).seen) }
         ensures shares { MatchResult result (λ c. (view_in c.pass).shares ≡ (knows pass).shares)
             (λ p. (knows p).shares ≡ (knows pass).shares) }
@@ -441,9 +442,9 @@ impl<P: Payload> ModuleMap<P> {
         reply
     }
 
-    /// Puts the posts behind the first `known` behind `heard`, in their order, as many as it has room for, and counts them in
-    /// `known`. `Err` comes only where a payload can't be shared once more; what was heard before it stays heard. It doesn't
-    /// allocate.
+    /// Puts posts behind the first `known` behind `heard`, in their order, and counts them in `known`. `Ok`: all that there
+    /// are, or as many as `heard` has room for. `Err`: those that were heard before it; no clause says when it comes (in the
+    /// code, only where a payload can't be shared once more). It doesn't allocate.
     pub fn hear<R: Wait>(
         &self,
         rt: &R,

@@ -528,7 +528,7 @@ impl<P: Payload> MapState<P> {
         Ok(Some(Heard { number, payload }))
     }
 
-    // The posts behind the first `known`, as many as there is room for.
+    // The posts behind the first `known`, as many as there is room for; behind `Err`, those that were heard before it.
     pub(crate) fn hear(&self, known: &mut usize, heard: &mut Vec<Heard<P>>) -> Result<(), Memory>
         ensures heard { HearsPosts P.weight self.now.events.items known.old heard.old.items
             known.new heard.new.items }

@@ -1,9 +1,9 @@
-use Rattle.std.proofs.Common.{◌≡◌, true, false, ap, refl, sym, ◌∙◌, arith}
-use Rattle.std.specs.Prelude.{Some, is_some}
+use Rattle.std.proofs.Common.{◌≡◌, ◌<◌, true, false, ap, refl, sym, ◌∙◌, length, arith}
+use Rattle.std.proofs.lemmas.Option.{slice_get-get_or}
+use Rattle.std.specs.Prelude.{Some}
 use Rattle.esm_env.specs.NamePlaces.{first_place}
-use Rattle.esm_env.specs.Scopes.{import_in, written_scope}
 use Rattle.esm_env.proofs.FoundNames.{slot_names, names_written}
-use Rattle.esm_env.proofs.OwnLemmas.{placed_below, placed_in, placed_slot, unset_at, constant_at, done_at}
+use Rattle.esm_env.proofs.OwnLemmas.{unset_at, constant_at, done_at, none_at}
 use Rattle.esm_env.proofs.scope.ModuleScope.write_place.Goals as goal
 
 pub invariant_of-self-clause-slots_at : goal.invariant_of-self-clause-slots_at
@@ -13,28 +13,30 @@ pub invariant_of-self-clause-named : goal.invariant_of-self-clause-named
 invariant_of-self-clause-named c = ap slot_names c.write_at.ensures ∙ names_written c.args.self.now.slots.items c.args.place c.args.value ∙ c.args.self.now.named
 
 pub returns-then-not-is_set : goal.returns-then-not-is_set
-returns-then-not-is_set c = λ x e.
-    let s = c.args.self.now in
+returns-then-not-is_set c =
+    let slots = c.args.self.now.slots.items in
+    let below : c.args.place < length slots = omega (arith, c.if-place-len.true, c.len.ensures, c.args.self.now.slots.ok.0) in
     let b : c.is_set.result ≡ false = cc in
-    (unset_at s.slots.items x c.args.place (is_some (import_in s.imports.items x)) c.is_set.result (λ d. rw c.as_slice.ensures.value at (c.is_set.ensures d)) b e, refl)
+    (unset_at slots c.args.place c.is_set.result (λ d. rw c.as_slice.ensures.value at (c.is_set.ensures d)) b below, refl)
 
 pub returns-then-index : goal.returns-then-index
-returns-then-index c = λ x e.
-    let s = c.args.self.now in
+returns-then-index c =
+    let slots = c.args.self.now.slots.items in
+    let below : c.args.place < length slots = omega (arith, c.if-place-len.true, c.len.ensures, c.args.self.now.slots.ok.0) in
     let b : c.is_set.result ≡ true = cc in
-    let there = placed_slot s.slots.items x c.args.place _ e ∙ ap (λ t. Some t) (sym c.index.ensures) in
-    (constant_at s.slots.items x c.args.place (is_some (import_in s.imports.items x)) c.is_set.result c.index.result.now (λ d. rw c.as_slice.ensures.value at (c.is_set.ensures d)) b e there c.if-index.true, refl)
+    let there = slice_get-get_or slots c.args.place _ below ∙ ap (λ t. Some t) (sym c.index.ensures) in
+    (constant_at slots c.args.place c.is_set.result c.index.result.now (λ d. rw c.as_slice.ensures.value at (c.is_set.ensures d)) b below there c.if-index.true, refl)
 
 pub returns-else-index : goal.returns-else-index
-returns-else-index c = λ x e.
-    let s = c.args.self.now in
+returns-else-index c =
+    let slots = c.args.self.now.slots.items in
+    let below : c.args.place < length slots = omega (arith, c.if-place-len.true, c.len.ensures, c.args.self.now.slots.ok.0) in
     let b : c.is_set.result ≡ true = cc in
-    let there = placed_slot s.slots.items x c.args.place _ e ∙ ap (λ t. Some t) (sym c.index.ensures) in (
-      done_at s.slots.items x c.args.place (is_some (import_in s.imports.items x)) c.is_set.result c.index.result.now (λ d. rw c.as_slice.ensures.value at (c.is_set.ensures d)) b e there c.if-index.false,
-      (c.write_at.ensures ∙ ap (λ n. written_scope s n c.args.value) (sym (placed_in s.slots.items x c.args.place e)), refl, refl, refl),
+    let there = slice_get-get_or slots c.args.place _ below ∙ ap (λ t. Some t) (sym c.index.ensures) in (
+      done_at slots c.args.place c.is_set.result c.index.result.now (λ d. rw c.as_slice.ensures.value at (c.is_set.ensures d)) b below there c.if-index.false,
+      (c.write_at.ensures, refl, refl, refl),
     )
 
 pub returns-else-place-len : goal.returns-else-place-len
-returns-else-place-len c = λ x e.
-    let below = placed_below c.args.self.now.slots.items x c.args.place e in
-    absurd (omega (arith, below, c.if-place-len.false, c.len.ensures, c.args.self.now.slots.ok.0))
+returns-else-place-len c =
+    (none_at c.args.self.now.slots.items c.args.place (omega (arith, c.if-place-len.false, c.len.ensures, c.args.self.now.slots.ok.0)), refl)
