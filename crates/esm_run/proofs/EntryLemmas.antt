@@ -17,14 +17,15 @@ use Rattle.esm_ast.specs.Deliveries.{Delivery, Files, AreOfFiles, asks_by}
 use Rattle.esm_world.specs.Direct.{IsClean}
 use Rattle.esm_world.specs.OnOrder.{OrderFreeWithin}
 use Rattle.esm_direct_laws.specs.Asks.{AsksClosure}
-use Rattle.esm_order_laws.specs.OrderFree.{HasCleanRun, OrderFree, ShowSame}
+use Rattle.esm_order_laws.specs.OrderFree.{ShowSame}
+use Rattle.esm_limit_laws.specs.Loaded.{StoppedLoading, HasLoadedRun, OrderFreeLoaded}
 use Rattle.esm_world.specs.World.{EntryState, opening, stopped}
 use Rattle.esm_world.specs.Laws.{OpenAsks, DeliversAll, urls_of}
 use Rattle.esm_import_map.specs.ImportMap.{Maps}
 use Rattle.esm_fetch.specs.Answered.{Contents}
 use Rattle.esm_run.specs.Taken.{IsTrueRecord, IsAskedOnce}
 use Rattle.esm_run.specs.Written.{SinkChange, IsUnwritten, WroteWhole, EndsWith, Whole, SinkFailed, OutOfMemory, last_text, written_text}
-use Rattle.esm_run.specs.OneFunction.{WroteAs, WroteAsEachRun, WroteAsDirect, WroteAsFiles}
+use Rattle.esm_run.specs.OneFunction.{WroteAsEachRun, WroteAsDirect, WroteAsFiles}
 use Rattle.esm_run.specs.Report.{IsStandard, IsComplete, AsksAsStandard, IsEntryRun}
 use Rattle.esm_run.proofs.FilesLemmas.{OneTree, NoFault, are_of_files}
 
@@ -131,34 +132,31 @@ ends_by_limit_or_not maps entry trace taken what run =
     subst (λ (o : Option Status). (o ≡ Some Limit) ⊎ (o ≢ Some Limit)) (sym (ap (λ (s : Shown). s.status) run.shows)) (limit_or_not (ending run.world))
 
 -- the run over what was taken, which has ended so, writes what every run of these files does
-as_each_run : OrderFree → (maps : Maps) (entry : Url) (trace : Bool) (taken : List Delivery) (front : List ℕ) (status : Status) (sink : SinkChange) (what : Shown) → StandardRun maps every_form entry trace taken what
+as_each_run : OrderFreeLoaded → (maps : Maps) (entry : Url) (trace : Bool) (taken : List Delivery) (front : List ℕ) (status : Status) (sink : SinkChange) (what : Shown) → StandardRun maps every_form entry trace taken what
     → what.ended ≡ true → what.status ≡ Some status → WroteWhole (front ++ written_text what) sink
     → (files : Files) → AreOfFiles files taken → IsClean maps every_form files entry → WroteAsEachRun maps files entry trace front status sink
-as_each_run free maps entry trace taken front status sink what run ended is wrote files here clean others other there other_run other_ended =
-    by (ends_by_limit_or_not maps entry trace taken what run) (ends_by_limit_or_not maps entry trace others other other_run)
+as_each_run loaded maps entry trace taken front status sink what run ended is wrote files here clean others other there other_run other_ended = record {
+  status_is = by (ends_by_limit_or_not maps entry trace taken what run) (ends_by_limit_or_not maps entry trace others other other_run);
+  whole = λ none. subst (λ text. Grew sink.written_before sink.written_after (front ++ text)) (same_text_of other what (same_as_other none)) wrote.0;
+}
   where
-    clean_run : (deliveries : List Delivery) (one : Shown) → AreOfFiles files deliveries → StandardRun maps every_form entry trace deliveries one → one.ended ≡ true → one.status ≢ Some Limit
-        → HasCleanRun maps every_form files entry trace one
-    clean_run deliveries one of_files one_run one_ended within =
-        record { clean = clean; deliveries = deliveries; of_files = of_files; run = one_run; ends = record { ended = one_ended; within = within } }
+    loaded_run : (deliveries : List Delivery) (one : Shown) → AreOfFiles files deliveries → StandardRun maps every_form entry trace deliveries one → one.ended ≡ true → (StoppedLoading one → ⊥)
+        → HasLoadedRun maps every_form files entry trace one
+    loaded_run deliveries one of_files one_run one_ended none =
+        record { clean = clean; deliveries = deliveries; of_files = of_files; run = one_run; ends = record { ended = one_ended; loaded = none } }
 
-    by_this : what.status ≢ Some Limit → WroteAs other front status sink
-    by_this within =
-        let same = free maps every_form files entry trace what other others (clean_run taken what here run ended within) there other_run (none_open maps entry trace others other other_run other_ended) in
-        record {
-          status_is = same.status ∙ is;
-          whole = λ unlike. subst (λ text. Grew sink.written_before sink.written_after (front ++ text)) (sym (same_text_of what other same)) wrote.0;
-        }
+    same_as_other : (StoppedLoading other → ⊥) → ShowSame other what
+    same_as_other none =
+        loaded maps every_form files entry trace other what taken (loaded_run others other there other_run other_ended none) here run (none_open maps entry trace taken what run ended)
 
-    not_other : what.status ≡ Some Limit → other.status ≢ Some Limit → ⊥
-    not_other limited within =
-        let same = free maps every_form files entry trace other what taken (clean_run others other there other_run other_ended within) here run (none_open maps entry trace taken what run ended) in
-        within (sym same.status ∙ limited)
+    same_as_this : (StoppedLoading what → ⊥) → ShowSame what other
+    same_as_this none =
+        loaded maps every_form files entry trace what other others (loaded_run taken what here run ended none) there other_run (none_open maps entry trace others other other_run other_ended)
 
-    by : (what.status ≡ Some Limit) ⊎ (what.status ≢ Some Limit) → (other.status ≡ Some Limit) ⊎ (other.status ≢ Some Limit) → WroteAs other front status sink
-    by (inr within) too = by_this within
-    by (inl limited) (inr within) = absurd (not_other limited within)
-    by (inl limited) (inl too) = record { status_is = too ∙ sym limited ∙ is; whole = λ unlike. absurd (unlike (cc (is, limited))) }
+    by : (what.status ≡ Some Limit) ⊎ (what.status ≢ Some Limit) → (other.status ≡ Some Limit) ⊎ (other.status ≢ Some Limit) → other.status ≡ Some status
+    by (inr within) too = (same_as_this (λ stop. within stop.limited)).status ∙ is
+    by (inl limited) (inr within) = absurd (within (sym (same_as_other (λ stop. within stop.limited)).status ∙ limited))
+    by (inl limited) (inl too) = too ∙ sym limited ∙ is
 
 -- and what their direct run shows, where that meets no limit
 as_direct : OrderFreeWithin → (maps : Maps) (entry : Url) (trace : Bool) (taken : List Delivery) (front : List ℕ) (status : Status) (sink : SinkChange) (what : Shown) → StandardRun maps every_form entry trace taken what
@@ -167,18 +165,19 @@ as_direct : OrderFreeWithin → (maps : Maps) (entry : Url) (trace : Bool) (take
 as_direct within maps entry trace taken front status sink what run ended is wrote files here clean modules after direct meets =
     (what, within maps every_form files entry trace taken modules what after clean here run (none_open maps entry trace taken what run ended) direct meets, is, wrote.0)
 
-standard_as_files : OrderFree → OrderFreeWithin → (maps : Maps) (entry : Url) (trace : Bool) (taken : List Delivery) (front : List ℕ) (status : Status) (sink : SinkChange) → IsStandard maps entry trace taken front status sink
+standard_as_files : OrderFreeLoaded → OrderFreeWithin → (maps : Maps) (entry : Url) (trace : Bool) (taken : List Delivery) (front : List ℕ) (status : Status) (sink : SinkChange) → IsStandard maps entry trace taken front status sink
     → status ≢ WriteFault → status ≢ Memory
-    → (files : Files) → AreOfFiles files taken → IsClean maps every_form files entry → WroteAsFiles maps files entry trace front status sink
-standard_as_files free within maps entry trace taken front status sink standard f m files here clean = by standard.ends
+    → (files : Files) → AreOfFiles files taken → IsClean maps every_form files entry → WroteAsFiles maps files entry trace taken front status sink
+standard_as_files loaded within maps entry trace taken front status sink standard f m files here clean = by standard.ends
   where
     by : ((status ≡ Memory) × IsUnwritten sink) ⊎ ((standard.what.ended ≡ true) × EndsWith standard.what.status (front ++ written_text standard.what) status sink)
-        → WroteAsFiles maps files entry trace front status sink
+        → WroteAsFiles maps files entry trace taken front status sink
     by (inl short) = absurd (m short.0)
     by (inr whole) =
         let ends = ends_whole standard.what.status (front ++ written_text standard.what) status sink whole.1 f m in
         record {
-          each_run = as_each_run free maps entry trace taken front status sink standard.what standard.run whole.0 ends.0 ends.1 files here clean;
+          of_files = here;
+          each_run = as_each_run loaded maps entry trace taken front status sink standard.what standard.run whole.0 ends.0 ends.1 files here clean;
           direct = as_direct within maps entry trace taken front status sink standard.what standard.run whole.0 ends.0 ends.1 files here clean;
         }
 
@@ -197,7 +196,7 @@ complete_from law all maps entry trace taken front status sink standard same = b
 pub record Laws : Type 0 where
   pub open_asks : OpenAsks
   pub delivers : DeliversAll
-  pub free : OrderFree
+  pub loaded : OrderFreeLoaded
   pub within : OrderFreeWithin
   pub closure : AsksClosure
   pub tree : OneTree
@@ -214,6 +213,6 @@ module _ {S : Type 0} (asked_of : S → List Asked) (holds_of : S → Option Con
     asks = asks;
     complete = complete_from laws.open_asks laws.delivers maps entry trace taken front status sink standard;
     one_function = λ f m files are clean.
-        standard_as_files laws.free laws.within maps entry trace taken front status sink standard f m files
+        standard_as_files laws.loaded laws.within maps entry trace taken front status sink standard f m files
         (are_of_files laws.tree laws.fault asked_of holds_of maps entry trace workers taken given back laws.closure fresh true_record once standard.what standard.run standard.read files are clean) clean;
   }

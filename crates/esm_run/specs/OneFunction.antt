@@ -1,7 +1,6 @@
 -- What is written is one function of the files, where they are clean. own
-use Rattle.std.specs.Prelude.{◌≡◌, ◌≢◌, ℕ, Bool, true, List, ◌++◌, take, Option, Some, All}
+use Rattle.std.specs.Prelude.{◌≡◌, ℕ, Bool, true, List, ◌++◌, take, Option, Some, All}
 use Rattle.esm_base.specs.declared.status.Status.{Status}
-use Rattle.esm_base.specs.declared.status.Status.TheVariants.{Limit}
 use Rattle.esm_base.specs.Urls.{Url}
 use Rattle.esm_import_map.specs.ImportMap.{Maps}
 use Rattle.esm_ports.specs.declared.asked.Asked.{Asked}
@@ -14,6 +13,7 @@ use Rattle.esm_loads.specs.LoadsView.{every_form}
 use Rattle.esm_world.specs.World.{World}
 use Rattle.esm_world.specs.Run.{Shown, StandardRun}
 use Rattle.esm_world.specs.Direct.{IsClean, DirectRun, MeetsNoLimit, ShowsDirect}
+use Rattle.esm_limit_laws.specs.Loaded.{StoppedLoading}
 use Rattle.esm_arguments.specs.declared.command.Command.{Command}
 use Rattle.esm_run.specs.CommandMap.{DeskChange}
 use Rattle.esm_run.specs.Generated.{IsOfFile}
@@ -41,10 +41,11 @@ pub data AreFilesOf {S : Type 0} (asked_of : S → List Asked) (holds_of : S →
 
 -- ---- what is written
 
--- the run ends with this status; unless a limit stopped it, the whole of what was written is its text, behind what comes before it
+-- the run ends with this status; unless a limit of loading stopped it, the whole of what was written is its text, behind what comes before
+-- it
 pub record WroteAs (what : Shown) (front : List ℕ) (status : Status) (sink : SinkChange) : Type 0 where
   pub status_is : what.status ≡ Some status
-  pub whole : status ≢ Limit → Grew sink.written_before sink.written_after (front ++ written_text what)
+  pub whole : (StoppedLoading what → ⊥) → Grew sink.written_before sink.written_after (front ++ written_text what)
 
 -- so it is of every standard run of these files that has ended, in whatever order they came
 abbrev pub WroteAsEachRun : Maps → Files → Url → Bool → List ℕ → Status → SinkChange → Type 0
@@ -60,18 +61,20 @@ WroteAsDirect maps files entry trace front status sink =
     → (what : Shown) × ShowsDirect after what × (what.status ≡ Some status)
     × Grew sink.written_before sink.written_after (front ++ written_text what)
 
-pub record WroteAsFiles (maps : Maps) (files : Files) (entry : Url) (trace : Bool) (front : List ℕ) (status : Status)
-    (sink : SinkChange) : Type 0 where
+-- what was taken are deliveries of these files
+pub record WroteAsFiles (maps : Maps) (files : Files) (entry : Url) (trace : Bool) (taken : List Delivery) (front : List ℕ)
+    (status : Status) (sink : SinkChange) : Type 0 where
+  pub of_files : AreOfFiles files taken
   pub each_run : WroteAsEachRun maps files entry trace front status sink
   pub direct : WroteAsDirect maps files entry trace front status sink
 
--- So it is of all clean files of the run. So the status is one function of the files alone, and unless a limit stopped the run so is what
--- was written, behind what comes before it.
+-- So it is of all clean files of the run. So the status is one function of the files alone, and unless a limit of loading stopped the run
+-- so is what was written, behind what comes before it.
 abbrev pub IsOneFunction : {S : Type 0} → (S → List Asked) → (S → Option Contents) → Maps → Url → Bool → ℕ → List Delivery → List S
     → List ℕ → Status → SinkChange → Type 0
 IsOneFunction asked_of holds_of maps entry trace workers taken back front status sink =
     (files : Files) → AreFilesOf asked_of holds_of workers taken back files → IsClean maps every_form files entry
-    → WroteAsFiles maps files entry trace front status sink
+    → WroteAsFiles maps files entry trace taken front status sink
 
 -- so it is of a command, whose record stands in front, where the words ask for it
 abbrev pub IsOfFilesAlone : {S : Type 0} → (S → List Asked) → (S → Option Contents) → Command → Maps → DeskChange → List Delivery → List S
