@@ -33,8 +33,8 @@ pub fn order_free_within()
     shared_set()
 }
 
-/// What a run over clean files has fetched is what they have, also where that is known of URLs of their closure alone: where
-/// each fetch of such a URL came to what the files have, each fetch did.
+/// What a run over clean files has fetched is of their closure and is what they have, also where the latter is known of URLs
+/// of the closure alone. Where the run has ended, and not by a limit, it has fetched all of the closure.
 pub fn asks_closure()
     ensures { AsksClosure }
 {}

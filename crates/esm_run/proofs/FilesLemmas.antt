@@ -96,5 +96,5 @@ module _ (tree : OneTree) (fault : NoFault) where
         → (files : Files) → AreFilesOf asked_of holds_of workers taken back files → IsClean maps every_form files entry → AreOfFiles files taken
     are_of_files closure fresh record_is once what run read files (OfTaken here) clean = here
     are_of_files closure fresh record_is once what run read files (OfSources contents hold are) clean =
-        closure maps every_form files entry trace taken run.world clean run.runs
-        (λ k d within. delivered_so files contents fresh once hold are clean (slice_index_or taken k d) (record_is.delivered k d within) (read k d within))
+        (closure.only maps every_form files entry trace taken run.world clean run.runs
+        (λ k d within. delivered_so files contents fresh once hold are clean (slice_index_or taken k d) (record_is.delivered k d within) (read k d within))).of_files
