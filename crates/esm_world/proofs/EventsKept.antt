@@ -1,4 +1,4 @@
--- A call for a body adds events of its module alone.
+-- A segment of a body notes no event, and a call for a body adds events of its module alone.
 use Rattle.std.proofs.Common.{◌≡◌, ℕ, ◌+◌, Bool, true, false, List, [], ◌∷◌, Option, Some, None, refl, ap, subst, sym, ◌∙◌}
 use Rattle.std.specs.Prelude.{Result, Ok, Err, nat_lt, length}
 use Rattle.std.specs.List.{AllByRecursion}
@@ -30,7 +30,7 @@ use Rattle.esm_rewriting.specs.Bodies.{StartsBody, RunsBody, ResumesBody, segmen
 use Rattle.esm_rewriting.proofs.ExprKeeps.{Stays, follows_keeps, step_keeps}
 use Rattle.esm_world.proofs.Each.{pushed}
 
-abbrev Events : Type 0 → Type 0
+abbrev pub Events : Type 0 → Type 0
 Events N = List (Event N)
 
 -- the event is of such a module
@@ -60,7 +60,7 @@ module _ {N I : Type 0} where
   by_line w text true = refl
   by_line w text false = refl
 
-  line_keeps : (w : State N I) (text : List ℕ) → told_seen (add_line w text) ≡ seen w
+  pub line_keeps : (w : State N I) (text : List ℕ) → told_seen (add_line w text) ≡ seen w
   line_keeps w text = by_line w text (nat_lt MAX_LOG_BYTES (length w.engine.log + length text + 1))
 
   read_keeps : (w : Inner N I) (x : List ℕ) (r : Reading (Value N)) → inner_seen (read_answer w x r) ≡ seen w.state
@@ -172,7 +172,7 @@ module _ {N I : Type 0} (same : N → N → Bool) (modules : I → Modules N) (b
   next_is : (w : State N I) {o : Option (Next N I)} {n : Next N I} → o ≡ Some n → IsKept w o → next_seen n ≡ seen w
   next_is w e h = subst (λ o. IsKept w o) e h
 
-  runs_keep : {v : State N I} {m : N} {r : Rest (Value N)} {cs : List (Active N)} {how : Ended N} {w : State N I} → Segment same modules begins v m r cs how w → K (seen v) (seen w)
+  pub runs_keep : {v : State N I} {m : N} {r : Rest (Value N)} {cs : List (Active N)} {how : Ended N} {w : State N I} → Segment same modules begins v m r cs how w → K (seen v) (seen w)
   runs_keep segment.ends = kept refl
   runs_keep (segment.returns p) = runs_keep p
   runs_keep {m = m} {cs = cs} (segment.goes {mid = mid} move p e q) = on (moves_keep m p) (on (kept (next_is mid e (next_keeps m cs move mid))) (runs_keep q))
