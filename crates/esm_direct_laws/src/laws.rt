@@ -34,7 +34,7 @@ pub fn order_free_within()
 }
 
 /// What a run over clean files has fetched is of their closure and is what they have, also where the latter is known of URLs
-/// of the closure alone. Where the run has ended, and not by a limit, it has fetched all of the closure.
+/// of the closure alone, and is all of the closure where the run has ended, and not by a limit.
 pub fn asks_closure()
     ensures { AsksClosure }
 {}

@@ -29,8 +29,8 @@ pub fn writes_right()
     ensures { WritesRight }
 {}
 
-/// A place is that of one name at most, and the write at it is the write of the name. Where no name has it, no cell is
-/// written.
+/// A place is that of one name at most, and the write at it is the write of the name, and one at a place that no name has
+/// writes no cell.
 pub fn places_right()
     ensures { PlacesRight }
 {}

@@ -83,7 +83,7 @@ impl<P: Payload> ModuleMap<P> {
     }
 
     /// A caller with the next number; callers are numbered from 0. The pass comes back where memory runs out, and nowhere
-    /// else: no event is added, and it has seen all that was there.
+    /// else: without a number, so no event of its own was added, and having seen what was found.
     pub fn enrol<R: Wait>(
         &self,
         rt: &R,
