@@ -31,8 +31,8 @@ pub fn one_outcome()
     no_tree_beside_a_fault();
 }
 
-/// What a text spells is a module's tree: no `return` stands outside functions, no `await` inside one, and its names
-/// are UTF-8.
+/// What a text spells is a module's tree: no `return` stands outside functions, no `await` inside one, and the names that it
+/// exports, and those that it declares outside functions and blocks, are UTF-8.
 pub fn spelled_is_module_tree()
     ensures { SpellsModuleTrees }
 {}

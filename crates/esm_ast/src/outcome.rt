@@ -27,7 +27,7 @@ impl Model for BrokenText {
 }
 
 impl BrokenText {
-    /// The body with this fault.
+    /// The body with this fault, which is that of the bytes. It answers `Memory` where memory runs out.
     pub fn new(alloc: Global, fault: TextFault, bytes: Vec<u8>) -> Result<BrokenText, Memory>
         requires { FaultOf bytes.items fault }
         ensures { IfOk result (λ b. b ≡ record { fault = fault; bytes = bytes.items }) }
@@ -70,7 +70,7 @@ pub enum Outcome {
     Script(Arc<Script>),
     /// A body that is no module text.
     Broken(BrokenText),
-    /// Nothing stands there.
+    /// There is nothing at the URL.
     Absent,
     /// The fetch failed.
     Failed,

@@ -1,4 +1,4 @@
-//! Laws of histories with what workers post, as functions without effect.
+//! Laws of histories with what workers post, each the contract of a function without effect.
 ghost use Rattle.esm_fetch.specs.Laws.{PostsResolve};
 
 use crate::posted::Posted;

@@ -153,9 +153,8 @@ fn fill<R: Wait, S: Source>(
 }
 
 /// Takes a number, fetches its URL from the source, reads it, and posts what came, with what it requests resolved by the
-/// guide of the map; then rings the bell for it. `NotYet` and
-/// `Closed` are those of the take; the source isn't asked then. Where memory runs out the map is shut, and at most one
-/// URL was taken and not posted.
+/// guide of the map, where it was resolved ahead; then rings the bell for it. `NotYet` and `Closed` are those of the take;
+/// the source isn't asked then. Where memory runs out the map is shut, and at most one URL was taken and not posted.
 pub fn fetch_one<R: Wait, S: Source>(
     rt: &R,
     alloc: Global,
@@ -373,8 +372,8 @@ fn keep_room(alloc: Global) {
 }
 
 /// Takes, fetches, reads and posts, up to four URLs at a time, until the map is shut or memory runs out, and waits on the
-/// bell where there is nothing to take. What is posted has what it requests resolved by the guide of the map. The posts and
-/// the takes behind them are one turn at the map. It comes back only with a shut map, and `short` says that memory ran out;
+/// bell where there is nothing to take. What is posted has what it requests resolved by the guide of the map, where it
+/// was resolved ahead. The posts and the takes behind them are one turn at the map. It comes back only with a shut map, and `short` says that memory ran out;
 /// then at most four URLs were taken and not posted. Where it isn't set, all that was taken is posted, and it wasn't this
 /// call that shut the map.
 pub fn worker<R: Wait, S: Source>(

@@ -1,7 +1,7 @@
 // What a seat at the lock's table knows. It is there for the proofs alone.
 use std::collections::LinkedList;
 
-/// What a pass had seen when it was joined with another, and its number then. No value of it is made.
+/// What a pass had seen when it was joined with another, and its list of numbers then. No value of it is made.
 pub struct Joined<E> {
     /// The entries that it had seen.
     pub seen: LinkedList<E>,

@@ -10,7 +10,9 @@ use std::alloc::Global;
 /// What modules export, and which namespaces they import.
 #[derive(Drop)]
 pub struct Indexes {
+    /// What modules export, and which bindings were found.
     pub exports: ExportIndex,
+    /// Which modules they import as `* as`.
     pub namespaces: Namespaces,
 }
 

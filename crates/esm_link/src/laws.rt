@@ -1,4 +1,4 @@
-// Laws of the definitions, as functions without effect.
+//! Laws of the definitions, each the contract of a function without effect.
 ghost use Rattle.esm_link.specs.Laws.{ClosesWhole, HasLinking, LinkedScopesAreFaithful, LinksWhole, OneLinking};
 ghost use Rattle.esm_link.specs.Local.{ClosingIsLocal, LinkingIsLocal, LinksFromLinked, RecordsAgree};
 ghost use Rattle.esm_link.specs.Naming.{LinkingFollowsNames};
@@ -10,7 +10,7 @@ pub fn one_linking<N>()
     ensures { OneLinking N }
 {}
 
-/// Without a fault each module that was entered is linked.
+/// Without a fault each module that was closed, and each that the walk enters, is closed.
 pub fn links_whole<N>()
     ensures { LinksWhole N }
 {}
@@ -93,7 +93,7 @@ pub trait Named {
     ghost names: { Naming Self.Name Self.Other };
     /// Two names are the same.
     ghost same: { Self.Name → Self.Name → Bool };
-    /// Two of the other names are.
+    /// Two of the other names are the same.
     ghost other: { Self.Other → Self.Other → Bool };
 }
 

@@ -1,4 +1,4 @@
-//! The map, and who calls it.
+// The map, and who calls it.
 ghost use Rattle.std.specs.Prelude.{◌≡◌, ◌++◌, ◌∷◌, ◌+◌, ◌<◌, ◌≤◌, [], ℕ, List, true, false, nat_lt, None, Some, map, All, IfOk, IfSome, IsOk, OnOk, MatchResult, slice_get, string_bytes, is_some, vec_len};
 ghost use Rattle.std.specs.Vec.{vec_capacity};
 ghost use Rattle.std.proofs.Props.{props};
@@ -477,7 +477,8 @@ impl<P: Payload> ModuleMap<P> {
         reply
     }
 
-    /// What is posted under a number; none exactly where nothing is in what the caller has then seen.
+    /// What is posted under a number; none exactly where nothing is in what the caller has then seen. It answers `Memory`
+    /// where memory runs out. No event is added.
     pub fn entry<R: Wait>(
         &self,
         rt: &R,

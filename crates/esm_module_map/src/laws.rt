@@ -1,4 +1,4 @@
-//! Laws of histories, as functions without effect.
+//! Laws of histories, each the contract of a function without effect.
 ghost use Rattle.esm_module_map.specs.Laws.{GuideStays, OrdersStay, PostedOnce, PostsAreAnswers, PostsFit, PostsStay, TakenOnce, TakenOnceByMakers, TakesWereAsked, UrlsAreUsable, UrlsDiffer, UrlsStay};
 
 use crate::event::Payload;

@@ -39,7 +39,9 @@ const EVENTS: usize = 4 * MAX_URLS;
 /// A URL that is to be asked for, with a copy of it.
 #[derive(Drop)]
 pub(crate) struct Wish {
+    /// The URL, which its event keeps.
     pub url: Text,
+    /// The copy, which the list of URLs keeps where the URL is new.
     pub key: Text,
 }
 

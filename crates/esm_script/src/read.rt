@@ -38,9 +38,10 @@ fn shared_entries(alloc: Global, tree: &Tree) -> Result<Arc<Entries>, Memory>
     Ok(Arc::new(alloc, entries)?)
 }
 
-/// Reads a module text: the script of the tree that the bytes spell. Where it is refused, for a fault exactly where
-/// the bytes have that fault, or because memory ran out, the bytes are handed back. No byte of them is copied. The tree
-/// is a module's: no `return` stands outside functions, no `await` inside one, and its names are UTF-8.
+/// Reads a module text: the script of the tree that the bytes spell. Where it is refused, for the fault that the bytes
+/// have, or because memory ran out, the bytes are handed back. No byte of them is copied. The tree is a module's: no
+/// `return` stands outside functions, no `await` inside one, and the names that it exports, and those that it declares
+/// outside functions and blocks, are UTF-8.
 ///
 /// HTML, "create a JavaScript module script"; ECMA-262, ParseModule.
 pub fn read_script(alloc: Global, bytes: Vec<u8>) -> Result<Script, (ReadEnd, Vec<u8>)>

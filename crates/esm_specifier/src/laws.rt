@@ -1,4 +1,4 @@
-// Laws of the definitions, as functions without effect.
+//! Laws of the definitions, each the contract of a function without effect.
 ghost use Rattle.esm_specifier.specs.Laws.{GreatestIs, RefusalsAreRequests, ResolvesAsTheStandard, ResolvesByItself, ResolvesToUsable, TargetsAreTested, TargetsAreUsable};
 
 /// The key that decides of those that match: a member than which none is greater in code unit order.

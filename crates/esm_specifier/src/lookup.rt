@@ -10,7 +10,9 @@ use esm_import_map::{Address, ImportMap, SpecifierMap};
 /// A key that decides: so many bytes of the normal text, and the address to which it leads.
 #[derive(Drop)]
 pub struct Found<'a> {
+    /// How many bytes of the normal text the key has: so many from its front on.
     pub key_len: usize,
+    /// The address to which the key leads; none for the null entry.
     pub address: &'a Option<Address>,
 }
 

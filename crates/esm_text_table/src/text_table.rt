@@ -35,8 +35,9 @@ struct Places {
 
 /// Texts in the order in which they were put in, each once. Contracts see the list of them.
 ///
-/// A text is found by a mark of it: its number stands in one of a few slots, and is compared once. Who chooses texts whose
-/// marks have the same slots has them found by comparisons in a balanced tree of texts, so nobody can make them slow to find.
+/// A text is found by a mark of it: its number stands in one of a few slots, and texts are compared where their marks are the
+/// same. Who chooses texts whose marks have the same slots has them found by comparisons in a balanced tree of texts, so nobody
+/// can make them slow to find.
 #[derive(Drop)]
 pub struct TextTable {
     places: Places,
@@ -296,7 +297,7 @@ impl TextTable {
         }
     }
 
-    /// The table without texts, with room for so many.
+    /// The table without texts, with room for so many. It answers `Memory` where memory runs out.
     pub fn with_capacity(alloc: Global, capacity: usize) -> Result<TextTable, Memory>
         ensures { IfOk result (λ table. table ≡ []) }
     {
