@@ -26,7 +26,8 @@ use esm_values::{Errors, PromiseId, Ran};
 use std::alloc::Global;
 
 impl Engine {
-    /// Without bodies, steps and log. It doesn't allocate.
+    /// Without bodies, steps and log. With `trace`, the starts and ends of bodies are written to the log too. It doesn't
+    /// allocate.
     pub fn new(alloc: Global, trace: bool) -> Engine
         ensures { engine_of result ≡ opening_engine trace }
     {
@@ -67,7 +68,7 @@ impl Engine {
         self.log.steps
     }
 
-    /// The body of this module has begun.
+    /// Whether the body of this module has begun.
     pub fn has_begun(&self, m: ModuleId) -> bool
         ensures { result ≡ has_begun nat_eq (engine_of self.now) m.0 }
     {

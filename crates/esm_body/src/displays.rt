@@ -79,7 +79,8 @@ fn keys_of<I: Importer>(alloc: Global, imports: &I, m: ModuleId) -> Result<Vec<T
     }
 }
 
-/// The display text of a value that is known over linked modules, whose scopes are in `envs`.
+/// The display text of a value that is known over linked modules, whose scopes are in `envs`; of another value nothing is
+/// said. It answers `Memory` where memory runs out.
 pub fn display_text<I: Importer>(
     alloc: Global,
     errors: &Errors,

@@ -38,6 +38,8 @@ impl Envs {
 
     /// Makes the scope of a module from its tree. A scope that was left for the module is replaced, and the tree is
     /// kept. Where memory runs out nothing has changed.
+    ///
+    /// ECMA-262, InitializeEnvironment of a Source Text Module Record.
     pub fn make_module(
         &mut self,
         alloc: Global,
@@ -108,7 +110,10 @@ impl Envs {
         }
     }
 
-    /// Reads a name: of the module, or of where its import is bound. It doesn't allocate.
+    /// Reads a name: of the module, or of where its import is bound. It is undeclared where the module has no scope, or
+    /// neither declares nor imports it. It doesn't allocate.
+    ///
+    /// ECMA-262, GetBindingValue of a Module Environment Record.
     pub fn read(&self, m: ModuleId, name: &str) -> Read<'_>
         ensures { told_read result ≡ read_in (scopes_of self.now) m.0 name.now }
     {
@@ -161,7 +166,9 @@ impl Envs {
         }
     }
 
-    /// Writes a name. It doesn't allocate.
+    /// Writes a name. Whatever it answers but `Done`, nothing has changed. It doesn't allocate.
+    ///
+    /// ECMA-262, SetMutableBinding of a Module Environment Record.
     pub fn write(&mut self, m: ModuleId, name: &str, value: Value) -> Wrote
         ensures { IsWrittenIn (scopes_of self.old) m.0 name.now value result (scopes_of self.new) }
     {
@@ -186,7 +193,7 @@ impl Envs {
         }
     }
 
-    /// Reads the name at a place of the module. It doesn't allocate.
+    /// Reads the name at a place of the module, as `place` gives it; of another place nothing is said. It doesn't allocate.
     pub fn value(&self, m: ModuleId, place: usize) -> Read<'_>
         ensures { (x : List ℕ) → place_of (scopes_of self.now) m.0 x ≡ Some place
             → told_read result ≡ read_in (scopes_of self.now) m.0 x }
@@ -197,7 +204,7 @@ impl Envs {
         }
     }
 
-    /// The name at a place of the module, or an empty text. It doesn't allocate.
+    /// The name at a place of the module, as `place` gives it; of another place nothing is said. It doesn't allocate.
     pub fn name_at(&self, m: ModuleId, place: usize) -> &str
         ensures { (x : List ℕ) → place_of (scopes_of self.now) m.0 x ≡ Some place → result.now ≡ x }
     {
@@ -222,7 +229,9 @@ impl Envs {
         }
     }
 
-    /// Sets a name that the module itself declares. It doesn't allocate.
+    /// Sets a name that the module itself declares; of another name nothing changes. It doesn't allocate.
+    ///
+    /// ECMA-262, InitializeBinding of a Declarative Environment Record.
     pub fn initialise(&mut self, m: ModuleId, name: &str, value: Value)
         ensures { IsInitialised (scopes_of self.old) m.0 name.now value (scopes_of self.new) }
     {

@@ -2,7 +2,7 @@
 ghost use Rattle.esm_env.specs.Laws.{ReadsOne, BeginsUnset, ReadsRight, EndsRight, WritesRight, PlacesRight, MadeFits};
 ghost use Rattle.esm_env.specs.Naming.{FollowsNames, PulledAreNamed};
 
-/// An import is bound to one thing at most, and a name, and a member of a namespace, reads as one thing.
+/// An import is bound to one thing at most, and a name, and a member of a namespace, reads as one thing at most.
 pub fn one_reading()
     ensures { ReadsOne }
 {}
@@ -13,7 +13,7 @@ pub fn begins_unset()
 {}
 
 /// Over scopes that were made from the trees, with their imports bound as linking binds them, what the code reads is
-/// what the name reads as.
+/// what the name reads as, where an import of that name is bound to a module that has a scope.
 pub fn reads_right()
     ensures { ReadsRight }
 {}
@@ -23,8 +23,8 @@ pub fn made_fits()
     ensures { MadeFits }
 {}
 
-/// Over such scopes, what a write comes to is the writing of the name, what a declaration sets is its cell, and the scopes
-/// fit as before.
+/// Over such scopes, what a write comes to is the writing of the name, where each import of the module is bound; what a
+/// declaration sets is its cell, and the scopes fit as before.
 pub fn writes_right()
     ensures { WritesRight }
 {}
@@ -35,7 +35,8 @@ pub fn places_right()
     ensures { PlacesRight }
 {}
 
-/// Over such scopes, what is read where a resolution ends is the member of the namespace that is asked for.
+/// Over such scopes, what is read where a resolution ends, at a local export of a module that has a scope, is the member of
+/// the namespace that is asked for, where an import of that name is bound to a module that has a scope.
 pub fn ends_right()
     ensures { EndsRight }
 {}

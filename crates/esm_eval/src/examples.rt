@@ -1,4 +1,4 @@
-// Worked examples of the definitions, as functions without effect.
+//! Worked examples of the definitions, as functions without effect.
 ghost use Rattle.esm_eval.specs.Examples.{CycleOfWhichOneAwaits, MeetsAWaitingCycle, NothingBehindAThrow, ReadyHoldsBack, ReadyThrows, RootFails, SharedRejection, SmallWorldsAreLawful, StopsAtOnce, ThrowInCycle};
 
 /// Two modules in a cycle, of which one awaits.

@@ -1,4 +1,4 @@
-// Laws of the definitions, as functions without effect.
+//! Laws of the definitions, as functions without effect.
 ghost use Rattle.esm_eval.specs.Between.{HostsStayBetween, StaysBetween};
 ghost use Rattle.esm_eval.specs.Keeping.{HasEvaluation};
 ghost use Rattle.esm_eval.specs.Naming.{EvaluationFollowsNames};
@@ -27,7 +27,7 @@ pub trait AnyWorld {
     ghost acts: { BodyCalls Self.Name Self.Value Self.World Self.Stop };
 }
 
-/// Where each call for a body has one outcome, an evaluation has one, and so has what follows the end of a body.
+/// Where each call for a body has at most one outcome, so has an evaluation, and so has what follows the end of a body.
 pub fn one_evaluation<A: AnyWorld>()
     ensures { OneEvaluation A.evaluation A.acts }
 {}

@@ -1,5 +1,5 @@
 -- What one call of `write` does to a page.
-use Rattle.std.specs.Prelude.{◌≡◌, ◌+◌, ◌≤◌, ℕ, List, ◌++◌, take, length, Result, Ok, Err}
+use Rattle.std.specs.Prelude.{◌≡◌, ◌+◌, ◌-◌, ◌<◌, ◌≤◌, ℕ, List, ◌++◌, take, length, min, Result, Ok, Err}
 use Rattle.esm_ports.specs.declared.sink.SinkEnd.{SinkEnd}
 use Rattle.esm_ports.specs.declared.sink.SinkEnd.TheVariants.{Failed, Memory}
 
@@ -11,6 +11,7 @@ pub record PageParts : Type 0 where
 
 -- as many first bytes of the piece as there is room for are written; where there is room for none, the write fails
 abbrev pub WritesOnPage : PageParts → List ℕ → Result ℕ SinkEnd → PageParts → Type 0
-WritesOnPage old piece (Ok count) new = new ≡ record old { text = old.text ++ take count piece }
+WritesOnPage old piece (Ok count) new =
+    (length old.text < old.room) × (count ≡ min (length piece) (old.room - length old.text)) × (new ≡ record old { text = old.text ++ take count piece })
 WritesOnPage old piece (Err Failed) new = (old.room ≤ length old.text) × (new ≡ record old { faults = old.faults + 1 })
 WritesOnPage old piece (Err Memory) new = new ≡ old

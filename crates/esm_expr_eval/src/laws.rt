@@ -4,7 +4,7 @@ ghost use Rattle.esm_expr_eval.specs.Naming.{FollowsNames};
 
 use crate::World;
 
-/// Over a world in which each call has one outcome, a rewriting has one outcome, and an expression leads to one end.
+/// Over a world in which each call has at most one outcome, so has a rewriting, and an expression leads to at most one end.
 pub fn one_rewriting<W: World>()
     ensures { RewritesOnce W.url_of W.acts }
 {}

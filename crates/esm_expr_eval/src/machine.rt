@@ -90,7 +90,7 @@ fn run<W: World>(
 }
 
 impl ExprFrame {
-    /// The evaluation of an expression of a tree. It is ready to advance without a value.
+    /// The evaluation of an expression of a tree. It is ready to advance without a value. It takes room as it advances.
     pub fn new(alloc: Global, tree: Arc<Tree>, at: ExprId) -> Result<ExprFrame, Memory>
         requires { at.0 < length (arc_value tree).exprs }
         ensures remains { IfOk result (λ s. IsSound s
@@ -105,7 +105,9 @@ impl ExprFrame {
         })
     }
 
-    /// Goes on, with the value of the call that the last advance answered.
+    /// Goes on: a new expression begins, or the call that the last advance answered has given this value. Stops up to the
+    /// next call, the value, a throw, a stop of the world, or want of memory; behind any of these but a call it can't
+    /// advance again.
     pub fn advance<W: World>(
         &mut self,
         world: &mut W,

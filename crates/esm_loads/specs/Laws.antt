@@ -20,7 +20,7 @@ use Rattle.esm_loads.specs.ImportCall.{Imports, BeginsImport, IsFull, HasRoom, s
 
 -- ---- one outcome
 
--- each relation of loading has one outcome
+-- each relation of loading has at most one outcome
 pub record OneLoad : Type 0 where
   pub enters : (l one other : Loading) (s : ℕ) (x : Url) → Enters l s x one → Enters l s x other → one ≡ other
   pub asks : (l one other : Loading) (s i : ℕ) (x : Url) (ts : List Url) → Asks l s x i ts one → Asks l s x i ts other → one ≡ other

@@ -1,4 +1,4 @@
-// Worked examples of the definitions, as functions without effect.
+//! Worked examples of the definitions, as functions without effect.
 ghost use Rattle.esm_loads.specs.Examples.{KeptError, LateAnswer, MappedImport, RefusedRoot, SharedUrl};
 
 /// The entry isn't there: its promise is rejected.

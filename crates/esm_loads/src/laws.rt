@@ -1,8 +1,8 @@
-// Laws of the definitions, as functions without effect.
+//! Laws of the definitions, as functions without effect.
 ghost use Rattle.esm_loads.specs.LoadsAsLoading.{OpensWithEntry};
 ghost use Rattle.esm_loads.specs.Laws.{AskLimit, BytesFirst, EndedLoadStays, FewerLeft, FirstPending, HasLoad, KeepsPromises, LimitStops, LoadsEnd, OneLoad, OneUrlAtATime, OnlyGrows, StaysOrderly, StaysWhole, StoresOutcome, UnlinkedIsClosed, VisitsOnce};
 
-/// Entering a module, asking, an answer to a pending request, and a call of `import()` have one outcome each.
+/// Entering a module, asking, an answer to a pending request, an arrival, and a call of `import()` have at most one outcome each.
 pub fn one_load()
     ensures { OneLoad }
 {}
@@ -58,7 +58,8 @@ pub fn bytes_first()
     ensures stores { StoresOutcome }
 {}
 
-/// Entering a module, an answer to a pending request, and a call of `import()` have an outcome.
+/// Where loading is orderly, entering a module, an answer to a pending request, an arrival, and a call of `import()` have an
+/// outcome.
 pub fn has_load()
     ensures { HasLoad }
 {}

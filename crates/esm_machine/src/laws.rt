@@ -1,4 +1,4 @@
-// Laws of the definitions, as functions without effect.
+//! Laws of the definitions, as functions without effect.
 ghost use Rattle.esm_body.specs.Importers.{ImportsAreLawful};
 ghost use Rattle.esm_machine.specs.Evaluating.{EvaluationIsOfTheWorld};
 ghost use Rattle.esm_machine.specs.Following.{BodiesAreOfTheWorld, LinkingIsOfTheWorld};
@@ -105,6 +105,7 @@ pub fn arrivals_are_of_the_world()
 {
     esm_resolve::laws::shared_set()
 }
+
 /// Bodies with all that they read and write beside the promises, as contracts see them.
 pub trait ShownBodies {
     ghost use Rattle.std.specs.Prelude.{ℕ};

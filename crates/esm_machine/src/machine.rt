@@ -249,11 +249,11 @@ impl Machine {
     }
 
     /// One turn: the fetch of an open ask has ended so, and all that follows from it is done. Where the machine had
-    /// stopped it answers the same again and changes nothing.
+    /// stopped it answers the same again and changes nothing. Where memory runs out it stops, and represents nothing.
     ///
     /// A limit comes exactly where the standard run of the deliveries stops by it in this turn: L1 where more
-    /// than 4,096 URLs are asked for, L2 where more than 16,777,216 bytes were delivered, L3 at step 1,000,001, L4 where
-    /// more calls of `import()` are begun than may be, L5 where the log would be longer than it may be.
+    /// than 4,096 URLs are asked for, L2 where more than 16,777,216 bytes were delivered, L3 at step 1,000,001, L4 at the
+    /// 4,097th call of `import()`, L5 where the log would have more than 16,777,216 bytes.
     pub fn deliver(&mut self, url: &Text, outcome: &Outcome) -> Result<(), TurnEnd>
         requires { MayTake (state_of self.old) url.now }
         ensures turn { (state_of self.old).stopped ≡ None
@@ -384,8 +384,8 @@ impl Machine {
         }
     }
 
-    /// The last line of the run, without a line feed; empty where the status is Fulfilled. Of an uncaught value it has the
-    /// display text.
+    /// The last line of a run that has ended, without a line feed; empty where the status is Fulfilled. Of an uncaught value
+    /// it has the display text. It answers `Memory` where memory runs out.
     pub fn last_line(&self) -> Result<Text, Memory>
         requires { is_some (ending_of (state_of self.now)) ≡ true }
         ensures state { IfOk result (IsLineOf (state_of self.now)) }

@@ -1,4 +1,4 @@
-// Laws of the definitions, as functions without effect.
+//! Laws of the definitions, as functions without effect.
 ghost use Rattle.esm_promise.specs.Laws.{SettlesOnce, JobsAreOfSettled, MadePending, JobsAreInOrder};
 ghost use Rattle.esm_promise.specs.Renaming.{FollowsNames};
 

@@ -4,7 +4,8 @@ ghost use Rattle.esm_rewriting.specs.Examples.{ThrowLeaves, AwaitDivides};
 ghost use Rattle.esm_rewriting.specs.Naming.{FollowsNames};
 ghost use Rattle.esm_rewriting.specs.Keeps.{BodiesBegin, BodiesKeep};
 
-/// A rewriting, a segment of a body, and each call for a body, has one outcome, where `import()` has one.
+/// A rewriting, a segment of a body, and each call for a body (start, run, resume) has at most one outcome, where `import()`
+/// is a function.
 pub fn one_outcome()
     ensures { HaveOneOutcome }
 {}

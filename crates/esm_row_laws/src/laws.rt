@@ -36,7 +36,7 @@ pub fn settles<I: Imports>()
     ensures { Settles I.modules I.begins }
 {}
 
-/// The first operation of a place tells which it is.
+/// The first operation of a place, where it is its own, tells which place it is.
 pub fn tells()
     ensures { Tells }
 {}

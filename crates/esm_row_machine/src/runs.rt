@@ -161,7 +161,8 @@ fn run<W: Outside>(
     Err(Stop::Memory)
 }
 
-/// The function with this id runs with these values to its end.
+/// The function with this id runs with these values to its end: it gives a value, or throws one. A limit ends it as
+/// `Stop::Limit`; where memory runs out nothing is said. What was on the stacks goes; the rows that were made stay.
 ///
 /// ECMA-262, EvaluateCall.
 pub fn call<W: Outside>(

@@ -8,67 +8,67 @@ pub enum Op {
     Step,
     /// The text at this place is put on the operands.
     Text(u32),
-    /// `true` or `false` is.
+    /// `true` or `false` is put on the operands.
     Truth(bool),
-    /// `undefined` is.
+    /// `undefined` is put on the operands.
     Undefined,
-    /// The URL of the module is.
+    /// The URL of the module is put on the operands.
     Url,
-    /// The value of a name of the function is: its place, and its name's place in the table.
+    /// The value of a name of the function is put on the operands: its place, and its name's place in the table.
     Local(u32, u32),
-    /// The value of a name that the module itself declares is: its place there.
+    /// The value of a name that the module itself declares is put on the operands: its place there.
     Own(u32),
-    /// The value of another name is.
+    /// The value of another name is put on the operands.
     Name(u32),
-    /// Where the value on top is true, it stays, and so many operations are left; else it goes.
+    /// `||`: where the value on top is true (ToBoolean), it stays, and so many operations are left; else it goes.
     OrElse(u32),
-    /// The same where it is false.
+    /// `&&`: where the value on top is false, it stays, and so many operations are left; else it goes.
     AndAlso(u32),
-    /// Two values are compared by `===` (true) or `!==` (false).
+    /// The two values on top become what `===` (true) or `!==` (false) gives.
     Compare(bool),
-    /// Two values are added.
+    /// The two values on top become what `+` gives.
     Add,
-    /// A value is turned.
+    /// The value on top becomes what `!` gives.
     Not,
     /// The member with this name of the value on top takes its place.
     Member(u32),
     /// A callee is called with so many arguments, which stand above it.
     Call(u32),
-    /// So many values are printed.
+    /// So many values from the top are printed by `console.log`, whose value takes their place.
     Print(u32),
-    /// An error is made of the value on top.
+    /// The error that `new Error` makes of the value on top takes its place.
     NewError,
-    /// An `import()` of it begins.
+    /// An `import()` of the value on top begins: its promise takes the place.
     Import,
-    /// It is dropped.
+    /// The value on top goes.
     Drop,
-    /// The declaration of a name of the function sets it.
+    /// A declaration gives a name of the function, by its place, the value on top.
     SetLocal(u32),
-    /// The declaration of a name of the module sets it.
+    /// A declaration gives a name of the module the value on top.
     SetName(u32),
-    /// A name of the function is written: its place, and its name's place in the table.
+    /// The value on top is written to a name of the function: its place, and its name's place in the table.
     WriteLocal(u32, u32),
     /// The same of a constant, which throws.
     WriteConstant(u32, u32),
-    /// Another name is written.
+    /// The value on top is written to another name.
     WriteName(u32),
     /// The value on top is thrown.
     Throw,
-    /// It is returned.
+    /// The value on top is returned.
     Return,
-    /// It is printed, behind an await.
+    /// The value on top is printed, behind an await.
     PrintAwaited,
-    /// It is awaited.
+    /// The value on top is awaited.
     Await,
-    /// Where it is false, so many operations are left.
+    /// The value on top goes; where it was false, so many operations are left.
     Choose(u32),
     /// So many names begin, unset.
     Enter(u32),
     /// So many names go, and so many operations are left.
     Leave(u32, u32),
-    /// The same, and a throw leads to where so many operations are left.
+    /// So many names begin, unset, and until `EndTry` a throw leads to where so many operations are left.
     Try(u32, u32),
-    /// So many names go, a throw leads there no longer, and so many operations are left.
+    /// So many names go, the last `Try` leads a throw no longer, and so many operations are left.
     EndTry(u32, u32),
     /// A handler begins that names what was thrown, with so many further names.
     Caught(u32),

@@ -27,7 +27,7 @@ use Rattle.esm_world.specs.Turn.{Tasks, Turn}
 use Rattle.esm_world.specs.Run.{asks, Runs, IsAllowed, Shown, StandardRun}
 use Rattle.esm_ast.specs.Deliveries.{Delivery}
 
--- a turn has one outcome
+-- a turn has at most one outcome
 abbrev pub OneTurn : Type 0
 OneTurn = (w one other : World) (u : Url) (c : OutcomeView) → Turn w u c one → Turn w u c other → one ≡ other
 
@@ -46,7 +46,7 @@ abbrev pub KeepsMaps : Type 0
 KeepsMaps = (w after : World) (u : Url) (c : OutcomeView) → Turn w u c after
     → (after.loading.maps ≡ w.loading.maps) × (after.loading.built ≡ w.loading.built)
 
--- a list of deliveries has one standard run
+-- a list of deliveries has at most one standard run
 abbrev pub OneStandardRun : Type 0
 OneStandardRun = (maps : Maps) (built : List Item → Bool) (entry : Url) (trace : Bool) (deliveries : List Delivery) (one other : Shown)
     → StandardRun maps built entry trace deliveries one → StandardRun maps built entry trace deliveries other → one ≡ other

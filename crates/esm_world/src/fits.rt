@@ -26,8 +26,7 @@ pub fn runs_fit()
 }
 
 /// Each world of a run that no limit has stopped is sound: each step that no limit stops leaves a sound world, and each job
-/// can be done. Linking
-/// keeps that a world is ready for evaluation and bodies.
+/// can be done. Linking keeps that a world is ready for evaluation and bodies.
 pub fn worlds_stay_sound()
     ensures steps { WorldsStaySound }
     ensures links { LinkingStaysReady }

@@ -8,12 +8,12 @@ ghost use Rattle.esm_world.specs.RunLaws.{LoadsHaveEnded, TurnsLeaveNothing};
 
 use esm_resolve::laws::shared_set;
 
-/// A turn has one outcome.
+/// A turn has at most one outcome.
 pub fn one_turn()
     ensures { OneTurn }
 {}
 
-/// A list of deliveries has one standard run.
+/// A list of deliveries has at most one standard run.
 pub fn one_standard_run()
     ensures { OneStandardRun }
 {}

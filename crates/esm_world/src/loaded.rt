@@ -1,4 +1,4 @@
-// Laws of what loading brings to linking and bodies, as functions without effect.
+//! Laws of what loading brings to linking and bodies, each the contract of a function without effect.
 ghost use Rattle.esm_world.specs.Loaded.{HasLink, LinkedStaysLinked, LoadedAreLinked, LoadingStaysFit, UnlinkedStays};
 
 use esm_resolve::laws::shared_set;

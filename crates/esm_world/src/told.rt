@@ -14,8 +14,8 @@ pub fn runs_are_told()
     ensures { RunsAreTold }
 {}
 
-/// No `import()` is forgotten, unless a limit has stopped the run: behind each turn its promise is settled, or its load hasn't ended, or a pending promise has
-/// the reaction that settles it.
+/// No `import()` is forgotten, unless a limit has stopped the run: behind each turn its promise is settled, or its load
+/// hasn't ended, or a pending promise has the reaction that settles it.
 pub fn imports_go_on()
     ensures { ImportsGoOn }
 {}
