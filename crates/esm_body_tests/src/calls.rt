@@ -46,13 +46,13 @@ a a
 
 == 256 calls may be active
 -- main.js
-function f(n){ if (n === "x") { return "end"; } return n; } print(f("x"));
+const a = "x", b = a + a, c = b + b, d = c + c, g = d + d, h = g + g, i = h + h, j = i + i, most = a + b + c + d + g + h + i + j; function f(n){ if (n === most) { return "end"; } return f(n + "x"); } print(f(""));
 >> Fulfilled
 end
 
 == call 257 is an error that can be caught
 -- main.js
-let n = ""; function f(){ f(); } try { f(); } catch (e) { print(e); }
+const a = "x", b = a + a, c = b + b, d = c + c, g = d + d, h = g + g, i = h + h, j = i + i, more = j + j; function f(n){ if (n === more) { return "end"; } return f(n + "x"); } try { print(f("")); } catch (e) { print(e); }
 >> Fulfilled
 RangeError: call depth
 

@@ -1,5 +1,5 @@
 -- What the calls on a map answer, and what they add to its history.
-use Rattle.std.specs.Prelude.{◌≡◌, ◌⊎◌, ℕ, Bool, true, false, cond, List, [], ◌∷◌, ◌++◌, slice_get, Option, Some, None, Result, Ok, Err}
+use Rattle.std.specs.Prelude.{◌≡◌, ℕ, Bool, true, false, cond, List, [], ◌∷◌, ◌++◌, slice_get, Option, Some, None, Result, Ok, Err}
 use Rattle.esm_base.specs.declared.memory.Memory.{Memory}
 use Rattle.esm_hlock.specs.Makers.{names}
 use Rattle.esm_base.specs.Urls.{Url}
@@ -53,10 +53,6 @@ module _ {P G : Type 0} where
   -- a Shut is added where there is none
   abbrev pub ShutReply : (P → ℕ) → List (MapEvent P G) → ℕ → List (MapEvent P G) → Type 0
   ShutReply weight found c now = now ≡ cond (replay weight found).shut found (found ++ event.Shut c ∷ [])
-
-  -- the history is as it was, or the caller has added an event
-  abbrev pub MayGrow : List (MapEvent P G) → ℕ → List (MapEvent P G) → Type 0
-  MayGrow found c now = (now ≡ found) ⊎ ((e : MapEvent P G) × (now ≡ found ++ e ∷ []) × (maker_of e ≡ Some c))
 
   -- a history begins with what was seen, and behind that no entry has the number
   abbrev pub ContinuesFor : (MapEvent P G → Option ℕ) → List (MapEvent P G) → List (MapEvent P G) → Option ℕ → Type 0

@@ -159,7 +159,7 @@ throw "x";
 >> EntryFailed
 Uncaught x
 
-== functions call themselves 256 deep and no deeper
+== a function that calls itself without end
 -- main.js
 function f() { f(); } f();
 >> EntryFailed

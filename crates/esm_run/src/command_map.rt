@@ -23,6 +23,7 @@ pub(crate) enum MapRefusal {
 /// The import map of a command.
 #[derive(Drop)]
 pub(crate) struct GivenMap {
+    /// The map that the bytes are; the empty map without `--map`.
     pub map: ImportMap,
     /// The bytes that the desk answered; none without `--map`.
     pub bytes: Option<Vec<u8>>,

@@ -10,10 +10,12 @@ use esm_base::{Memory, Status, Text};
 use esm_machine::Machine;
 use esm_ports::{Sink, SinkEnd, put_all};
 
-// How a run ends, and what it writes.
+/// How a run ends, and what it writes.
 #[derive(Drop)]
 pub(crate) struct Ending {
+    /// The status of the program.
     pub status: Status,
+    /// What is to be written.
     pub text: Vec<u8>,
 }
 

@@ -99,10 +99,12 @@ fn end_generated<K: Sink>(
     }
 }
 
-// What a run over generated input begins with: the entry's URL, and a source for each worker.
+/// What a run over generated input begins with.
 #[derive(Drop)]
 struct Prepared {
+    /// The entry's URL.
     entry: Text,
+    /// A source for each worker.
     sources: Vec<GeneratedSource>,
 }
 

@@ -263,9 +263,13 @@ fn drive<R: Wait, S: Source>(
 /// The calling thread's part of a run that has ended, and the sources of the threads that have met it.
 #[derive(Drop)]
 pub(crate) struct Led<S> {
+    /// The machine, which has ended; none where memory ran out.
     pub machine: Option<Machine>,
+    /// What it took, in order.
     pub taken: Vec<Delivery>,
+    /// The calling thread's caller of the module map.
     pub caller: Caller<Posted>,
+    /// Its source and those of the threads, in the order given.
     pub sources: Vec<S>,
 }
 

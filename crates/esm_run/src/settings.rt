@@ -9,9 +9,14 @@ use std::sync::{Arc, Wait};
 /// those that the workers have too.
 #[derive(Drop)]
 pub(crate) struct Settings<'a, R: Wait> {
+    /// What threads wait by.
     pub rt: &'a R,
+    /// Where memory is taken from.
     pub alloc: Global,
+    /// The module map.
     pub modules: &'a ModuleMap<Posted>,
+    /// The bell, which is rung behind posts.
     pub bell: &'a Bell,
+    /// The import map of the run.
     pub import_map: &'a Arc<ImportMap, Global>,
 }

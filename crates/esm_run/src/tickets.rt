@@ -34,24 +34,33 @@ const REFILL: usize = 24;
 /// spares look-ups.
 #[derive(Drop)]
 pub(crate) struct Ticket {
+    /// The URL that is asked for.
     pub url: Text,
+    /// Its number in the module map.
     pub number: u32,
+    /// Its place in the machine's table of URLs.
     pub place: usize,
 }
 
 /// A ticket with what was posted for it.
 #[derive(Drop)]
 pub(crate) struct Chosen {
+    /// The open ask.
     pub ticket: Ticket,
+    /// What was posted for it.
     pub payload: Arc<Posted, Global>,
 }
 
 /// The tickets of what isn't delivered, and the posts that are known and not delivered, in their order.
 #[derive(Drop)]
 pub(crate) struct Queue {
+    /// The open asks that the map was asked for and that aren't delivered.
     pub tickets: Vec<Ticket>,
+    /// The posts that are known and not delivered.
     pub posted: Vec<Heard<Posted>>,
+    /// How many posts of the map are known, delivered ones too.
     pub known: usize,
+    /// The bell's counter of posts, as it was read last.
     pub heard: u64,
 }
 

@@ -45,12 +45,16 @@ pub(crate) struct GraphEnd<S> {
     pub modules: Option<ModuleMap<Posted>>,
 }
 
-// What a run begins with: the map that its threads share, the calling thread's caller, and one for each worker.
+/// What a run begins with.
 #[derive(Drop)]
 struct Ready {
+    /// The import map that its threads share.
     map: Arc<ImportMap, Global>,
+    /// The module map that they share.
     modules: ModuleMap<Posted>,
+    /// The calling thread's caller of the module map.
     caller: Caller<Posted>,
+    /// One for each further worker.
     workers: Vec<Caller<Posted>>,
 }
 
