@@ -105,7 +105,7 @@ impl ExprFrame {
         })
     }
 
-    /// Goes on: a new expression begins, or the call that the last advance answered has given this value. Stops up to the
+    /// Goes on: a new expression begins, or the call that the last advance answered has given this value. It goes up to the
     /// next call, the value, a throw, a stop of the world, or want of memory; behind any of these but a call it can't
     /// advance again.
     pub fn advance<W: World>(

@@ -34,7 +34,7 @@ pub enum Op {
     Member(u32),
     /// A callee is called with so many arguments, which stand above it.
     Call(u32),
-    /// So many values from the top are printed by `console.log`, whose value takes their place.
+    /// So many values from the top are printed by `print`, whose value takes their place.
     Print(u32),
     /// The error that `new Error` makes of the value on top takes its place.
     NewError,
