@@ -1,9 +1,6 @@
 -- URLs as texts. A module is named by its URL.
 use Rattle.std.specs.Prelude.{◌≡◌, ℕ, Bool, true, false, ◌&&◌, List, length, nat_le, bytes_eq, Option, None, Some}
-use Rattle.std.specs.Ordering.{nat_cmp}
-use Rattle.std.specs.Cmp.Lexicographic.{slice_cmp}
 use Rattle.std.specs.Result.{result_ok}
-use Rattle.std.specs.declared.cmp.Ordering.{Ordering}
 use Rattle.url.specs.Parser.{parse_url}
 use Rattle.url.specs.Parts.{Parts, serialize}
 use Rattle.esm_base.specs.declared.limits.TheConstants.{MAX_URL_BYTES}
@@ -17,10 +14,7 @@ Text = List ℕ
 abbrev pub Url : Type 0
 Url = List ℕ
 
--- the order in which tables keep URLs
-abbrev pub url_cmp : Url → Url → Ordering
-url_cmp = slice_cmp nat_cmp
-
+-- URLs are the same where their texts are
 abbrev pub same_url : Url → Url → Bool
 same_url = bytes_eq
 

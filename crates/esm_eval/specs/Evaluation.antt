@@ -123,7 +123,7 @@ module _ {N V W : Type 0} (E : Evaluation N V W) where
     pub awaits : (x : N) → was_entered (phase w x) ≡ true → E.awaits v x ≡ E.awaits w x
 
   module _ {S : Type 0} (acts : BodyCalls N V W S) where
-    -- a call for a body has one outcome
+    -- a call for a body has at most one outcome
     pub record HasOneOutcome : Type 0 where
       pub one : {w x y : W} {c : Call N} {r s : Result (CallAnswer V c) S} → acts w c r x → acts w c s y → (s ≡ r) × (y ≡ x)
 

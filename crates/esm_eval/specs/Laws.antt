@@ -8,7 +8,7 @@ use Rattle.esm_eval.specs.Waiting.{IsBetweenCalls, IsOpening}
 use Rattle.esm_eval.specs.Begins.{First, BeginsOne, HaveBegunOnce}
 
 module _ {N V W S : Type 0} (E : Evaluation N V W) (acts : BodyCalls N V W S) where
-  -- where each call for a body has one outcome, an evaluation has one, and so has what follows the end of a body
+  -- where each call for a body has at most one outcome, so has an evaluation, and so has what follows the end of a body
   pub record OneOutcome : Type 0 where
     pub evaluates : (w : W) (m : N) (a b : Result ℕ S) (x y : W) → Evaluates E acts w m a x → Evaluates E acts w m b y
         → (b ≡ a) × (y ≡ x)

@@ -9,12 +9,12 @@ use Rattle.esm_expr_eval.specs.Ready.{IsAtWork}
 use Rattle.esm_expr_eval.specs.Rewriting.{Rewrites}
 use Rattle.esm_expr_eval.specs.Ends.{TermEnd, Leads}
 
--- each call on the world has one outcome
+-- each call on the world has at most one outcome
 pub record ActsOnce {W S : Type 0} (acts : Acting W CodeValue S) : Type 0 where
   pub once : (w one other : W) (a : Act CodeValue) (r s : Result (AnswerTo a) S)
       → acts w a r one → acts w a s other → (s ≡ r) × (other ≡ one)
 
--- then a rewriting has one outcome, and an expression leads to one end
+-- then so has a rewriting, and an expression leads to at most one end
 pub record RewritesOnce {W S : Type 0} (url : W → List ℕ) (acts : Acting W CodeValue S) : Type 0 where
   pub rewrites : ActsOnce acts → (w one other : W) (t : Term CodeValue) (c d : Rewritten CodeValue S (Term CodeValue))
       → Rewrites numbered url acts w t c one → Rewrites numbered url acts w t d other → (d ≡ c) × (other ≡ one)

@@ -373,9 +373,9 @@ fn keep_room(alloc: Global) {
 
 /// Takes, fetches, reads and posts, up to four URLs at a time, until the map is shut or memory runs out, and waits on the
 /// bell where there is nothing to take. What is posted has what it requests resolved by the guide of the map, where it
-/// was resolved ahead. The posts and the takes behind them are one turn at the map. It comes back only with a shut map, and `short` says that memory ran out;
-/// then at most four URLs were taken and not posted. Where it isn't set, all that was taken is posted, and it wasn't this
-/// call that shut the map.
+/// was resolved ahead. The posts and the takes behind them are one turn at the map. It comes back only with a shut map,
+/// and `short` says that memory ran out; then at most four URLs were taken and not posted. Where it isn't set, all that
+/// was taken is posted, and it wasn't this call that shut the map.
 pub fn worker<R: Wait, S: Source>(
     rt: &R,
     alloc: Global,

@@ -22,7 +22,7 @@ NamesModules = (i : ℕ) → i < 2 ^ 32 → is_usable (module_url i) ≡ true
 abbrev pub specifier_of : ℕ → Text
 specifier_of i = codes "./m" ++ decimal i ++ codes ".js"
 
--- so it does
+-- the line of an import has that specifier between its quotes
 abbrev pub QuotesSpecifiers : Type 0
 QuotesSpecifiers = (j : ℕ) → import_line j ≡ codes "import \"" ++ specifier_of j ++ codes "\";\n"
 

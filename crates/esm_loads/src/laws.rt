@@ -2,7 +2,8 @@
 ghost use Rattle.esm_loads.specs.LoadsAsLoading.{OpensWithEntry};
 ghost use Rattle.esm_loads.specs.Laws.{AskLimit, BytesFirst, EndedLoadStays, FewerLeft, FirstPending, HasLoad, KeepsPromises, LimitStops, LoadsEnd, OneLoad, OneUrlAtATime, OnlyGrows, StaysOrderly, StaysWhole, StoresOutcome, UnlinkedIsClosed, VisitsOnce};
 
-/// Entering a module, asking, an answer to a pending request, an arrival, and a call of `import()` have at most one outcome each.
+/// Entering a module, asking, an answer to a pending request, an arrival, and a call of `import()` have at most one
+/// outcome each.
 pub fn one_load()
     ensures { OneLoad }
 {}

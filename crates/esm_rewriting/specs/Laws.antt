@@ -38,7 +38,7 @@ imports_by f o m text p end after = f o m text p ≡ (end, after)
 abbrev pub itself : Modules ℕ → Modules ℕ
 itself g = g
 
--- a rewriting, a segment, and each call for a body have one outcome
+-- a rewriting, a segment, and each call for a body have at most one outcome
 pub record HaveOneOutcome : Type 0 where
   pub rewriting : (f : Importer) (m : ℕ) (w one other : Inner ℕ (Modules ℕ)) (r : Rest (Value ℕ)) (a b : RewrittenBody (Value ℕ) Limit)
       → RewritesBody nat_eq itself (imports_by f) m w r a one → RewritesBody nat_eq itself (imports_by f) m w r b other

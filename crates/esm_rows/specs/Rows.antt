@@ -48,9 +48,9 @@ pub data Operation : Type 0 where
   Enter : (count : ℕ) → Operation
   -- so many names go, and so many operations are left
   Leave : (count left : ℕ) → Operation
-  -- the same, and a throw leads to where so many operations are left
+  -- so many names begin, unset, and until EndTry a throw leads to where so many operations are left
   Try : (count left : ℕ) → Operation
-  -- the same as leaving, and a throw leads there no longer
+  -- so many names go, the last Try leads a throw no longer, and so many operations are left
   EndTry : (count left : ℕ) → Operation
   -- a handler begins: whether it names what was thrown, and so many names
   Caught : (named : Bool) (count : ℕ) → Operation

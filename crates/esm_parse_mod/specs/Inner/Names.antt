@@ -25,7 +25,7 @@ abbrev pub given : Option (Bor Text) → List Text
 given None = []
 given (Some b) = b.now ∷ []
 
--- a name is declared twice, its parameters among them
+-- a name of the scope is declared twice, its parameters among them
 unfoldable pub clashes : Scope → Bool
 clashes s = has_repeat (s.parameters ++ s.declared)
 
