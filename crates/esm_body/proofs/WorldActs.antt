@@ -1,6 +1,7 @@
 -- Each call of expressions on code under way is an act of the definitions.
-use Rattle.std.proofs.Common.{◌≡◌, ℕ, Bool, List, refl, sym}
-use Rattle.std.specs.Prelude.{Some, None, Result, Ok, Err}
+use Rattle.std.proofs.Common.{◌≡◌, ℕ, nat_eq, Bool, List, refl, subst, sym}
+use Rattle.std.specs.Prelude.{Result, Ok, Err}
+use Rattle.esm_base.specs.declared.limits.Limit.{Limit}
 use Rattle.esm_base.specs.declared.limits.Limit.TheVariants.{L1, L2, L3, L4, L5}
 use Rattle.esm_values.specs.Value.{Error}
 use Rattle.esm_values.specs.Code.{CodeValue, value_of, valued}
@@ -12,25 +13,26 @@ use Rattle.esm_values.specs.declared.value.Value.{Value}
 use Rattle.esm_expr_eval.specs.Instance.{said}
 use Rattle.esm_expr_eval.specs.declared.world.Out.{Out}
 use Rattle.esm_promise.specs.Code.{Numbered}
-use Rattle.esm_promise.specs.Laws.{MadePending}
 use Rattle.esm_promise.specs.Outer.{Outer}
 use Rattle.esm_env.specs.Modules.{Modules}
 use Rattle.esm_env.specs.Calls.{scopes_of}
 use Rattle.esm_env.specs.Laws.{ReadsRight}
 use Rattle.esm_rewriting.specs.State.{Importing}
-use Rattle.esm_body.specs.Importers.{ImportsAreLawful, outer_with}
+use Rattle.esm_body.specs.Importers.{ImportsAreLawful}
 use Rattle.esm_rewriting.specs.Fits.{AreLinked}
 use Rattle.esm_body.specs.Inner.Stack.{scopes_round}
+use Rattle.esm_body.specs.Inner.Functions.{ImportsIn, ImportsFrom}
 use Rattle.esm_body.specs.Inner.Log.{TookSteps, AddedLine}
 use Rattle.esm_body.specs.Inner.Names.{reading_in, Tells}
-use Rattle.esm_body.specs.Inner.Displayed.{IsShown, AreShown, IsSpecifier, MemberTold, RefusesTold, BeginsTold}
-use Rattle.esm_rewriting.specs.Acts.{Inner}
-use Rattle.esm_body.specs.Inner.World.{state_in, inner_of, IsSame, CodeIsWhole, ActsInside}
+use Rattle.esm_body.specs.Inner.Displayed.{IsShown, AreShown, MemberTold}
+use Rattle.esm_rewriting.specs.Acts.{Inner, Performs}
+use Rattle.esm_body.specs.Inner.World.{state_in, inner_of, IsSame, CodeIsWhole, Answers, ActsInside}
 use Rattle.esm_body.specs.declared.log.Log.{Log}
 use Rattle.esm_rewriting.specs.declared.stop.Stop.{Stop}
 use Rattle.esm_rewriting.specs.declared.stop.Stop.TheVariants as stops
 use Rattle.esm_body.specs.declared.inside.Inside.{Inside}
-use Rattle.esm_body.proofs.Asked.{shows_there, show_all_there, read_performs, member_performs, refuse_performs, line_ok, line_stops, step_ok, step_stops, begin_performs, begin_stops, read_acts, member_acts}
+use Rattle.esm_body.specs.declared.work.Activation.{Activation}
+use Rattle.esm_body.proofs.Asked.{shows_there, show_all_there, read_performs, member_performs, line_ok, line_stops, step_ok, step_stops, read_acts, member_acts}
 
 -- with other errors
 abbrev pub Errs : {I : Type 0} → Inside I → Errors → Inside I
@@ -49,9 +51,6 @@ errs_same w es = record { now = refl; code = refl; alloc = refl; engine = refl; 
 
 logs_same : {I : Type 0} (w : Inside I) (log : Log) → IsSame w (Logs w log)
 logs_same w log = record { now = refl; code = refl; alloc = refl; engine = refl; standing = refl; errors = refl; envs = refl; promises = refl; imports = refl }
-
-outs_same : {I : Type 0} (w : Inside I) (ps : Numbered) (es : Errors) (i : I) → IsSame w (Outs w ps es i)
-outs_same w ps es i = record { now = refl; code = refl; alloc = refl; engine = refl; standing = refl; errors = refl; envs = refl; promises = refl; imports = refl }
 
 all_same : {I : Type 0} (w : Inside I) → IsSame w w
 all_same w = record { now = refl; code = refl; alloc = refl; engine = refl; standing = refl; errors = refl; envs = refl; promises = refl; imports = refl }
@@ -148,31 +147,19 @@ module _ {I S : Type 0} (seen : I → S) (modules : S → Modules ℕ) (linked :
   takes_steps n (Err (stops.Limit L5)) new h = absurd h
   takes_steps n (Err stops.Memory) new h = absurd h
 
-  pub refuses : (v : CodeValue) (p : Value) (late : Numbered) (new : Errors) → IsSpecifier w.errors.now v None → RefusesTold w.promises.now w.errors.now (Ok p) late new
-      → ActsInside seen modules linked fits begins w (act.Import v) (Ok (value_of p)) (Outs w late new w.imports.now)
-  refuses v p late new none h = (
-    outs_same w late new w.imports.now,
-    λ ready known. (
-      refuse_performs modules linked fits begins (scopes_round w.code.now.levels.items) (scopes_of w.envs.now) w.engine.now w.promises.now (seen w.imports.now)
-          w.errors.now new late w.code.now.at.0 v p (sym none) h,
-      ready.made,
-    ),
+  -- what begins in a module, in any scopes, begins in code that stands there
+  begins_here : (after : Inside I) (v : CodeValue) (told : Result CodeValue Limit) → ImportsIn seen modules linked fits begins w.code.now.at.0 w v told after → Answers seen modules linked fits begins w (act.Import v) told after
+  begins_here after v told h = (
+    h.0,
+    λ ready known.
+        let i = h.1 ready ready.home in (
+          subst (λ (code : Activation). Performs nat_eq modules begins w.code.now.at.0 (inner_of seen w) (act.Import v) told (record { scopes = scopes_round code.levels.items; state = state_in seen after }))
+              (sym h.0.now) (i.0 (scopes_round w.code.now.levels.items)),
+          i.1,
+        ),
   )
 
-  pub begins_import : (v : CodeValue) (text : List ℕ) (r : Result Value Stop) (late : Numbered) (new : Errors) (k : I) → ImportsAreLawful modules linked fits begins → MadePending
-      → IsSpecifier w.errors.now v (Some text)
-      → BeginsTold modules linked fits begins (outer_with w.promises.now w.errors.now (seen w.imports.now)) w.code.now.at.0 text r (outer_with late new (seen k))
-      → ActsInside seen modules linked fits begins w (act.Import v) (valued r) (Outs w late new k)
-  begins_import v text (Ok p) late new k lawful pending some h = (
-    outs_same w late new k,
-    λ ready known.
-        begin_performs modules linked fits begins (scopes_round w.code.now.levels.items) (scopes_of w.envs.now) w.engine.now w.promises.now w.errors.now (seen w.imports.now)
-        lawful pending ready.state.whole late new (seen k) w.code.now.at.0 v text p (sym some) ready.home ready.made h,
-  )
-  begins_import v text (Err (stops.Limit limit)) late new k lawful pending some h = (
-    outs_same w late new k,
-    λ ready known.
-        begin_stops modules linked fits begins (scopes_round w.code.now.levels.items) (scopes_of w.envs.now) w.engine.now w.promises.now w.errors.now (seen w.imports.now)
-        lawful pending ready.state.whole late new (seen k) w.code.now.at.0 v text limit (sym some) ready.home ready.made h,
-  )
-  begins_import v text (Err stops.Memory) late new k lawful pending some h = tt
+  pub imports : (after : Inside I) (v : CodeValue) (r : Result Value Stop) → ImportsFrom seen modules linked fits begins w.code.now.at.0 w v r after → ActsInside seen modules linked fits begins w (act.Import v) (valued r) after
+  imports after v (Ok p) h = begins_here after v (Ok (value_of p)) h
+  imports after v (Err (stops.Limit limit)) h = begins_here after v (Err limit) h
+  imports after v (Err stops.Memory) h = tt

@@ -1,10 +1,6 @@
 // Code under way as what its functions run over.
-ghost use Rattle.esm_values.specs.Code.{value_of};
-ghost use Rattle.esm_body.specs.Inner.Functions.{ImportsFrom};
-
-use crate::displays::specifier_of;
 use crate::importer::Importer;
-use crate::imports::{begin_import, refuse_import};
+use crate::imports::import_from;
 use crate::inside::Inside;
 use crate::members::member_of;
 use crate::names::{copied, owned, tell, tell_read, throw_named, throw_new};
@@ -17,35 +13,6 @@ use esm_rewriting::Stop;
 use esm_row_machine::Outside;
 use esm_rows::{Row, lower};
 use esm_values::{FaultKind, RcText, Value};
-
-/// Begins an `import()` that stands written in this module, and gives its promise.
-fn import_from<I: Importer>(
-    inside: &mut Inside<'_, I>,
-    m: ModuleId,
-    of: Value,
-) -> Result<Value, Stop>
-    ensures { ImportsFrom I.seen I.modules I.linked I.fits I.begins m.0 inside.old (value_of of)
-        result inside.new }
-{
-    esm_promise::laws::made_pending();
-    match specifier_of(inside.alloc, inside.errors, &of) {
-        Ok(specifier) => match specifier {
-            Some(specifier) => begin_import(
-                inside.alloc,
-                inside.promises,
-                inside.errors,
-                inside.imports,
-                m,
-                specifier.as_str(),
-            ),
-            None => match refuse_import(inside.alloc, inside.promises, inside.errors) {
-                Ok(promise) => Ok(promise),
-                Err(Memory) => Err(Stop::Memory),
-            },
-        },
-        Err(Memory) => Err(Stop::Memory),
-    }
-}
 
 impl<'a, I: Importer> Outside for Inside<'a, I> {
     ghost use Rattle.esm_body.specs.Inner.Functions.{KeepsBody, keeps_both, keeps_itself, owned_by, still_there};

@@ -1,12 +1,12 @@
 // Code under way as the world of its expressions.
-ghost use Rattle.std.specs.Prelude.{◌≡◌, [], ◌∷◌, IfSome};
+ghost use Rattle.std.specs.Prelude.{◌≡◌, [], ◌∷◌, IfOk, IfSome};
 ghost use Rattle.esm_values.specs.Acts.{Act as act};
 ghost use Rattle.esm_values.specs.Code.{values_of};
 ghost use Rattle.esm_body.specs.Inner.World.{ActsInside};
 
-use crate::displays::{display_texts, shown_text, specifier_of};
+use crate::displays::{display_texts, shown_text};
 use crate::importer::Importer;
-use crate::imports::{begin_import, refuse_import};
+use crate::imports::import_from;
 use crate::inside::Inside;
 use crate::members::member_of;
 use crate::names::{read_name, tell};
@@ -23,6 +23,14 @@ fn alone(texts: &[Text]) -> Option<&Text>
         [text] => Some(text),
         _ => None,
     }
+}
+
+/// The same text as values have it, in its own memory.
+fn shared_text(text: Text) -> Result<RcText, Memory>
+    ensures { IfOk result (λ shared. shared ≡ text) }
+{
+    let string = text.into_string()?;
+    RcText::from_string(string)
 }
 
 /// Prints values as one line. The text of a value alone is the line, and isn't copied.
@@ -81,7 +89,7 @@ impl<'a, I: Importer> World for Inside<'a, I> {
 
     fn display(&mut self, of: &Value) -> Result<RcText, Stop> {
         match shown_text(self.alloc, self.errors, self.envs, self.imports, of) {
-            Ok(text) => match RcText::copy(self.alloc, text.as_str()) {
+            Ok(text) => match shared_text(text) {
                 Ok(text) => Ok(text),
                 Err(Memory) => Err(Stop::Memory),
             },
@@ -105,24 +113,8 @@ impl<'a, I: Importer> World for Inside<'a, I> {
     }
 
     fn import(&mut self, of: Value) -> Result<Value, Stop> {
-        esm_promise::laws::made_pending();
-        match specifier_of(self.alloc, self.errors, &of) {
-            Ok(specifier) => match specifier {
-                Some(specifier) => begin_import(
-                    self.alloc,
-                    self.promises,
-                    self.errors,
-                    self.imports,
-                    self.code.at,
-                    specifier.as_str(),
-                ),
-                None => match refuse_import(self.alloc, self.promises, self.errors) {
-                    Ok(promise) => Ok(promise),
-                    Err(Memory) => Err(Stop::Memory),
-                },
-            },
-            Err(Memory) => Err(Stop::Memory),
-        }
+        let at = self.code.at;
+        import_from(self, at, of)
     }
 
     fn url(&self) -> &str {

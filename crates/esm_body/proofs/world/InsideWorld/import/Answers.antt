@@ -1,13 +1,6 @@
 use Rattle.esm_values.specs.Code.{value_of}
-use Rattle.esm_body.proofs.WorldActs.{refuses, begins_import}
+use Rattle.esm_body.proofs.WorldActs.{imports}
 use Rattle.esm_body.proofs.world.InsideWorld.import.Goals as goal
 
-pub returns-in-Some : goal.returns-in-Some
-returns-in-Some g c =
-    begins_import g.I.Importer.seen g.I.Importer.modules g.I.Importer.linked g.I.Importer.fits g.I.Importer.begins c.args.self.now (value_of c.args.of) c.in-Some.specifier c.begin_import.result c.begin_import.new.promises c.begin_import.new.errors c.begin_import.new.imports
-    g.met.I.Importer.lawful c.made_pending.ensures (rw c.in-Some.is at c.in-Ok.ensures) (rw c.as_str.ensures.value at c.begin_import.ensures)
-
-pub returns-in-Ok-refuse_import : goal.returns-in-Ok-refuse_import
-returns-in-Ok-refuse_import g c =
-    refuses g.I.Importer.seen g.I.Importer.modules g.I.Importer.linked g.I.Importer.fits g.I.Importer.begins c.args.self.now (value_of c.args.of) c.in-Ok-refuse_import.promise c.refuse_import.new.promises c.refuse_import.new.errors
-    (rw c.in-None.is at c.in-Ok.ensures) c.in-Ok-refuse_import.ensures
+pub returns : goal.returns
+returns g c = imports g.I.Importer.seen g.I.Importer.modules g.I.Importer.linked g.I.Importer.fits g.I.Importer.begins c.args.self.now c.import_from.new.inside (value_of c.args.of) c.import_from.result c.import_from.ensures

@@ -1,6 +1,6 @@
 use Rattle.esm_values.specs.Code.{value_of}
 use Rattle.esm_body.proofs.RowPlans.{begins_from, refuses_from}
-use Rattle.esm_body.proofs.outside.import_from.Goals as goal
+use Rattle.esm_body.proofs.imports.import_from.Goals as goal
 
 pub returns-in-Some : goal.returns-in-Some
 returns-in-Some g c =
