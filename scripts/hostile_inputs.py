@@ -301,20 +301,20 @@ def map_nesting_inputs():
 
 
 def graphs():
-    """Sites of many modules, each by name."""
+    """Sites of many modules, each by name and with the status that it ends with."""
     def chain(many, line, foot):
         return {("n%d.js" % k if k else "main.js"): (line % (k + 1) if k + 1 < many else foot).encode() for k in range(many)}
-    yield "a chain of 4,096", chain(4096, 'import"./n%d.js";', "")
-    yield "a chain of 4,097", chain(4097, 'import"./n%d.js";', "")
-    yield "a cycle of 4,096", chain(4096, 'import"./n%d.js";', 'import"./main.js";')
-    yield "a cycle of 4,096 that throws", chain(4096, 'import"./n%d.js";', 'import"./main.js";await true;throw"x";')
-    yield "a chain of 4,096 awaits", chain(4096, 'import"./n%d.js";await true;', "await true;")
-    yield "a chain of 4,096 stars", chain(4096, 'export*from"./n%d.js";', 'export const a="x";')
-    yield "a cycle of 4,096 stars", chain(4096, 'export*from"./n%d.js";', 'export*from"./main.js";')
-    yield "a chain of 4,096 re-exports", chain(4096, 'export{a}from"./n%d.js";', 'export const a="x";')
-    yield "a cycle of 4,096 re-exports", chain(4096, 'export{a}from"./n%d.js";', 'export{a}from"./main.js";')
-    yield "a chain of 4,096 awaited import()s", chain(4096, 'await import("./n%d.js");', "")
-    yield "a cycle of 64 awaited import()s", chain(64, 'await import("./n%d.js");', 'await import("./main.js");')
+    yield "a chain of 4,096", 0, chain(4096, 'import"./n%d.js";', "")
+    yield "a chain of 4,097", 5, chain(4097, 'import"./n%d.js";', "")
+    yield "a cycle of 4,096", 0, chain(4096, 'import"./n%d.js";', 'import"./main.js";')
+    yield "a cycle of 4,096 that throws", 1, chain(4096, 'import"./n%d.js";', 'import"./main.js";await true;throw"x";')
+    yield "a chain of 4,096 awaits", 0, chain(4096, 'import"./n%d.js";await true;', "await true;")
+    yield "a chain of 4,096 stars", 0, chain(4096, 'export*from"./n%d.js";', 'export const a="x";')
+    yield "a cycle of 4,096 stars", 0, chain(4096, 'export*from"./n%d.js";', 'export*from"./main.js";')
+    yield "a chain of 4,096 re-exports", 0, chain(4096, 'export{a}from"./n%d.js";', 'export const a="x";')
+    yield "a cycle of 4,096 re-exports", 1, chain(4096, 'export{a}from"./n%d.js";', 'export{a}from"./main.js";')
+    yield "a chain of 4,096 awaited import()s", 0, chain(4096, 'await import("./n%d.js");', "")
+    yield "a cycle of 64 awaited import()s", 7, chain(64, 'await import("./n%d.js");', 'await import("./main.js");')
 
 
 # ---- outside
@@ -455,6 +455,10 @@ def loads_that_fail():
 NAMES = "".join("let a%d;" % k for k in range(95000))
 DEAR = [  # names of sites that cost much, with what makes their files
     ("a function of 250,000 operands, called 128 times", lambda: {"main.js": "let a; " + doubled("||".join(["a"] * 250000) + ";", 7)}),
+    ("a function of 970,000 bytes, called behind each of 1,000 awaits", lambda: {
+        "main.js": "let a; function f() { if (true) { return; } %s }" % ("a;" * 485000) + "f(); await true;" * 1000}),
+    ("an import map of 1 MiB of objects of one member", lambda: {
+        "main.js": "", "map.json": '{"x":[%s0]}' % (('{"":' * 120 + "0" + "}" * 120 + ",") * 1741)}),
     ("20,000 comparisons of texts of 64 KiB, called 32 times", lambda: {
         "main.js": long_text("t") + long_text("u") + doubled("||".join(["t !== u"] * 20000) + ";", 5)}),
     ("a function that declares 90,000 names, called once", lambda: {
