@@ -32,7 +32,8 @@ pub fn one_evaluation<A: AnyWorld>()
     ensures { OneEvaluation A.evaluation A.acts }
 {}
 
-/// Between two calls of evaluation a module that waits has a wait that isn't done.
+/// Between two calls of evaluation a module that is evaluating-async, whose body hasn't begun and whose cycle root has no error,
+/// waits for one that isn't done.
 pub fn waits_stay_open<A: AnyWorld>()
     ensures { WaitsStayOpen A.evaluation A.acts }
 {}
