@@ -35,7 +35,7 @@ pub fn limit_stops()
     ensures bytes { BytesStopFirst }
 {}
 
-/// A limit is told only where it has stopped the world.
+/// A limit is told only where one has stopped the world.
 pub fn limits_are_told()
     ensures { StopsAreTold }
 {}
