@@ -1,13 +1,12 @@
 // Workers, each in a thread of its own.
-ghost use Rattle.std.specs.Prelude.{◌≡◌, ◌≢◌, ◌≤◌, ◌<◌, ◌+◌, ◌++◌, ◌∷◌, [], All, AllPairs, map, flat_map, vec_len, Some};
+ghost use Rattle.std.specs.Prelude.{◌≡◌, ◌≢◌, ◌≤◌, ◌<◌, ◌+◌, ◌++◌, ◌∷◌, [], All, AllPairs, map, flat_map, vec_len};
 ghost use Rattle.std.specs.Vec.{vec_capacity};
 ghost use Rattle.std.specs.Thread.{IsSync};
 ghost use Rattle.esm_hlock.specs.Views.{HasAllMakers};
 ghost use Rattle.esm_module_map.specs.Views.{view_in, table_of, Same};
 ghost use Rattle.esm_module_map.specs.Replay.{maker_of};
 ghost use Rattle.esm_module_map.specs.Counts.{AreTakenOnce};
-ghost use Rattle.esm_fetch.specs.Serving.{weight, Serves, ServedIf};
-ghost use Rattle.esm_module_map.specs.Leading.{guide_in};
+ghost use Rattle.esm_fetch.specs.Serving.{weight, ServedIf};
 ghost use Rattle.esm_fetch.specs.Pool.{IsToBegin, IsGuided, IsDone, caller_in, source_in, source_of};
 
 use crate::bell::Bell;
@@ -48,6 +47,28 @@ pub struct Pool<S> {
     pub caller: Caller<Posted>,
     /// What is left of the workers, in the order of the jobs.
     pub done: Vec<Done<S>>,
+}
+
+// The worker of this job.
+fn work_one<R: Wait, S: Source>(
+    rt: &R,
+    alloc: Global,
+    modules: &ModuleMap<Posted>,
+    bell: &Bell,
+    guide: &ImportMap,
+    job: Job<S>,
+) -> WorkerEnd<S>
+    requires begins { IsToBegin modules.now.lock.table.shared.table_id S.holds S.asked job }
+    requires guided { IsGuided guide.now job }
+    ensures own { table_of modules.now.lock.table.shared.table_id result.caller.pass
+        ≡ modules.now.lock.table.shared.table_id }
+    ensures served { ServedIf result.short (S.holds job.source) (S.asked result.source)
+        job.caller.number (view_in result.caller.pass).seen }
+    ensures same { Same (view_in job.caller.pass) (view_in result.caller.pass) }
+    ensures holds { S.holds result.source ≡ S.holds job.source }
+{
+    let Job { caller, source } = job;
+    worker(rt, alloc, modules, bell, guide, caller, source)
 }
 
 // A worker that has ended is put to the others.
@@ -134,25 +155,19 @@ pub fn work_all<R: Threads + Wait + Sync, S: Source + Send>(
     match jobs.pop() {
         None => Pool { caller, done },
         Some(job) => {
-            let Job {
-                caller: mine,
-                source,
-            } = job;
-            let number = mine.number();
+            let number = job.caller.number();
             let (end, pool) = join(
                 rt,
                 || -> WorkerEnd<S>
                     requires { IsSync R.row
-                        × (table_of modules.now.lock.table.shared.table_id mine.pass
-                        ≡ modules.now.lock.table.shared.table_id)
-                        × Serves (S.holds source) (S.asked source) mine.number (view_in mine.pass).seen
-                        × (guide_in (view_in mine.pass).seen ≡ Some guide.now) }
+                        × IsToBegin modules.now.lock.table.shared.table_id S.holds S.asked job
+                        × IsGuided guide.now job }
                     ensures { (table_of modules.entry.now.lock.table.shared.table_id
                         result.caller.pass ≡ modules.entry.now.lock.table.shared.table_id)
-                        × ServedIf result.short (S.holds source) (S.asked result.source) mine.number (view_in result.caller.pass).seen
-                        × Same (view_in mine.pass) (view_in result.caller.pass)
-                        × (S.holds result.source ≡ S.holds source) }
-                { worker(rt, alloc, modules, bell, guide, mine, source) },
+                        × ServedIf result.short (S.holds job.source) (S.asked result.source) job.caller.number (view_in result.caller.pass).seen
+                        × Same (view_in job.caller.pass) (view_in result.caller.pass)
+                        × (S.holds result.source ≡ S.holds job.source) }
+                { work_one(rt, alloc, modules, bell, guide, job) },
                 || -> Pool<S>
                     requires { IsSync R.row
                         × (table_of modules.now.lock.table.shared.table_id caller.pass
