@@ -114,6 +114,12 @@ throw undefined;
 >> EntryFailed
 Uncaught undefined
 
+== a throw of the empty text leaves a space at the end
+-- main.js
+throw "";
+>> EntryFailed
+Uncaught 
+
 == a throw of a function
 -- main.js
 function f(){} throw f;

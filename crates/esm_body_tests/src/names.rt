@@ -1,4 +1,4 @@
-// Worked bodies: names, scopes and imports.
+// Worked bodies: the order of evaluation, names, scopes and imports.
 use crate::large_blocks::MANY;
 
 /// The order of evaluation.

@@ -77,7 +77,7 @@ Limit L3
 >> Limit
 Limit L3"#;
 
-// Handlers, values and prints.
+// Handlers, values, prints and awaits.
 const VALUES: &str = r#"== try
 0
 1 try {} catch {}
@@ -137,6 +137,36 @@ a
 b
 >> Limit
 a
+Limit L3
+
+== an await
+0
+1 await undefined;
+>> Fulfilled
+>> Limit
+Limit L3
+
+== a const of an await
+0
+1 const a = await "1";
+>> Fulfilled
+>> Limit
+Limit L3
+
+== a print of an await
+0
+2 print(await "a");
+>> Fulfilled
+a
+>> Limit
+Limit L3
+
+== a statement behind an await
+0
+3 await undefined; print("a");
+>> Fulfilled
+a
+>> Limit
 Limit L3"#;
 
 // Calls, exports, and texts that are joined.
@@ -150,6 +180,13 @@ Limit L3
 == a call with a return
 0 function g(){return;}
 3 g();
+>> Fulfilled
+>> Limit
+Limit L3
+
+== a call of import()
+0
+2 import("a");
 >> Fulfilled
 >> Limit
 Limit L3

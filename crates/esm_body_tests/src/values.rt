@@ -1,4 +1,4 @@
-// Worked bodies: values, their display texts and operators, and the order of evaluation.
+// Worked bodies: values, their display texts and operators.
 
 /// What is printed.
 const PRINTED: &str = r#"== print of no argument

@@ -182,6 +182,13 @@ import "x";
 >> Fulfilled
 TypeError: https://a.test/a.js: specifier x: S4 bare and not mapped
 
+== a URL of 8,192 bytes is asked for, and one of a byte more isn't
+-- main.js
+const a = "x", b = a + a, c = b + b, d = c + c, f = d + d, g = f + f, h = g + g, i = h + h, j = i + i, k = j + j, l = k + k, m = l + l, n = m + m; const most = n + m + l + k + j + i + h + g + f + a; try { await import("./" + most); } catch (e) { print(e.message === "cannot fetch https://a.test/" + most); } try { await import("./" + most + "x"); } catch (e) { print(e.message === "https://a.test/main.js: specifier ./" + most + "x: S5 no usable URL"); }
+>> Fulfilled
+true
+true
+
 == undefined is a specifier
 -- main.js
 try { await import(undefined); } catch (e) { print(e); }
@@ -529,7 +536,7 @@ m"#;
 const TABLES: &[Table] = &[
     (LOADS, 9),
     (CIRCLES, 5),
-    (MISSING, 10),
+    (MISSING, 11),
     (FAILURES, 14),
     (SIDE_BY_SIDE, 6),
     (PROMISES, 8),

@@ -204,7 +204,7 @@ fn settings_hold<R: Threads + Wait + Sync + Send + Clone + Drop + Clock>(
     told
 }
 
-// A site with one call of `import()` more than may be made. Seven fetches are under way where the limit stops its run.
+// A site with more calls of `import()` than may be made. Up to seven fetches are under way where the limit stops its run.
 fn many_calls(alloc: Global) -> Result<String, Memory> {
     let mut site = String::from_str(
         alloc,

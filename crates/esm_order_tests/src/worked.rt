@@ -74,7 +74,49 @@ export {x} from "./b.js";
 -- b.js
 export {x} from "./a.js";
 >> EntryFailed
-Uncaught SyntaxError: https://a.test/b.js: no binding for export x"#;
+Uncaught SyntaxError: https://a.test/b.js: no binding for export x
+
+== a name that two stars export can't be exported by another name
+-- main.js
+import "./k.js";
+-- k.js
+export {x as y} from "./s.js";
+-- s.js
+export * from "./a.js"; export * from "./b.js";
+-- a.js
+export const x = "a";
+-- b.js
+export const x = "b";
+>> EntryFailed
+Uncaught SyntaxError: https://a.test/k.js: binding for export y is ambiguous
+
+== one namespace behind two stars is one binding
+-- main.js
+import {n} from "./s.js"; print(n);
+-- s.js
+export * from "./a.js"; export * from "./b.js";
+-- a.js
+export * as n from "./c.js";
+-- b.js
+export * as n from "./c.js";
+-- c.js
+export const x = "c";
+>> Fulfilled
+[module x]
+
+== a namespace and a name that is bound to it are two bindings
+-- main.js
+import {n} from "./s.js"; print(n);
+-- s.js
+export * from "./a.js"; export * from "./b.js";
+-- a.js
+import * as n from "./c.js"; export {n};
+-- b.js
+export * as n from "./c.js";
+-- c.js
+export const x = "c";
+>> EntryFailed
+Uncaught SyntaxError: https://a.test/main.js: export n in https://a.test/s.js is ambiguous"#;
 
 // Keys of namespaces.
 const KEYS: &str = r#"== keys of a namespace come through stars too
@@ -377,7 +419,7 @@ A"#;
 const TABLES: &[Table] = &[
     (SITES, 17),
     (LIVE, 3),
-    (STARS, 8),
+    (STARS, 18),
     (KEYS, 6),
     (BODIES, 11),
     (ESCAPED, 2),

@@ -92,6 +92,14 @@ import "lib/../../etc.js";
 >> EntryFailed
 Uncaught TypeError: https://a.test/main.js: specifier lib/../../etc.js: S3 leaves its prefix
 
+== no URL below an address
+run https://a.test/ main.js --map map.json
+scoped
+-- main.js
+import "lib/https://:x/";
+>> EntryFailed
+Uncaught TypeError: https://a.test/main.js: specifier lib/https://:x/: S2 no URL under its prefix
+
 == an entry that the map has too isn't looked up
 run https://a.test/ main.js --map map.json
 {"imports":{"main.js":"/x.js","./main.js":"/x.js"}}

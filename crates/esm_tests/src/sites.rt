@@ -95,7 +95,7 @@ const a = "x";
 const LINE_ENDS: &str =
     "== comments and escapes\n-- main.js\n\n/* é */;print('a\\u00e9',)\r\n;// b\nprint(\"\\x62\")\n>> Fulfilled\naé\nb";
 
-// What is no module.
+// Entries that aren't there, are no modules, or request what isn't mapped.
 const REFUSED: &str = r#"== no file
 >> EntryFailed
 Uncaught TypeError: cannot fetch https://a.test/main.js

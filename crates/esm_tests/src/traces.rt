@@ -9,6 +9,12 @@ print("hi")
 print("a"); throw new Error("x");
 -- awaits.js
 print("a"); await undefined; print("b");
+-- late.js
+print("a"); await undefined; throw new Error("x");
+-- stays.js
+print("a"); await import("./stays.js");
+-- above.js
+import "./throws.js"; print("never");
 -- two.js
 import "./hi.js"; print("two");
 -- missing.js
@@ -47,6 +53,26 @@ Uncaught Error: x
 a
 b
 # end https://a.test/awaits.js
+
+== run https://a.test/ late.js --trace
+>> EntryFailed
+# start https://a.test/late.js
+a
+# throw https://a.test/late.js
+Uncaught Error: x
+
+== run https://a.test/ stays.js --trace
+>> Unsettled
+# start https://a.test/stays.js
+a
+Unsettled
+
+== run https://a.test/ above.js --trace
+>> EntryFailed
+# start https://a.test/throws.js
+a
+# throw https://a.test/throws.js
+Uncaught Error: x
 
 == run https://a.test/ two.js --trace
 >> Fulfilled
