@@ -15,6 +15,7 @@ ghost use Rattle.esm_module_map.specs.Views.{view_in, table_of};
 ghost use Rattle.esm_fetch.specs.Serving.{weight, ServedIf};
 ghost use Rattle.esm_record.specs.Delivered.{deliveries_of};
 ghost use Rattle.esm_run.specs.Inner.Leading.{IsNew, IsShared};
+ghost use Rattle.esm_run.specs.Inner.Workers.{HasLed, HasWorked, IsCallerOf, IsGuided, IsToWork};
 ghost use Rattle.esm_run.specs.Report.{IsGraphRun};
 
 use crate::lead::{Led, lead};
@@ -143,7 +144,7 @@ fn with_workers<R: Threads + Wait + Sync, S: Source + Send>(
     alloc: Global,
     modules: &ModuleMap<Posted>,
     bell: &Bell,
-    import_map: &Arc<ImportMap, Global>,
+    guide: &Arc<ImportMap, Global>,
     entry: &Text,
     trace: bool,
     caller: Caller<Posted>,
@@ -153,13 +154,10 @@ fn with_workers<R: Threads + Wait + Sync, S: Source + Send>(
     requires usable { is_usable entry.now ≡ true }
     requires own { table_of modules.now.lock.table.shared.table_id caller.pass
         ≡ modules.now.lock.table.shared.table_id }
-    requires guide { guide_in (view_in caller.pass).seen ≡ Some (arc_value import_map.now) }
-    requires guides { All (λ w. guide_in (view_in w.pass).seen ≡ Some (arc_value import_map.now))
-        workers.items }
+    requires guide { guide_in (view_in caller.pass).seen ≡ Some (arc_value guide.now) }
+    requires guides { All (λ w. IsGuided (arc_value guide.now) w.pass) workers.items }
     requires new { IsNew caller.number (view_in caller.pass) }
-    requires workers { All (λ w. (table_of modules.now.lock.table.shared.table_id w.pass
-        ≡ modules.now.lock.table.shared.table_id) × ((view_in w.pass).shares ≡ 1)
-        × IsNew w.number (view_in w.pass)) workers.items }
+    requires workers { All (λ w. IsToWork modules.now.lock.table.shared.table_id w.number w.pass) workers.items }
     requires many { length sources.items ≡ length workers.items + 1 }
     requires fresh { All (λ s. S.asked s ≡ []) sources.items }
     ensures own { table_of modules.now.lock.table.shared.table_id result.caller.pass
@@ -169,7 +167,7 @@ fn with_workers<R: Threads + Wait + Sync, S: Source + Send>(
     ensures makers { HasAllMakers maker_of (view_in result.caller.pass) }
     ensures kept { map S.holds result.sources.items ≡ map S.holds sources.items }
     ensures room { vec_capacity result.sources ≡ vec_capacity sources }
-    ensures led { IsShared S.holds S.asked (arc_value import_map.now) entry.now trace
+    ensures led { IsShared S.holds S.asked (arc_value guide.now) entry.now trace
         (view_in result.caller.pass) result.machine (deliveries_of result.taken.items)
         result.sources.items }
 {
@@ -177,7 +175,7 @@ fn with_workers<R: Threads + Wait + Sync, S: Source + Send>(
     let mut sources = sources;
     match workers.pop() {
         None => lead(
-            rt, alloc, modules, bell, import_map, entry, trace, caller, sources,
+            rt, alloc, modules, bell, guide, entry, trace, caller, sources,
         ),
         Some(mine) => {
             let Some(source) = sources.pop() else {
@@ -186,41 +184,23 @@ fn with_workers<R: Threads + Wait + Sync, S: Source + Send>(
             let (end, led) = join(
                 rt,
                 || -> WorkerEnd<S>
-                    requires { IsSync R.row
-                        × (table_of modules.now.lock.table.shared.table_id mine.pass
-                        ≡ modules.now.lock.table.shared.table_id)
-                        × (guide_in (view_in mine.pass).seen ≡ Some (arc_value import_map.now))
-                        × IsNew mine.number (view_in mine.pass) × (S.asked source ≡ []) }
-                    ensures { (table_of modules.entry.now.lock.table.shared.table_id
-                        result.caller.pass ≡ modules.entry.now.lock.table.shared.table_id)
-                        × ((view_in result.caller.pass).shares ≡ (view_in mine.pass).shares)
-                        × ((view_in result.caller.pass).numbers ≡ result.caller.number ∷ [])
-                        × ServedIf result.short (S.holds result.source) (S.asked result.source) result.caller.number (view_in result.caller.pass).seen
-                        × (asks_by weight result.caller.number (view_in result.caller.pass).seen ≡ [])
-                        × (S.holds result.source ≡ S.holds source) }
-                { begin_worker(rt, alloc, modules, bell, import_map, mine, source) },
+                    requires { IsSync R.row × (S.asked source ≡ [])
+                        × IsCallerOf modules.now.lock.table.shared.table_id (arc_value guide.now) mine.number mine.pass }
+                    ensures { HasWorked modules.entry.now.lock.table.shared.table_id
+                        S.holds S.asked (view_in mine.pass).shares (S.holds source) result }
+                { begin_worker(rt, alloc, modules, bell, guide, mine, source) },
                 || -> Led<S>
                     requires { IsSync R.row × (is_usable entry.now ≡ true)
-                        × (table_of modules.now.lock.table.shared.table_id caller.pass
-                        ≡ modules.now.lock.table.shared.table_id)
-                        × (guide_in (view_in caller.pass).seen ≡ Some (arc_value import_map.now))
-                        × All (λ w. guide_in (view_in w.pass).seen ≡ Some (arc_value import_map.now)) workers.items
-                        × IsNew caller.number (view_in caller.pass)
-                        × All (λ w. (table_of modules.now.lock.table.shared.table_id w.pass
-                        ≡ modules.now.lock.table.shared.table_id) × ((view_in w.pass).shares ≡ 1)
-                        × IsNew w.number (view_in w.pass)) workers.items
-                        × (length sources.items ≡ length workers.items + 1)
-                        × All (λ s. S.asked s ≡ []) sources.items }
-                    ensures { (table_of modules.entry.now.lock.table.shared.table_id
-                        result.caller.pass ≡ modules.entry.now.lock.table.shared.table_id)
-                        × ((view_in result.caller.pass).shares ≡ (view_in caller.pass).shares + length workers.items)
-                        × (map S.holds result.sources.items ≡ map S.holds sources.items)
-                        × (vec_capacity result.sources ≡ vec_capacity sources)
-                        × IsShared S.holds S.asked (arc_value import_map.entry.now) entry.entry.now trace (view_in result.caller.pass) result.machine (deliveries_of result.taken.items) result.sources.items }
+                        × IsCallerOf modules.now.lock.table.shared.table_id (arc_value guide.now) caller.number caller.pass
+                        × All (λ w. IsGuided (arc_value guide.now) w.pass) workers.items
+                        × All (λ w. IsToWork modules.now.lock.table.shared.table_id w.number w.pass) workers.items
+                        × (length sources.items ≡ length workers.items + 1) × All (λ s. S.asked s ≡ []) sources.items }
+                    ensures { HasLed modules.entry.now.lock.table.shared.table_id S.holds
+                        ((view_in caller.pass).shares + length workers.items) (map S.holds sources.items) (vec_capacity sources) result
+                        × IsShared S.holds S.asked (arc_value guide.entry.now) entry.entry.now trace (view_in result.caller.pass) result.machine (deliveries_of result.taken.items) result.sources.items }
                 {
                     with_workers(
-                        rt, alloc, modules, bell, import_map, entry, trace, caller, workers,
-                        sources,
+                        rt, alloc, modules, bell, guide, entry, trace, caller, workers, sources,
                     )
                 },
             );
