@@ -1,4 +1,4 @@
--- Where the files are clean, the status is one function of them, and so is what is written unless a limit of loading stopped the run. own
+-- One function of clean files: the status, and, unless a limit of loading stopped the run, the text behind what comes before it. own
 use Rattle.std.specs.Prelude.{◌≡◌, ℕ, Bool, true, List, ◌++◌, take, Option, Some, All}
 use Rattle.esm_base.specs.declared.status.Status.{Status}
 use Rattle.esm_base.specs.Urls.{Url}

@@ -24,8 +24,8 @@ pub record IsTrueRecord {S : Type 0} (asked_of : S → List Asked) (holds_of : S
   pub delivered : All (WasDelivered asked_of holds_of sources) taken
   pub once : AllPairs (λ a b. a.url ≢ b.url) taken
 
--- no URL was asked for twice; behind those of the workers the sources come back as they were given, and each, in order, tells that it holds
--- what it held
+-- no URL was asked for twice; the sources behind the workers' come back as they were given; and each source that comes back tells what it
+-- holds, or tells nothing, just as the one given in its place
 pub record IsAskedOnce {S : Type 0} (asked_of : S → List Asked) (holds_of : S → Option Contents) (workers : ℕ)
     (given back : List S) : Type 0 where
   pub once : AllPairs (λ a b. a.url ≢ b.url) (flat_map asked_of back)

@@ -141,7 +141,7 @@ module _ {G : Type 0} where
 
   -- ---- the sources and their callers
 
-  -- a caller that has enrolled and done nothing else
+  -- a caller that has this number alone, and has asked for, taken and posted nothing
   pub record IsNew (c : ℕ) (v : View (MapEvent Posted G)) : Type 0 where
     pub own : v.numbers ≡ c ∷ []
     pub unasked : asks_by weight c v.seen ≡ []

@@ -1,4 +1,4 @@
--- Workers of a run: callers that begin, and a worker that has ended.
+-- The threads of a run: how a caller begins, and how a worker, or the calling thread's part, has ended.
 use Rattle.std.specs.Prelude.{◌≡◌, ℕ, List, [], ◌∷◌, map, Option, Some}
 use Rattle.std.specs.Vec.{vec_capacity}
 use Rattle.atomic_table.specs.Seated.{TableId}
@@ -17,19 +17,20 @@ use Rattle.esm_run.specs.declared.lead.Led.{Led}
 use Rattle.esm_run.specs.Inner.Leading.{IsNew}
 
 module _ {T : Type 0} where
-  -- the history that the caller with this pass has seen begins with this import map
+  -- own: the guide of the history that the caller with this pass has seen is this import map
   abbrev pub IsGuided : Maps → Option (PassOf T (MapEvent Posted Maps)) → Type 0
   IsGuided maps pass = guide_in (view_in pass).seen ≡ Some maps
 
-  -- own: a caller of this module map with this number, under this import map, that has enrolled and done nothing else
+  -- own: a caller of this module map, with this number and this import map, that has asked for, taken and posted nothing
   abbrev pub IsCallerOf : TableId → Maps → ℕ → Option (PassOf T (MapEvent Posted Maps)) → Type 0
   IsCallerOf table maps number pass = (table_of table pass ≡ table) × IsGuided maps pass × IsNew number (view_in pass)
 
-  -- own: a caller of this module map with this number, that has one share of it, has enrolled and done nothing else
+  -- own: a caller of this module map, with this number and one share, that has asked for, taken and posted nothing
   abbrev pub IsToWork : TableId → ℕ → Option (PassOf T (MapEvent Posted Maps)) → Type 0
   IsToWork table number pass = (table_of table pass ≡ table) × ((view_in pass).shares ≡ 1) × IsNew number (view_in pass)
 
--- own: the worker of a caller with this many shares, whose source holds this, has ended
+-- own: a worker has ended. Its caller is of this module map, has this many shares and its own number alone, and asked for nothing; its
+-- source was asked for what the caller took, and tells this of what it holds
 abbrev pub HasWorked : {S : Type 0} → TableId → (S → Option Contents) → (S → List Asked) → ℕ → Option Contents → WorkerEnd S → Type 0
 HasWorked table holds_of asked_of shares holds end =
     (table_of table end.caller.pass ≡ table) × ((view_in end.caller.pass).shares ≡ shares)
@@ -37,7 +38,8 @@ HasWorked table holds_of asked_of shares holds end =
     × ServedIf end.short (holds_of end.source) (asked_of end.source) end.caller.number (view_in end.caller.pass).seen
     × (asks_by weight end.caller.number (view_in end.caller.pass).seen ≡ []) × (holds_of end.source ≡ holds)
 
--- own: the calling thread's part has ended, with a caller that has this many shares, and all sources, which hold this
+-- own: the calling thread's part has ended. Its caller is of this module map and has this many shares; the sources, in order, tell this of
+-- what they hold, and have this capacity
 abbrev pub HasLed : {S : Type 0} → TableId → (S → Option Contents) → ℕ → List (Option Contents) → ℕ → Led S → Type 0
 HasLed table holds_of shares holds capacity led =
     (table_of table led.caller.pass ≡ table) × ((view_in led.caller.pass).shares ≡ shares)
